@@ -1,0 +1,5 @@
+pub mod Cases
+pub mod Picks
+pub mod Fewest
+pub mod Over
+pub mod Stands

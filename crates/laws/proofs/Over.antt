@@ -1,0 +1,94 @@
+-- What was written over a list, and then more after it: the one composition law of all writers is `then`.
+-- Assumes nothing.
+use Prim.Native.Nat.{ℕ, suc, _+_, _≤_, _<_}
+use mathlib.Core.Path.{_≡_, refl, sym, ap, _∙_}
+use mathlib.Core.List.{List, [], _∷_, _++_}
+use mathlib.Core.Bool.{true, false}
+use native.Mathlib.Nat.{add-suc, suc-add, add-zero}
+use native.Mathlib.Omega.{arith}
+use lib.ListN.{length, take, drop, getD, set, length-append}
+use lib.Seq.{sets, sets-eq, length-sets, set-comm, take-suc, length-take-le}
+use borrow.Author.Tests.{le-leb}
+use Rattle.laws.specs.Pick.{pick}
+use Rattle.laws.specs.Over.{over, room, Wrote, Puts}
+
+-- one list and then another, at the next place
+pub over-over :
+    (xs : List ℕ) (at : ℕ) (ws vs : List ℕ) →
+    over (over xs at ws) (at + length ws) vs ≡ over xs at (ws ++ vs)
+unfolding over
+over-over xs at [] vs = rw add-zero
+over-over xs at (w ∷ ws) vs = rw (add-suc, ← suc-add) (over-over (set xs at w) (suc at) ws vs)
+
+pub over-nil : (xs : List ℕ) (at : ℕ) → over xs at [] ≡ xs
+unfolding over
+over-nil xs at = refl
+
+pub over-one : (xs : List ℕ) (at w : ℕ) → over xs at (w ∷ []) ≡ set xs at w
+unfolding over
+over-one xs at w = refl
+
+pub length-over : (xs : List ℕ) (at : ℕ) (ws : List ℕ) → length (over xs at ws) ≡ length xs
+unfolding over
+length-over = length-sets
+
+-- what stands before and after is as it was
+pub over-eq :
+    (xs : List ℕ) (at : ℕ) (ws : List ℕ) → at + length ws ≤ length xs →
+    over xs at ws ≡ take at xs ++ ws ++ drop (at + length ws) xs
+unfolding over
+over-eq xs at ws h = sets-eq ws xs at h
+
+-- an octet behind the octets may be written first
+pub over-set :
+    (xs : List ℕ) (at : ℕ) (ws : List ℕ) (j w : ℕ) → at + length ws ≤ j →
+    set (over xs at ws) j w ≡ over (set xs j w) at ws
+unfolding over
+over-set xs at [] j w h = refl
+over-set xs at (v ∷ ws) j w h =
+    over-set (set xs at v) (suc at) ws j w (omega arith)
+    ∙ ap (λ (l : List ℕ). over l (suc at) ws) (set-comm xs at j v w (λ e. omega arith))
+
+-- two writers, one after the other
+pub then :
+    {xs : List ℕ} {at : ℕ} {ws : List ℕ} {p : ℕ} {ys : List ℕ} {vs : List ℕ} {q : ℕ} {zs : List ℕ} →
+    Wrote xs at ws p ys →
+    Wrote ys p vs q zs →
+    Wrote xs at (ws ++ vs) q zs
+then {xs} {at} {ws} {p} {ys} {vs} {q} {zs} a b = record {
+  moved = rw length-append (omega (arith, a .moved, b .moved));
+  holds = b .holds ∙ rw (a .holds, a .moved) (over-over xs at ws vs);
+}
+
+-- one more octet of a copy
+pub over-more :
+    (xs : List ℕ) (at : ℕ) (src : List ℕ) (i : ℕ) → i < length src →
+    set (over xs at (take i src)) (at + i) (getD src i 0) ≡ over xs at (take (suc i) src)
+over-more xs at src i h =
+    let long : length (take i src) ≡ i = length-take-le i src (omega arith) in
+    sym (over-one (over xs at (take i src)) (at + i) (getD src i 0))
+    ∙ ap (λ (k : ℕ). over (over xs at (take i src)) (at + k) (getD src i 0 ∷ [])) (sym long)
+    ∙ over-over xs at (take i src) (getD src i 0 ∷ [])
+    ∙ rw (take-suc src i 0 h)
+
+-- where there is room, what is offered to all is what was asked for
+pub wrote :
+    {xs : List ℕ} {at : ℕ} {ws : List ℕ} {next : ℕ} {ys : List ℕ} → at + length ws ≤ length xs →
+    Puts xs at ws next ys →
+    Wrote xs at ws next ys
+unfolding room
+wrote {xs} {at} {ws} h p =
+    let fits : room xs at ws ≡ true = le-leb (at + length ws) (length xs) h in
+    record { moved = rw fits at (p .moved); holds = rw fits at (p .holds) }
+
+-- the two ways out of a writer that is offered to all
+pub puts-all :
+    {xs : List ℕ} {at : ℕ} {ws : List ℕ} {next : ℕ} {ys : List ℕ} → room xs at ws ≡ true →
+    Wrote xs at ws next ys →
+    Puts xs at ws next ys
+puts-all all w = record { moved = rw all (w .moved); holds = rw all (w .holds) }
+
+pub puts-none :
+    {xs : List ℕ} {at : ℕ} {ws : List ℕ} → room xs at ws ≡ false →
+    Puts xs at ws at xs
+puts-none none = record { moved = rw none refl; holds = rw none refl }

@@ -1,0 +1,39 @@
+-- Laws of `Stands`: what was written stands there, and parts of what stands stand. Assumes nothing.
+use Prim.Native.Nat.{ℕ, suc, _+_, _≤_, _<_}
+use mathlib.Core.Path.{_≡_, refl, sym, ap, _∙_}
+use mathlib.Core.List.{List, [], _∷_, _++_, append-assoc}
+use native.Mathlib.Nat.{add-zero, add-assoc}
+use native.Mathlib.Omega.{arith}
+use lib.ListN.{length, take, drop, getD, length-append, List·getD-append}
+use lib.Seq.{getD-append-add, length-take-le}
+use Rattle.laws.specs.Over.{over}
+use Rattle.laws.specs.Stands.{Stands}
+use Rattle.laws.proofs.Over.{over-eq}
+
+pub stands-here : (pre ws post : List ℕ) → Stands (pre ++ ws ++ post) (length pre) ws
+unfolding Stands
+stands-here pre ws post i h =
+    ap (λ (l : List ℕ). getD l (length pre + i) 0) (append-assoc pre ws post)
+    ∙ getD-append-add pre (ws ++ post) i 0
+    ∙ List·getD-append ws post 0 i h
+
+-- what was written over a list stands in it
+pub stands-over :
+    (xs : List ℕ) (at : ℕ) (ws : List ℕ) → at + length ws ≤ length xs → Stands (over xs at ws) at ws
+stands-over xs at ws h =
+    let e : length (take at xs) ≡ at = length-take-le at xs (omega arith) in
+    rw (over-eq xs at ws h) (rw e at (stands-here (take at xs) ws (drop (at + length ws) xs)))
+
+pub stands-left : (s : List ℕ) (at : ℕ) (ws vs : List ℕ) → Stands s at (ws ++ vs) → Stands s at ws
+unfolding Stands
+stands-left s at ws vs st i h = st i (rw length-append (omega arith)) ∙ List·getD-append ws vs 0 i h
+
+pub stands-right :
+    (s : List ℕ) (at : ℕ) (ws vs : List ℕ) → Stands s at (ws ++ vs) → Stands s (at + length ws) vs
+unfolding Stands
+stands-right s at ws vs st i h =
+    rw add-assoc (st (length ws + i) (rw length-append (omega arith)) ∙ getD-append-add ws vs i 0)
+
+pub stands-first : (s : List ℕ) (at w : ℕ) (ws : List ℕ) → Stands s at (w ∷ ws) → getD s at 0 ≡ w
+unfolding Stands
+stands-first s at w ws st = rw add-zero at (st 0 (omega arith))

@@ -1,0 +1,4 @@
+pub mod Pick
+pub mod Fewest
+pub mod Over
+pub mod Stands

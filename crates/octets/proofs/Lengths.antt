@@ -1,0 +1,69 @@
+-- Laws of lengths, once over the number k of octets after the first: how long, the shortest of them, and that each reads
+-- back. Assumes nothing.
+use Prim.Native.Nat.{ℕ, zero, suc, _+_, _-_, _^_, _≤_, _<_}
+use mathlib.Core.Path.{_≡_, refl, sym, ap, _∙_}
+use mathlib.Core.Bool.{Bool, true, false}
+use mathlib.Core.List.{List, [], _∷_}
+use native.Mathlib.Omega.{arith}
+use lib.ListN.{length, getD}
+use lib.Dec.{ltb, leb, eqb}
+use borrow.Author.Tests.{lt-ltb, le-ltb, le-leb, lt-leb, ne-eqb, ltb-true}
+use Rattle.laws.specs.Stands.{Stands}
+use Rattle.laws.proofs.Fewest.{fewest-will, fewest-most, fewest-least}
+use Rattle.laws.proofs.Stands.{stands-first, stands-right}
+use Rattle.octets.specs.Word.{wordAt, wordOctets}
+use Rattle.octets.specs.Head.{lengthMost, spanOf, lengthBy, lengthAt}
+use Rattle.octets.specs.Element.{lengthHolds, lengthWith, lengthFewest}
+use Rattle.octets.specs.declared.head.Span.the-variants.{Is, Wrong}
+use Rattle.octets.proofs.Words.{length-word, word-back}
+
+-- the bound: k octets after the first say every length below 256 ^ k (below 128 with none)
+pub length-length : (k n : ℕ) → length (lengthWith k n) ≡ suc k
+unfolding lengthWith
+length-length zero n = refl
+length-length (suc k) n = ap suc (length-word (suc k) n)
+
+-- the shortest: it can say the length, none below it can, and it never has more than two octets after its first
+pub shortest-holds : (n : ℕ) → n < 65536 → lengthHolds n (lengthFewest n) ≡ true
+unfolding lengthFewest lengthHolds
+shortest-holds n h = fewest-will (lengthHolds n) lengthMost (lt-ltb n 65536 h)
+
+pub shortest-least : (n k : ℕ) → lengthHolds n k ≡ true → lengthFewest n ≤ k
+unfolding lengthFewest
+shortest-least n k h = fewest-least (lengthHolds n) lengthMost k h
+
+pub shortest-most : (n : ℕ) → lengthFewest n ≤ lengthMost
+unfolding lengthFewest
+shortest-most n = fewest-most (lengthHolds n) lengthMost
+
+span-fits : (start n end : ℕ) → start + n ≤ end → spanOf start n end ≡ Is start (start + n)
+unfolding spanOf
+span-fits start n end h = rw (le-leb n (end - start) (omega arith))
+
+-- a length with any k octets after its first that hold it, shortest or not, is read as that length
+pub length-back :
+    (k n : ℕ) (s : List ℕ) (at end : ℕ) → k ≤ lengthMost → lengthHolds n k ≡ true →
+    Stands s at (lengthWith k n) → at + suc k + n ≤ end →
+    lengthAt s at end ≡ Is (at + suc k) (at + suc k + n)
+unfolding lengthAt lengthBy lengthHolds lengthWith
+length-back zero n s at end most holds st fit =
+    rw (lt-leb end at (omega arith), stands-first s at n [] st, holds) (span-fits (at + 1) n end fit)
+length-back (suc k) n s at end most holds st fit =
+    let ws : List ℕ = wordOctets (suc k) n in
+    let first : getD s at 0 ≡ 128 + suc k = stands-first s at (128 + suc k) ws st in
+    let count : 128 + suc k - 128 ≡ suc k = omega arith in
+    let value : wordAt (suc k) s (at + 1) ≡ n =
+    word-back (suc k) n s (at + 1) (ltb-true n (256 ^ suc k) holds) (stands-right s at ((128 + suc k) ∷ []) ws st) in
+    let start : at + 1 + suc k ≡ at + suc (suc k) = omega arith in
+    rw (
+      lt-leb end at (omega arith),
+      first,
+      le-ltb (128 + suc k) 128 (omega arith),
+      count,
+      ne-eqb (suc k) 0 (λ e. omega arith),
+      le-ltb lengthMost (suc k) most,
+      lt-leb (end - at) (suc k) (omega arith),
+      value,
+      start,
+    )
+    (span-fits (at + suc (suc k)) n end fit)

@@ -1,0 +1,4 @@
+pub mod Words
+pub mod Within
+pub mod Lengths
+pub mod Elements

@@ -1,0 +1,84 @@
+-- An element that is found lies within the octets before `end`, takes at least two of them, and what follows it begins no
+-- earlier than its contents end. Callers go by these laws, never by the text of `headAt`. Assumes nothing.
+use Prim.Native.Nat.{ℕ, _+_, _-_, _%_, _<_, _≤_}
+use mathlib.Core.Path.{_≡_}
+use mathlib.Core.List.{List}
+use native.Mathlib.Omega.{arith}
+use lib.ListN.{length, getD}
+use lib.Dec.{ltb, leb, eqb}
+use borrow.Author.Tests.{leb-true, leb-false, ltb-false, eqb-false}
+use Rattle.laws.proofs.Picks.{pick-ind}
+use Rattle.octets.specs.Word.{wordAt}
+use Rattle.octets.specs.Head.{lengthMost, spanOf, lengthBy, lengthAt, tagged, headAt}
+use Rattle.octets.specs.declared.head.Span.{Span}
+use Rattle.octets.specs.declared.head.Span.the-variants as span
+use Rattle.octets.specs.declared.head.Head.{Head}
+use Rattle.octets.specs.declared.head.Head.the-variants as head
+
+abbrev SpanIn : ℕ → ℕ → Span → Type 0
+SpanIn at end (span.Is start stop) = (at < start) × (start ≤ stop) × (stop ≤ end)
+SpanIn at end span.Wrong = Unit {0}
+
+-- what is known of an element that was found at `at` before `end`, in as many octets as `size`
+pub record Lies (depth size at end start stop next : ℕ) : Type 0 where
+  pub deep : depth ≡ 0 → ⊥
+  pub inside : end ≤ size
+  pub starts : at + 1 < start
+  pub stops : start ≤ stop
+  pub nexts : stop ≤ next
+  pub ends : next ≤ end
+
+abbrev pub Within : ℕ → ℕ → ℕ → ℕ → Head → Type 0
+Within depth size at end (head.Is tag start stop next) = Lies depth size at end start stop next
+Within depth size at end head.Bad = Unit {0}
+
+span-of-in :
+    (at start n end : ℕ) → at < start → start ≤ end → SpanIn at end (spanOf start n end)
+unfolding spanOf
+span-of-in at start n end h k =
+    pick-ind (SpanIn at end) (leb n (end - start))
+    (λ e. omega (arith, leb-true n (end - start) e)) (λ _. tt)
+
+length-by-in : (k : ℕ) (s : List ℕ) (at end : ℕ) → SpanIn at end (lengthBy k s at end)
+unfolding lengthBy
+length-by-in k s at end =
+    let P : Span → Type 0 = SpanIn at end in
+    pick-ind P (eqb k 0) (λ _. tt) (λ _.
+    pick-ind P (ltb lengthMost k) (λ _. tt) (λ _.
+    pick-ind P (leb (end - at) k) (λ _. tt) (λ e.
+    span-of-in at (at + 1 + k) (wordAt k s (at + 1)) end (omega arith) (omega (arith, leb-false (end - at) k e)))))
+
+length-in : (s : List ℕ) (at end : ℕ) → SpanIn at end (lengthAt s at end)
+unfolding lengthAt
+length-in s at end =
+    let P : Span → Type 0 = SpanIn at end in
+    pick-ind P (leb end at) (λ _. tt) (λ e.
+    let lt : at < end = leb-false end at e in
+    pick-ind P (ltb (getD s at 0) 128)
+    (λ _. span-of-in at (at + 1) (getD s at 0) end (omega arith) (omega arith))
+    (λ _. length-by-in (getD s at 0 - 128) s at end))
+
+tagged-in :
+    (depth size tag at end : ℕ) (x : Span) → (depth ≡ 0 → ⊥) → end ≤ size → SpanIn (at + 1) end x →
+    Within depth size at end (tagged tag x)
+tagged-in depth size tag at end (span.Is start stop) d h k = record {
+  deep = d;
+  inside = h;
+  starts = k .0;
+  stops = k .1;
+  nexts = omega arith;
+  ends = k .2;
+}
+tagged-in depth size tag at end span.Wrong d h k = tt
+
+pub within :
+    (depth : ℕ) (s : List ℕ) (at end : ℕ) → Within depth (length s) at end (headAt depth s at end)
+unfolding headAt
+within depth s at end =
+    let P : Head → Type 0 = Within depth (length s) at end in
+    pick-ind P (eqb depth 0) (λ _. tt) (λ d.
+    pick-ind P (ltb (length s) end) (λ _. tt) (λ e.
+    pick-ind P (leb end at) (λ _. tt) (λ _.
+    pick-ind P (eqb (getD s at 0 % 32) 31) (λ _. tt) (λ _.
+    tagged-in depth (length s) (getD s at 0) at end (lengthAt s (at + 1) end)
+    (eqb-false depth 0 d) (ltb-false (length s) end e) (length-in s (at + 1) end)))))

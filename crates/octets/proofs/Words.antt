@@ -1,0 +1,49 @@
+-- Laws of words, once over the number k of octets: their length, their bound, and that what is written reads back.
+-- Assumes nothing.
+use Prim.Native.Nat.{ℕ, zero, suc, _+_, _-_, _*_, _/_, _%_, _^_, _≤_, _<_}
+use mathlib.Core.Path.{_≡_, refl, sym, ap, _∙_}
+use mathlib.Core.List.{List, [], _∷_, _++_}
+use native.Mathlib.Nat.{pow-le-pow-right}
+use native.Mathlib.Numerals.{add-one}
+use native.Mathlib.Omega.{arith}
+use lib.ListN.{length, getD, set, length-append}
+use Rattle.laws.specs.Over.{over}
+use Rattle.laws.specs.Stands.{Stands}
+use Rattle.laws.proofs.Over.{over-over, over-one, over-set}
+use Rattle.laws.proofs.Stands.{stands-left, stands-right, stands-first}
+use Rattle.octets.specs.Word.{wordAt, wordOctets, WordAt}
+
+pub length-word : (k n : ℕ) → length (wordOctets k n) ≡ k
+unfolding wordOctets
+length-word zero n = refl
+length-word (suc k) n = rw length-append (omega (arith, length-word k (n / 256)))
+
+-- k octets that stand somewhere are read as the number they were written for, if k octets hold it
+pub word-back :
+    (k n : ℕ) (s : List ℕ) (at : ℕ) → n < 256 ^ k → Stands s at (wordOctets k n) → wordAt k s at ≡ n
+unfolding wordAt wordOctets
+word-back zero n s at h st = omega arith
+word-back (suc k) n s at h st =
+    let front : List ℕ = wordOctets k (n / 256) in
+    let last : getD s (at + k) 0 ≡ n % 256 =
+    rw (length-word k (n / 256)) at (stands-first s (at + length front) (n % 256) [] (stands-right s at front (n % 256 ∷ []) st)) in
+    let first : wordAt k s at ≡ n / 256 = word-back k (n / 256) s at (omega arith) (stands-left s at front (n % 256 ∷ []) st) in
+    omega arith
+
+-- a machine word holds the number of up to seven octets
+pub word-fits : (k : ℕ) → k ≤ 7 → 256 ^ k ≤ 2 ^ 56
+word-fits k h = pow-le-pow-right (omega arith) h
+
+-- ---- turns of the loops
+
+-- nothing read yet
+pub word-none : (s : List ℕ) (at : ℕ) → WordAt 0 s at 0
+unfolding wordAt
+word-none s at = record { is = refl; small = omega arith }
+
+-- one octet more
+pub word-more :
+    (k : ℕ) (s : List ℕ) (at n : ℕ) → WordAt k s at n → getD s (at + k) 0 < 256 →
+    WordAt (k + 1) s at (n * 256 + getD s (at + k) 0)
+unfolding wordAt
+word-more k s at n w h = rw add-one (record { is = omega (arith, w .is); small = omega (arith, w .small) })

@@ -1,0 +1,84 @@
+use Rattle.octets.specs.Head.{lengthAt, lengthBy}
+use Rattle.laws.proofs.Cases.{cases}
+use borrow.Author.Needs.{needs}
+use Rattle.octets.proofs.head.length_at.Statement.{statement}
+use Rattle.octets.proofs.head.length_at.Tie as tie
+
+returns : tie.Need-returns
+unfolding lengthAt lengthBy
+returns c = search cases
+
+shared-slice-read-first : tie.Need-shared-slice-read-first
+shared-slice-read-first c = search needs
+
+add-span-of : tie.Need-add-span-of
+add-span-of c = search needs
+
+cast-span-of : tie.Need-cast-span-of
+cast-span-of c = search needs
+
+span-of-requires : tie.Need-span-of-requires
+span-of-requires c κs = search needs
+
+returns-2 : tie.Need-returns-2
+unfolding lengthAt lengthBy
+returns-2 c = search cases
+
+returns-3 : tie.Need-returns-3
+unfolding lengthAt lengthBy
+returns-3 c = search cases
+
+returns-4 : tie.Need-returns-4
+unfolding lengthAt lengthBy
+returns-4 c = search cases
+
+cast-k : tie.Need-cast-k
+cast-k c = search needs
+
+sub-if5 : tie.Need-sub-if5
+sub-if5 c = search needs
+
+returns-5 : tie.Need-returns-5
+unfolding lengthAt lengthBy
+returns-5 c = search cases
+
+add-word-at : tie.Need-add-word-at
+add-word-at c = search needs
+
+word-at-requires : tie.Need-word-at-requires
+word-at-requires c κs = search needs
+
+add-span-of-2 : tie.Need-add-span-of-2
+add-span-of-2 c = search needs
+
+add-span-of-3 : tie.Need-add-span-of-3
+add-span-of-3 c = search needs
+
+span-of-requires-2 : tie.Need-span-of-requires-2
+span-of-requires-2 c κs = search needs
+
+returns-6 : tie.Need-returns-6
+unfolding lengthAt lengthBy
+returns-6 c = search (cases, ← c .before .word-at .ensures .is)
+
+pub length-at-spec : {M : Type 1} → statement M
+length-at-spec =
+    tie.close
+    (tie.spec
+    returns
+    shared-slice-read-first
+    add-span-of
+    cast-span-of
+    span-of-requires
+    returns-2
+    returns-3
+    returns-4
+    cast-k
+    sub-if5
+    returns-5
+    add-word-at
+    word-at-requires
+    add-span-of-2
+    add-span-of-3
+    span-of-requires-2
+    returns-6)

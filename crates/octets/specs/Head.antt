@@ -1,0 +1,51 @@
+-- An element: a tag octet, length octets, contents, all of it within its container (document 01, "Reading a component").
+use Prim.Native.Nat.{ℕ, _+_, _-_, _%_}
+use mathlib.Core.Path.{_≡_}
+use mathlib.Core.List.{List}
+use lib.ListN.{length, getD}
+use lib.Dec.{ltb, leb, eqb}
+use Rattle.laws.specs.Pick.{pick}
+use Rattle.octets.specs.Word.{wordAt}
+use Rattle.octets.specs.declared.head.Span.{Span}
+use Rattle.octets.specs.declared.head.Span.the-variants as span
+use Rattle.octets.specs.declared.head.Head.{Head}
+use Rattle.octets.specs.declared.head.Head.the-variants as head
+
+-- how many octets may follow a length's first: 81 is one, 82 is two
+abbrev pub lengthMost : ℕ
+lengthMost = 2
+
+-- n octets from `start` on, if they end by `end`
+unfoldable pub spanOf : ℕ → ℕ → ℕ → Span
+spanOf start n end = pick (leb n (end - start)) (span.Is start (start + n)) span.Wrong
+
+-- k octets after a length's first
+unfoldable pub lengthBy : ℕ → List ℕ → ℕ → ℕ → Span
+lengthBy k s at end =
+    pick (eqb k 0) span.Wrong
+    (pick (ltb lengthMost k) span.Wrong
+    (pick (leb (end - at) k) span.Wrong (spanOf (at + 1 + k) (wordAt k s (at + 1)) end)))
+
+-- "below 128 in one octet, or 81 or 82 and one or two octets, also for small values. 80 and 83 upward are badly built."
+unfoldable pub lengthAt : List ℕ → ℕ → ℕ → Span
+lengthAt s at end =
+    pick (leb end at) span.Wrong
+    (pick (ltb (getD s at 0) 128) (spanOf (at + 1) (getD s at 0) end) (lengthBy (getD s at 0 - 128) s at end))
+
+-- what follows an element begins where its contents end
+abbrev pub tagged : ℕ → Span → Head
+tagged tag (span.Is start stop) = head.Is tag start stop stop
+tagged tag span.Wrong = head.Bad
+
+-- The element at `at`, of the octets of s before `end`. "Identifier tags with low five bits all ones are refused."
+-- `depth` is how many elements deep it may go, itself counted.
+unfoldable pub headAt : ℕ → List ℕ → ℕ → ℕ → Head
+headAt depth s at end =
+    pick (eqb depth 0) head.Bad
+    (pick (ltb (length s) end) head.Bad
+    (pick (leb end at) head.Bad
+    (pick (eqb (getD s at 0 % 32) 31) head.Bad (tagged (getD s at 0) (lengthAt s (at + 1) end)))))
+
+-- what `head_at` promises
+abbrev pub HeadAt : ℕ → List ℕ → ℕ → ℕ → Head → Type 0
+HeadAt depth s at end r = r ≡ headAt depth s at end

@@ -1,0 +1,20 @@
+-- Numbers of k octets, the highest first. Laws about them are stated once, over k.
+use Prim.Native.Nat.{ℕ, zero, suc, _+_, _*_, _/_, _%_, _^_, _<_}
+use mathlib.Core.Path.{_≡_}
+use mathlib.Core.List.{List, [], _∷_, _++_}
+use lib.ListN.{getD}
+
+-- the number that k octets from `at` on stand for
+unfoldable pub wordAt : ℕ → List ℕ → ℕ → ℕ
+wordAt zero s at = 0
+wordAt (suc k) s at = wordAt k s at * 256 + getD s (at + k) 0
+
+-- n in k octets
+unfoldable pub wordOctets : ℕ → ℕ → List ℕ
+wordOctets zero n = []
+wordOctets (suc k) n = wordOctets k (n / 256) ++ (n % 256 ∷ [])
+
+-- what is promised of a word that is read: its value, and the bound of k octets
+pub record WordAt (k : ℕ) (s : List ℕ) (at r : ℕ) : Type 0 where
+  pub is : r ≡ wordAt k s at
+  pub small : r < 256 ^ k
