@@ -8,9 +8,10 @@ use native.Mathlib.Nat.{add-suc, suc-add, add-zero}
 use native.Mathlib.Omega.{arith}
 use lib.ListN.{length, take, drop, getD, set, length-append}
 use lib.Seq.{sets, sets-eq, length-sets, set-comm, take-suc, length-take-le}
-use borrow.Author.Tests.{le-leb}
+use borrow.Author.Tests.{le-leb, lt-leb}
 use Rattle.laws.specs.Pick.{pick}
 use Rattle.laws.specs.Over.{over, room, Wrote, Puts}
+use Rattle.laws.proofs.Picks.{both}
 
 -- one list and then another, at the next place
 pub over-over :
@@ -73,7 +74,8 @@ over-more xs at src i h =
 
 -- where there is room, what is offered to all is what was asked for
 pub wrote :
-    {xs : List ℕ} {at : ℕ} {ws : List ℕ} {next : ℕ} {ys : List ℕ} → at + length ws ≤ length xs →
+    {xs : List ℕ} {at : ℕ} {ws : List ℕ} {next : ℕ} {ys : List ℕ} →
+    at + length ws ≤ length xs →
     Puts xs at ws next ys →
     Wrote xs at ws next ys
 unfolding room
@@ -83,12 +85,26 @@ wrote {xs} {at} {ws} h p =
 
 -- the two ways out of a writer that is offered to all
 pub puts-all :
-    {xs : List ℕ} {at : ℕ} {ws : List ℕ} {next : ℕ} {ys : List ℕ} → room xs at ws ≡ true →
+    {xs : List ℕ} {at : ℕ} {ws : List ℕ} {next : ℕ} {ys : List ℕ} →
+    at + length ws ≤ length xs →
     Wrote xs at ws next ys →
     Puts xs at ws next ys
-puts-all all w = record { moved = rw all (w .moved); holds = rw all (w .holds) }
+unfolding room
+puts-all {xs} {at} {ws} h w =
+    let fits : room xs at ws ≡ true = le-leb (at + length ws) (length xs) h in
+    record { moved = rw fits (w .moved); holds = rw fits (w .holds) }
 
 pub puts-none :
-    {xs : List ℕ} {at : ℕ} {ws : List ℕ} → room xs at ws ≡ false →
-    Puts xs at ws at xs
-puts-none none = record { moved = rw none refl; holds = rw none refl }
+    {xs : List ℕ} {at : ℕ} {ws : List ℕ} → length xs < at + length ws → Puts xs at ws at xs
+unfolding room
+puts-none {xs} {at} {ws} h =
+    let short : room xs at ws ≡ false = lt-leb (at + length ws) (length xs) h in
+    record { moved = rw short refl; holds = rw short refl }
+
+-- what a writer promises admits one place and one output
+pub only-puts :
+    {xs : List ℕ} {at : ℕ} {ws : List ℕ} {p q : ℕ} {ys zs : List ℕ} →
+    Puts xs at ws p ys →
+    Puts xs at ws q zs →
+    (p ≡ q) × (ys ≡ zs)
+only-puts a b = (both (a .moved) (b .moved), both (a .holds) (b .holds))

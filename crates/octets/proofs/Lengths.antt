@@ -67,3 +67,13 @@ length-back (suc k) n s at end most holds st fit =
       start,
     )
     (span-fits (at + suc (suc k)) n end fit)
+
+-- with none after its first, a length is that octet; with some, the first only counts them
+pub length-short : (n : ℕ) → lengthHolds n 0 ≡ true → n < 128
+unfolding lengthHolds
+length-short n h = ltb-true n 128 h
+
+pub length-long : (k n : ℕ) → (k ≡ 0 → ⊥) → lengthWith k n ≡ (128 + k) ∷ wordOctets k n
+unfolding lengthWith
+length-long zero n h = absurd (h refl)
+length-long (suc k) n h = refl

@@ -9,7 +9,7 @@ use native.Mathlib.Omega.{arith}
 use lib.ListN.{length, getD, set, length-append}
 use Rattle.laws.specs.Over.{over}
 use Rattle.laws.specs.Stands.{Stands}
-use Rattle.laws.proofs.Over.{over-over, over-one, over-set}
+use Rattle.laws.proofs.Over.{over-nil, over-over, over-one, over-set}
 use Rattle.laws.proofs.Stands.{stands-left, stands-right, stands-first}
 use Rattle.octets.specs.Word.{wordAt, wordOctets, WordAt}
 
@@ -47,3 +47,24 @@ pub word-more :
     WordAt (k + 1) s at (n * 256 + getD s (at + k) 0)
 unfolding wordAt
 word-more k s at n w h = rw add-one (record { is = omega (arith, w .is); small = omega (arith, w .small) })
+
+-- the last octet is written first, and what is left to write is the rest
+pub word-turn :
+    (xs : List ℕ) (at i rest : ℕ) → 0 < i →
+    over (set xs (at + (i - 1)) (rest % 256)) at (wordOctets (i - 1) (rest / 256)) ≡ over xs at (wordOctets i rest)
+unfolding wordOctets
+word-turn xs at zero rest h = absurd (omega arith)
+word-turn xs at (suc i) rest h =
+    let front : List ℕ = wordOctets i (rest / 256) in
+    let last : suc i - 1 ≡ i = omega arith in
+    let long : length front ≡ i = length-word i (rest / 256) in
+    rw last
+    (sym (over-set xs at front (at + i) (rest % 256) (omega arith))
+    ∙ ap (λ (j : ℕ). set (over xs at front) (at + j) (rest % 256)) (sym long)
+    ∙ sym (over-one (over xs at front) (at + length front) (rest % 256))
+    ∙ over-over xs at front (rest % 256 ∷ []))
+
+-- nothing is left to write
+pub word-over : (xs : List ℕ) (at rest : ℕ) → over xs at (wordOctets 0 rest) ≡ xs
+unfolding wordOctets
+word-over xs at rest = over-nil xs at

@@ -6,6 +6,7 @@ use mathlib.Core.List.{List, [], _∷_, _++_}
 use lib.ListN.{length}
 use lib.Dec.{ltb}
 use Rattle.laws.specs.Fewest.{fewest}
+use Rattle.laws.specs.Over.{Puts}
 use Rattle.octets.specs.Word.{wordOctets}
 use Rattle.octets.specs.Head.{lengthMost}
 
@@ -34,3 +35,11 @@ headOctets tag n = headWith (lengthFewest n) tag n
 -- an element, shortest
 abbrev pub element : ℕ → List ℕ → List ℕ
 element tag contents = headOctets tag (length contents) ++ contents
+
+-- what `put_head` promises
+abbrev pub PutHead : List ℕ → ℕ → ℕ → ℕ → ℕ → List ℕ → Type 0
+PutHead xs at tag n next ys = Puts xs at (headOctets tag n) next ys
+
+-- what `put_all` promises
+abbrev pub PutAll : List ℕ → ℕ → List ℕ → ℕ → List ℕ → Type 0
+PutAll xs at ws next ys = Puts xs at ws next ys

@@ -2,6 +2,9 @@
 // What is offered is total: a reader refuses what it cannot read, a writer that finds no room writes nothing.
 mod head;
 mod word;
+mod write;
 
 pub use head::Head;
 pub use head::head_at;
+pub use write::put_all;
+pub use write::put_head;
