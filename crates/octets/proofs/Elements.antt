@@ -5,7 +5,8 @@ use mathlib.Core.Bool.{true}
 use mathlib.Core.List.{List, [], _∷_, _++_}
 use native.Mathlib.Omega.{arith}
 use lib.ListN.{length, getD, length-append}
-use borrow.Author.Tests.{le-ltb, lt-leb, ne-eqb}
+use borrow.Author.Tests.{lt-ltb, le-ltb, lt-leb, ne-eqb}
+use Rattle.laws.specs.Fewest.{fewestFrom}
 use Rattle.laws.specs.Over.{Wrote}
 use Rattle.laws.specs.Stands.{Stands}
 use Rattle.laws.proofs.Over.{then}
@@ -72,3 +73,10 @@ pub headed :
     {xs : List ℕ} {at tag n p : ℕ} {ys ws : List ℕ} {q : ℕ} {zs : List ℕ} → Wrote xs at (headOctets tag n) p ys →
     n ≡ length ws → Wrote ys p ws q zs → Wrote xs at (element tag ws) q zs
 headed {tag = tag} {ws = ws} h e w = then (rw e at h) w
+
+-- an element of fewer than 128 octets has one length octet
+pub element-small :
+    (tag : ℕ) (contents : List ℕ) → length contents < 128 →
+    element tag contents ≡ tag ∷ length contents ∷ contents
+unfolding lengthFewest lengthHolds fewestFrom lengthWith
+element-small tag contents h = rw (lt-ltb (length contents) 128 h)

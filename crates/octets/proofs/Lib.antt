@@ -2,3 +2,4 @@ pub mod Words
 pub mod Within
 pub mod Lengths
 pub mod Elements
+pub mod Skips

@@ -1,3 +1,5 @@
 pub mod Word
 pub mod Head
 pub mod Element
+pub mod Enumerated
+pub mod Skip

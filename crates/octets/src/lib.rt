@@ -1,10 +1,17 @@
 // Octets in the basic encoding rules, and numbers in groups of seven bits: read and written. Nothing here knows a component.
 // What is offered is total: a reader refuses what it cannot read, a writer that finds no room writes nothing.
+mod enumerated;
 mod head;
+mod skip;
 mod word;
 mod write;
 
+pub use enumerated::Enumerated;
+pub use enumerated::enumerated_at;
+pub use enumerated::put_enumerated;
 pub use head::Head;
 pub use head::head_at;
+pub use skip::Skip;
+pub use skip::skip_at;
 pub use write::put_all;
 pub use write::put_head;

@@ -1,0 +1,54 @@
+use Rattle.octets.proofs.Within.{within}
+use Rattle.octets.specs.Enumerated.{enumeratedAt}
+use Rattle.laws.proofs.Cases.{cases}
+use mathlib.Core.Path.{sym, _∙_}
+use Prim.Native.Nat.{_-_}
+use native.Mathlib.Omega.{arith}
+use borrow.Author.Needs.{needs}
+use Rattle.octets.proofs.enumerated.enumerated_at.Statement.{statement}
+use Rattle.octets.proofs.enumerated.enumerated_at.Tie as tie
+
+head-at-requires : tie.Need-head-at-requires
+head-at-requires c κs = search needs
+
+enum-known-tag : tie.Need-enum-known-tag
+enum-known-tag c = search needs
+
+returns : tie.Need-returns
+unfolding enumeratedAt
+returns c = let found = sym (c .before .before .before .before .head-at .ensures) ∙ c .before .before .tag .given .1 in search (cases, found)
+
+sub-if2 : tie.Need-sub-if2
+sub-if2 c = let found = sym (c .before .before .before .before .head-at .ensures) ∙ c .before .before .tag .given .1 in omega (arith, rw found at (within (c .before .before .before .before .before .before .args .depth) (c .before .before .before .before .before .before .args .s .now) (c .before .before .before .before .before .before .args .at) (c .before .before .before .before .before .before .args .end)))
+
+returns-2 : tie.Need-returns-2
+unfolding enumeratedAt
+returns-2 c = let found = sym (c .before .before .before .before .before .head-at .ensures) ∙ c .before .before .before .tag .given .1 in search (cases, found)
+
+shared-slice-read-t14 : tie.Need-shared-slice-read-t14
+shared-slice-read-t14 c = let found = sym (c .before .before .before .before .before .before .head-at .ensures) ∙ c .before .before .before .before .tag .given .1 in omega (arith, rw found at (within (c .before .before .before .before .before .before .before .before .args .depth) (c .before .before .before .before .before .before .before .before .args .s .now) (c .before .before .before .before .before .before .before .before .args .at) (c .before .before .before .before .before .before .before .before .args .end)))
+
+enum-told : tie.Need-enum-told
+enum-told c = search needs
+
+returns-3 : tie.Need-returns-3
+unfolding enumeratedAt
+returns-3 c = let found = sym (c .before .before .before .before .before .before .head-at .ensures) ∙ c .before .before .before .before .tag .given .1 in search (cases, found)
+
+returns-4 : tie.Need-returns-4
+unfolding enumeratedAt
+returns-4 c = search (cases, ← c .before .before .head-at .ensures, c .enum-told .given .1)
+
+pub enumerated-at-spec : {M : Type 1} → statement M
+enumerated-at-spec =
+    tie.close
+    (tie.spec
+    head-at-requires
+    enum-known-tag
+    returns
+    sub-if2
+    returns-2
+    shared-slice-read-t14
+    enum-told
+    returns-3
+    returns-4)
