@@ -3,3 +3,4 @@ pub mod Head
 pub mod Element
 pub mod Enumerated
 pub mod Skip
+pub mod Ident

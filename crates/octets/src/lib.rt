@@ -2,6 +2,7 @@
 // What is offered is total: a reader refuses what it cannot read, a writer that finds no room writes nothing.
 mod enumerated;
 mod head;
+mod ident;
 mod skip;
 mod word;
 mod write;
@@ -11,6 +12,9 @@ pub use enumerated::enumerated_at;
 pub use enumerated::put_enumerated;
 pub use head::Head;
 pub use head::head_at;
+pub use ident::Ident;
+pub use ident::ident_at;
+pub use ident::put_ident;
 pub use skip::Skip;
 pub use skip::skip_at;
 pub use write::put_all;

@@ -1,0 +1,144 @@
+-- Laws of identifiers, once over the number w of contents octets: the bound, the shortest form, and that what is written
+-- reads back with its exact sign. Assumes nothing.
+use Prim.Native.Nat.{ℕ, zero, suc, _+_, _-_, _*_, _^_, _≤_, _<_}
+use mathlib.Core.Path.{_≡_, refl, sym, ap, _∙_}
+use mathlib.Core.Bool.{Bool, true, false}
+use mathlib.Core.List.{List, [], _∷_}
+use native.Mathlib.Nat.{pow-le-pow-right}
+use native.Mathlib.Omega.{arith}
+use lib.IntN.{ℤ, pos, negsuc}
+use lib.Signed.{mag}
+use lib.ListN.{length, getD, length-append}
+use lib.Dec.{ltb, eqb}
+use borrow.Author.Tests.{lt-ltb, le-ltb, eq-eqb, ne-eqb, ltb-true, ltb-false}
+use Rattle.laws.specs.Fewest.{fewestFrom}
+use Rattle.laws.specs.Stands.{Stands}
+use Rattle.laws.proofs.Picks.{pick-ind}
+use Rattle.laws.proofs.Fewest.{fewest-will, fewest-most, fewest-least}
+use Rattle.octets.specs.Word.{wordAt, wordOctets}
+use Rattle.octets.specs.Head.{headAt}
+use Rattle.octets.specs.Element.{headOctets, element}
+use Rattle.octets.specs.Ident.{
+  identTag,
+  identMost,
+  half,
+  twos,
+  bits,
+  identHolds,
+  shortest,
+  identIn,
+  identAt,
+  identFewest,
+  identWith,
+  identOctets,
+}
+use Rattle.octets.specs.declared.ident.Ident.{Ident}
+use Rattle.octets.specs.declared.ident.Ident.the-variants.{Is, Unreadable}
+use Rattle.octets.proofs.Words.{length-word, word-back}
+use Rattle.octets.proofs.Elements.{length-head, length-element, element-small, element-back, element-contents}
+use Rattle.octets.proofs.Signs.{twos-low, twos-high, twos-bits, bits-small}
+
+-- half of the numbers of w octets, twice, is all of them
+pub half-twice : (w : ℕ) → (w ≡ 0 → ⊥) → half w + half w ≡ 256 ^ w
+unfolding half
+half-twice zero h = absurd (h refl)
+half-twice (suc w) h = omega arith
+
+pub half-most : (w : ℕ) → w ≤ identMost → half w ≤ 32768
+unfolding half
+half-most zero h = omega arith
+half-most (suc w) h = let small : w ≤ 1 = omega arith in
+    let p : 256 ^ w ≤ 256 ^ 1 = pow-le-pow-right (omega arith) small in
+    omega arith
+
+-- the fewest octets: they can say the number, none fewer can, and there are one or two
+module _ (z : ℤ) (range : mag z < 32768) where
+  pub fewest-holds : identHolds z (identFewest z) ≡ true
+  unfolding identFewest identHolds half
+  fewest-holds = fewest-will (identHolds z) identMost (lt-ltb (mag z) 32768 range)
+
+  pub fewest-two : identFewest z ≤ identMost
+  unfolding identFewest
+  fewest-two = fewest-most (identHolds z) identMost
+
+  pub fewest-magnitude : mag z < half (identFewest z)
+  unfolding identHolds
+  fewest-magnitude = ltb-true (mag z) (half (identFewest z)) fewest-holds
+
+  pub fewest-some : identFewest z ≡ 0 → ⊥
+  unfolding half
+  fewest-some e = omega (arith, rw e at fewest-magnitude)
+
+  -- one octet less cannot say it
+  fewest-none : identHolds z (identFewest z - 1) ≡ false
+  unfolding identFewest
+  fewest-none =
+      by-test (identHolds z (identFewest z - 1))
+      (λ e. absurd (omega (arith, fewest-some, fewest-least (identHolds z) identMost (identFewest z - 1) e)))
+    where
+      by-test : (b : Bool) → (b ≡ true → b ≡ false) → b ≡ false
+      by-test true f = f refl
+      by-test false f = refl
+
+-- a number of w octets that one octet less cannot say is read with its sign
+pub ident-in-back :
+    (w : ℕ) (z : ℤ) (s : List ℕ) (at next : ℕ) → (w ≡ 0 → ⊥) → w ≤ identMost → mag z < half w →
+    identHolds z (w - 1) ≡ false → Stands s at (identWith w z) → identIn w s at next ≡ Is z next
+unfolding identIn
+ident-in-back w z s at next some most h less st =
+    let u : wordAt w s at ≡ bits (half w) z =
+    word-back w (bits (half w) z) s at (omega (arith, bits-small (half w) z h, half-twice w some)) st in
+    rw (ne-eqb w 0 some, le-ltb identMost w most, u, twos-bits (half w) z h, less)
+
+pub length-ident : (w : ℕ) (z : ℤ) → length (identWith w z) ≡ w
+length-ident w z = length-word w (bits (half w) z)
+
+-- the element that is written for an identifier reads back as it
+pub ident-back :
+    (depth : ℕ) (z : ℤ) (s : List ℕ) (at end : ℕ) → (depth ≡ 0 → ⊥) → mag z < 32768 →
+    Stands s at (identOctets z) → at + length (identOctets z) ≤ end → end ≤ length s →
+    identAt depth s at end ≡ Is z (at + length (identOctets z))
+unfolding identAt
+ident-back depth z s at end deep range st fit in-s =
+    let w : ℕ = identFewest z in
+    let ws : List ℕ = identWith w z in
+    let start : ℕ = at + length (headOctets identTag (length ws)) in
+    let count : at + length (element identTag ws) - start ≡ w =
+    omega (arith, length-element identTag ws, length-head identTag (length ws), length-ident w z) in
+    rw (element-back depth identTag ws s at end deep (λ e. omega arith) (omega (arith, length-ident w z, fewest-two z range)) st fit in-s, count)
+    (ident-in-back w z s start (at + length (element identTag ws)) (fewest-some z range) (fewest-two z range)
+    (fewest-magnitude z range) (fewest-none z range) (element-contents identTag ws s at st))
+
+-- one octet can say what is below 128 either way, and two the rest
+pub fewest-one : (z : ℤ) → mag z < 128 → identFewest z ≡ 1
+unfolding identFewest identHolds half fewestFrom
+fewest-one z h = rw (le-ltb (mag z) 0 (omega arith), lt-ltb (mag z) 128 h)
+
+pub fewest-rest : (z : ℤ) → 128 ≤ mag z → identFewest z ≡ 2
+unfolding identFewest identHolds half fewestFrom
+fewest-rest z h = rw (le-ltb (mag z) 0 (omega arith), le-ltb (mag z) 128 h)
+
+-- the element of an identifier: its tag, how many octets, and those
+pub ident-octets :
+    (z : ℤ) → mag z < 32768 → identOctets z ≡ identTag ∷ identFewest z ∷ identWith (identFewest z) z
+ident-octets z range =
+    let ws : List ℕ = identWith (identFewest z) z in
+    let count : length ws ≡ identFewest z = length-ident (identFewest z) z in
+    element-small identTag ws (omega (arith, fewest-two z range))
+    ∙ ap (λ (n : ℕ). identTag ∷ n ∷ ws) count
+
+-- the two ways out of reading w octets, by the parts that the code works out
+module _ (w : ℕ) (s : List ℕ) (at next u h m fewer : ℕ) (some : w ≡ 0 → ⊥) (most : w ≤ identMost)
+    (word : u ≡ wordAt w s at) (is-half : h ≡ half w) (is-mag : m ≡ mag (twos h u)) (is-fewer : fewer ≡ half (w - 1)) where
+  same-mag : mag (twos (half w) (wordAt w s at)) ≡ m
+  same-mag = rw (← word, ← is-half) (sym is-mag)
+
+  pub ident-not-shortest : m < fewer → Unreadable ≡ identIn w s at next
+  unfolding identIn identHolds
+  ident-not-shortest lt =
+      rw (ne-eqb w 0 some, le-ltb identMost w most, same-mag, ← is-fewer, lt-ltb m fewer lt)
+
+  pub ident-read : fewer ≤ m → Is (twos h u) next ≡ identIn w s at next
+  unfolding identIn identHolds
+  ident-read le =
+      rw (ne-eqb w 0 some, le-ltb identMost w most, same-mag, ← is-fewer, le-ltb m fewer le, ← word, ← is-half)

@@ -1,0 +1,55 @@
+-- The machine's signed numbers of 16 bits: what -1 - n is, and when a number is its own magnitude. Assumes nothing.
+use Prim.Native.Nat.{ℕ, zero, suc, _+_, _-_, _<_, _≤_}
+use mathlib.Core.Path.{_≡_, refl, sym, ap, _∙_}
+use mathlib.Core.Bool.{Bool, true, false}
+use native.Mathlib.Nat.{zero-add}
+use native.Mathlib.Omega.{arith}
+use lib.IntN.{ℤ, pos, negsuc, _-ℤ_}
+use lib.Signed.{mag, ltZ}
+use borrow.Author.Tests.{lt-ltb, le-ltb, ltb-true}
+use Rattle.octets.specs.Ident.{twos, bits}
+
+-- what is taken from -1 gives the negative number of that magnitude
+pub minus : (n : ℕ) → negsuc 0 -ℤ pos n ≡ negsuc n
+minus zero = refl
+minus (suc n) = ap negsuc (omega arith)
+
+-- and a negative number taken from -1 gives its magnitude
+pub minus-negative : (z : ℤ) → ltZ z (pos 0) ≡ true → negsuc 0 -ℤ z ≡ pos (mag z)
+minus-negative (pos n) e = absurd (omega (arith, ltb-true n 0 e))
+minus-negative (negsuc n) e = rw (le-ltb (suc n) 1 (omega arith)) (ap pos (omega arith))
+
+-- any other number is its magnitude
+pub positive : (z : ℤ) → ltZ z (pos 0) ≡ false → z ≡ pos (mag z)
+positive (pos n) e = refl
+positive (negsuc n) e = let z : _≡_ {A = ℕ} 0 1 = cc in absurd (omega arith)
+
+-- below half a number stands for itself, from half on for a negative one
+pub twos-low : (half u : ℕ) → u < half → twos half u ≡ pos u
+unfolding twos
+twos-low half u h = rw (lt-ltb u half h)
+
+pub twos-high : (half u : ℕ) → half ≤ u → twos half u ≡ negsuc (half + half - 1 - u)
+unfolding twos
+twos-high half u h = rw (le-ltb u half h)
+
+-- and back
+pub bits-negative : (half : ℕ) (z : ℤ) → ltZ z (pos 0) ≡ true → bits half z ≡ half + half - 1 - mag z
+unfolding bits
+bits-negative half (pos n) e = absurd (omega (arith, ltb-true n 0 e))
+bits-negative half (negsuc n) e = refl
+
+pub bits-positive : (half : ℕ) (z : ℤ) → ltZ z (pos 0) ≡ false → bits half z ≡ mag z
+unfolding bits
+bits-positive half (pos n) e = refl
+bits-positive half (negsuc n) e = let z : _≡_ {A = ℕ} 0 1 = cc in absurd (omega arith)
+
+pub twos-bits : (half : ℕ) (z : ℤ) → mag z < half → twos half (bits half z) ≡ z
+unfolding twos bits
+twos-bits half (pos n) h = rw (lt-ltb n half h)
+twos-bits half (negsuc n) h = rw (le-ltb (half + half - 1 - n) half (omega arith)) (ap negsuc (omega arith))
+
+pub bits-small : (half : ℕ) (z : ℤ) → mag z < half → bits half z < half + half
+unfolding bits
+bits-small half (pos n) h = omega arith
+bits-small half (negsuc n) h = omega arith

@@ -1,0 +1,49 @@
+use Rattle.octets.proofs.Within.{within}
+use Rattle.octets.specs.Ident.{identAt}
+use Rattle.laws.proofs.Cases.{cases}
+use mathlib.Core.Path.{sym, _∙_}
+use Prim.Native.Nat.{_-_}
+use native.Mathlib.Omega.{arith}
+use borrow.Author.Needs.{needs}
+use Rattle.octets.proofs.ident.ident_at.Statement.{statement}
+use Rattle.octets.proofs.ident.ident_at.Tie as tie
+
+head-at-requires : tie.Need-head-at-requires
+head-at-requires c κs = search needs
+
+enum-known-tag : tie.Need-enum-known-tag
+enum-known-tag c = search needs
+
+returns : tie.Need-returns
+unfolding identAt
+returns c = let found = sym (c .before .before .before .before .head-at .ensures) ∙ c .before .before .tag .given .1 in search (cases, found)
+
+sub-ident-in : tie.Need-sub-ident-in
+sub-ident-in c = let found = sym (c .before .before .before .before .head-at .ensures) ∙ c .before .before .tag .given .1 in omega (arith, rw found at (within (c .before .before .before .before .before .before .args .depth) (c .before .before .before .before .before .before .args .s .now) (c .before .before .before .before .before .before .args .at) (c .before .before .before .before .before .before .args .end)))
+
+ident-in-requires : tie.Need-ident-in-requires
+ident-in-requires c κs = let found = sym (c .before .before .before .before .head-at .ensures) ∙ c .before .before .tag .given .1 in omega (arith, rw found at (within (c .before .before .before .before .before .before .args .depth) (c .before .before .before .before .before .before .args .s .now) (c .before .before .before .before .before .before .args .at) (c .before .before .before .before .before .before .args .end)))
+
+enum-told : tie.Need-enum-told
+enum-told c = search needs
+
+returns-2 : tie.Need-returns-2
+unfolding identAt
+returns-2 c = let found = sym (c .before .before .before .before .before .head-at .ensures) ∙ c .before .before .before .tag .given .1 in search (cases, found, c .ident-in .ensures)
+
+returns-3 : tie.Need-returns-3
+unfolding identAt
+returns-3 c = search (cases, ← c .before .before .head-at .ensures, c .enum-told .given .1)
+
+pub ident-at-spec : {M : Type 1} → statement M
+ident-at-spec =
+    tie.close
+    (tie.spec
+    head-at-requires
+    enum-known-tag
+    returns
+    sub-ident-in
+    ident-in-requires
+    enum-told
+    returns-2
+    returns-3)
