@@ -10,6 +10,16 @@ use Rattle.laws.specs.Fewest.{fewestFrom, fewest}
 use Rattle.laws.proofs.Picks.{pick-ind}
 
 module _ (will : ℕ → Bool) where
+  -- one place to look at, and none
+  pub fewest-step :
+      (more from : ℕ) → fewestFrom will (suc more) from ≡ pick (will from) from (fewestFrom will more (suc from))
+  unfolding fewestFrom
+  fewest-step more from = refl
+
+  pub fewest-none : (from : ℕ) → fewestFrom will 0 from ≡ from
+  unfolding fewestFrom
+  fewest-none from = refl
+
   will-from : (more from : ℕ) → will (from + more) ≡ true → will (fewestFrom will more from) ≡ true
   unfolding fewestFrom
   will-from zero from h = rw add-zero at h

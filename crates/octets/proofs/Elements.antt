@@ -5,8 +5,7 @@ use mathlib.Core.Bool.{true}
 use mathlib.Core.List.{List, [], _∷_, _++_}
 use native.Mathlib.Omega.{arith}
 use lib.ListN.{length, getD, length-append}
-use borrow.Author.Tests.{lt-ltb, le-ltb, lt-leb, ne-eqb}
-use Rattle.laws.specs.Fewest.{fewestFrom}
+use borrow.Author.Tests.{le-ltb, lt-leb, ne-eqb}
 use Rattle.laws.specs.Over.{Wrote}
 use Rattle.laws.specs.Stands.{Stands}
 use Rattle.laws.proofs.Over.{then}
@@ -14,7 +13,7 @@ use Rattle.laws.proofs.Stands.{stands-first, stands-left, stands-right}
 use Rattle.octets.specs.Head.{lengthMost, headAt, lengthAt}
 use Rattle.octets.specs.Element.{lengthHolds, lengthWith, lengthFewest, headWith, headOctets, element}
 use Rattle.octets.specs.declared.head.Head.the-variants.{Is, Bad}
-use Rattle.octets.proofs.Lengths.{length-length, length-back, shortest-holds, shortest-most}
+use Rattle.octets.proofs.Lengths.{length-length, length-back, fewest-short, shortest-holds, shortest-most}
 
 -- a head with k octets after the length's first, k as it likes
 pub head-back :
@@ -78,5 +77,5 @@ headed {tag = tag} {ws = ws} h e w = then (rw e at h) w
 pub element-small :
     (tag : ℕ) (contents : List ℕ) → length contents < 128 →
     element tag contents ≡ tag ∷ length contents ∷ contents
-unfolding lengthFewest lengthHolds fewestFrom lengthWith
-element-small tag contents h = rw (lt-ltb (length contents) 128 h)
+unfolding lengthWith
+element-small tag contents h = rw (fewest-short (length contents) h)

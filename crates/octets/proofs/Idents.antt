@@ -14,7 +14,7 @@ use borrow.Author.Tests.{lt-ltb, le-ltb, eq-eqb, ne-eqb, ltb-true, ltb-false}
 use Rattle.laws.specs.Fewest.{fewestFrom}
 use Rattle.laws.specs.Stands.{Stands}
 use Rattle.laws.proofs.Picks.{pick-ind}
-use Rattle.laws.proofs.Fewest.{fewest-will, fewest-most, fewest-least}
+use Rattle.laws.proofs.Fewest.{fewest-step, fewest-will, fewest-most, fewest-least}
 use Rattle.octets.specs.Word.{wordAt, wordOctets}
 use Rattle.octets.specs.Head.{headAt}
 use Rattle.octets.specs.Element.{headOctets, element}
@@ -109,14 +109,10 @@ ident-back depth z s at end deep range st fit in-s =
     (ident-in-back w z s start (at + length (element identTag ws)) (fewest-some z range) (fewest-two z range)
     (fewest-magnitude z range) (fewest-none z range) (element-contents identTag ws s at st))
 
--- one octet can say what is below 128 either way, and two the rest
-pub fewest-one : (z : ℤ) → mag z < 128 → identFewest z ≡ 1
-unfolding identFewest identHolds half fewestFrom
-fewest-one z h = rw (le-ltb (mag z) 0 (omega arith), lt-ltb (mag z) 128 h)
-
-pub fewest-rest : (z : ℤ) → 128 ≤ mag z → identFewest z ≡ 2
-unfolding identFewest identHolds half fewestFrom
-fewest-rest z h = rw (le-ltb (mag z) 0 (omega arith), le-ltb (mag z) 128 h)
+-- no octets say nothing, so the search begins at one
+pub fewest-begins : (z : ℤ) → identFewest z ≡ fewestFrom (identHolds z) 1 1
+unfolding identFewest identHolds half
+fewest-begins z = rw (fewest-step (identHolds z) 1 0, le-ltb (mag z) 0 (omega arith))
 
 -- the element of an identifier: its tag, how many octets, and those
 pub ident-octets :

@@ -9,7 +9,8 @@ use lib.ListN.{length, getD}
 use lib.Dec.{ltb, leb, eqb}
 use borrow.Author.Tests.{lt-ltb, le-ltb, le-leb, lt-leb, ne-eqb, ltb-true}
 use Rattle.laws.specs.Stands.{Stands}
-use Rattle.laws.proofs.Fewest.{fewest-will, fewest-most, fewest-least}
+use Rattle.laws.specs.Fewest.{fewestFrom}
+use Rattle.laws.proofs.Fewest.{fewest-step, fewest-will, fewest-most, fewest-least}
 use Rattle.laws.proofs.Stands.{stands-first, stands-right}
 use Rattle.octets.specs.Word.{wordAt, wordOctets}
 use Rattle.octets.specs.Head.{lengthMost, spanOf, lengthBy, lengthAt}
@@ -35,6 +36,15 @@ shortest-least n k h = fewest-least (lengthHolds n) lengthMost k h
 pub shortest-most : (n : ℕ) → lengthFewest n ≤ lengthMost
 unfolding lengthFewest
 shortest-most n = fewest-most (lengthHolds n) lengthMost
+
+-- none below 128, and from there on the search begins at one
+pub fewest-short : (n : ℕ) → n < 128 → lengthFewest n ≡ 0
+unfolding lengthFewest lengthHolds
+fewest-short n h = rw (fewest-step (lengthHolds n) 1 0, lt-ltb n 128 h)
+
+pub fewest-long : (n : ℕ) → 128 ≤ n → lengthFewest n ≡ fewestFrom (lengthHolds n) 1 1
+unfolding lengthFewest lengthHolds
+fewest-long n h = rw (fewest-step (lengthHolds n) 1 0, le-ltb n 128 h)
 
 span-fits : (start n end : ℕ) → start + n ≤ end → spanOf start n end ≡ Is start (start + n)
 unfolding spanOf

@@ -4,3 +4,4 @@ pub mod Element
 pub mod Enumerated
 pub mod Skip
 pub mod Ident
+pub mod Groups

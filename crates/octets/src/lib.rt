@@ -1,6 +1,7 @@
 // Octets in the basic encoding rules, and numbers in groups of seven bits: read and written. Nothing here knows a component.
 // What is offered is total: a reader refuses what it cannot read, a writer that finds no room writes nothing.
 mod enumerated;
+mod groups;
 mod head;
 mod ident;
 mod skip;
@@ -10,6 +11,9 @@ mod write;
 pub use enumerated::Enumerated;
 pub use enumerated::enumerated_at;
 pub use enumerated::put_enumerated;
+pub use groups::Groups;
+pub use groups::number_at;
+pub use groups::put_number;
 pub use head::Head;
 pub use head::head_at;
 pub use ident::Ident;

@@ -1,3 +1,5 @@
+use Rattle.laws.proofs.Over.{over-one}
+use mathlib.Core.Path.{sym}
 use Rattle.laws.specs.Over.{over}
 use lib.ListN.{length}
 use mathlib.Core.Path.{refl}
@@ -16,8 +18,7 @@ same-length : tie.Need-same-length
 same-length c = search needs
 
 returns : tie.Need-returns
-unfolding over
-returns c = record { moved = refl; holds = refl }
+returns c = record { moved = refl; holds = sym (over-one (c .args .out .now) (c .args .at) (c .args .octet)) }
 
 pub write-octet-spec : {M : Type 1} → statement M
 write-octet-spec = tie.close (tie.spec slice-write-out add-result same-length returns)
