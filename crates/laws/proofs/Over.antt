@@ -5,6 +5,7 @@ use mathlib.Core.Path.{_≡_, refl, sym, ap, _∙_}
 use mathlib.Core.List.{List, [], _∷_, _++_}
 use mathlib.Core.Bool.{true, false}
 use native.Mathlib.Nat.{add-suc, suc-add, add-zero}
+use native.Mathlib.Numerals.{add-one}
 use native.Mathlib.Omega.{arith}
 use lib.ListN.{length, take, drop, getD, set, length-append}
 use lib.Seq.{sets, sets-eq, length-sets, set-comm, take-suc, length-take-le}
@@ -28,6 +29,11 @@ over-nil xs at = refl
 pub over-one : (xs : List ℕ) (at w : ℕ) → over xs at (w ∷ []) ≡ set xs at w
 unfolding over
 over-one xs at w = refl
+
+pub over-cons :
+    (xs : List ℕ) (at w : ℕ) (ws : List ℕ) → over xs at (w ∷ ws) ≡ over (set xs at w) (at + 1) ws
+unfolding over
+over-cons xs at w ws = rw add-one refl
 
 pub length-over : (xs : List ℕ) (at : ℕ) (ws : List ℕ) → length (over xs at ws) ≡ length xs
 unfolding over

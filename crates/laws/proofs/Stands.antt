@@ -1,5 +1,5 @@
 -- Laws of `Stands`: what was written stands there, and parts of what stands stand. Assumes nothing.
-use Prim.Native.Nat.{ℕ, suc, _+_, _≤_, _<_}
+use Prim.Native.Nat.{ℕ, zero, suc, _+_, _≤_, _<_}
 use mathlib.Core.Path.{_≡_, refl, sym, ap, _∙_}
 use mathlib.Core.List.{List, [], _∷_, _++_, append-assoc}
 use native.Mathlib.Nat.{add-zero, add-assoc}
@@ -37,3 +37,16 @@ stands-right s at ws vs st i h =
 pub stands-first : (s : List ℕ) (at w : ℕ) (ws : List ℕ) → Stands s at (w ∷ ws) → getD s at 0 ≡ w
 unfolding Stands
 stands-first s at w ws st = rw add-zero at (st 0 (omega arith))
+
+pub stands-nil : (s : List ℕ) (at : ℕ) → Stands s at []
+unfolding Stands
+stands-nil s at i h = absurd (omega arith)
+
+pub stands-cons :
+    (s : List ℕ) (at w : ℕ) (ws : List ℕ) → getD s at 0 ≡ w →
+    Stands s (at + 1) ws →
+    Stands s at (w ∷ ws)
+unfolding Stands
+stands-cons s at w ws e st zero h = rw add-zero e
+stands-cons s at w ws e st (suc i) h =
+    let p : at + suc i ≡ at + 1 + i = omega arith in rw p (st i (omega arith))

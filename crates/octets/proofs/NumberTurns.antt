@@ -1,11 +1,11 @@
 -- What the functions under `number_at` and `put_number` go by: the turns of their loops, and what the last group decides.
 -- Assumes nothing.
 use Prim.Native.Nat.{ℕ, zero, suc, _+_, _-_, _*_, _/_, _%_, _^_, _≤_, _<_}
-use mathlib.Core.Path.{_≡_, refl, ap, _∙_}
+use mathlib.Core.Path.{_≡_, refl, sym, ap, _∙_}
 use mathlib.Core.List.{List, [], _∷_}
 use mathlib.Core.Logic.{⊎-elim}
 use native.Mathlib.Nat.{add-zero, eq-or-lt-of-le, pow-le-pow-right}
-use native.Mathlib.Numerals.{add-one}
+use Rattle.laws.proofs.Over.{over-cons}
 use native.Mathlib.Omega.{arith}
 use lib.ListN.{length, getD, set}
 use borrow.Author.Tests.{lt-ltb, le-ltb, ne-eqb}
@@ -224,8 +224,8 @@ size-last k rest m h e = omega (arith, ap length (groups-one rest h))
 pub over-group :
     (xs : List ℕ) (p rest : ℕ) (ys : List ℕ) → 128 ≤ rest → over xs p (groups rest) ≡ ys →
     over (set xs p (128 + rest % 128)) (p + 1) (groups (rest / 128)) ≡ ys
-unfolding over
-over-group xs p rest ys h e = rw add-one (rw (groups-more rest h) at e)
+over-group xs p rest ys h e =
+    sym (over-cons xs p (128 + rest % 128) (groups (rest / 128))) ∙ rw (groups-more rest h) at e
 
 -- the last group written, after all others
 pub wrote-last :

@@ -3,7 +3,7 @@
 use Prim.Native.Nat.{ℕ, zero, suc, _+_, _-_, _*_, _/_, _%_, _^_, _≤_, _<_}
 use mathlib.Core.Path.{_≡_, refl, sym, ap, _∙_}
 use mathlib.Core.List.{List, [], _∷_}
-use native.Mathlib.Nat.{one-le-pow, add-zero}
+use native.Mathlib.Nat.{one-le-pow}
 use native.Mathlib.Omega.{arith}
 use lib.ListN.{length, getD}
 use lib.Dec.{ltb, eqb}
@@ -11,7 +11,7 @@ use borrow.Author.Tests.{lt-ltb, le-ltb, ne-eqb, ltb-true, ltb-false, eqb-false}
 use Rattle.laws.specs.Pick.{pick}
 use Rattle.laws.specs.Stands.{Stands}
 use Rattle.laws.proofs.Picks.{pick-ind}
-use Rattle.laws.proofs.Stands.{stands-first, stands-right}
+use Rattle.laws.proofs.Stands.{stands-first, stands-right, stands-nil, stands-cons}
 use Rattle.octets.specs.Groups.{Found, found, nothing, infront, groupsAt, numberAt, groupsWith, groups}
 use Rattle.octets.specs.declared.groups.Groups.the-variants.{Is}
 
@@ -194,18 +194,6 @@ Octets s at next = (i : ℕ) → at ≤ i → i < next → getD s i 0 < 256
 pub record StandsTo (s : List ℕ) (at : ℕ) (ws : List ℕ) (next : ℕ) : Type 0 where
   pub stands : Stands s at ws
   pub ends : next ≡ at + length ws
-
-stands-cons :
-    (s : List ℕ) (at w : ℕ) (ws : List ℕ) → getD s at 0 ≡ w → Stands s (at + 1) ws → Stands s at (w ∷ ws)
-unfolding Stands
-stands-cons s at w ws e st zero h = rw add-zero e
-stands-cons s at w ws e st (suc i) h =
-    let p : at + suc i ≡ at + 1 + i = omega arith in
-    rw p (st i (omega arith))
-
-stands-nil : (s : List ℕ) (at : ℕ) → Stands s at []
-unfolding Stands
-stands-nil s at i h = absurd (omega arith)
 
 abbrev OnlyIf : List ℕ → ℕ → Found → Type 0
 OnlyIf s at (found v next) = Octets s at next → StandsTo s at (groups v) next
