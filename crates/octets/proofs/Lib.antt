@@ -6,5 +6,5 @@ pub mod Enumerateds
 pub mod Skips
 pub mod Signs
 pub mod Idents
-pub mod Numbers
-pub mod NumberTurns
+pub mod GroupLaws
+pub mod GroupTurns

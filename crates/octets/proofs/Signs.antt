@@ -6,6 +6,9 @@ use native.Mathlib.Nat.{zero-add}
 use native.Mathlib.Omega.{arith}
 use lib.IntN.{ℤ, pos, negsuc, _-ℤ_}
 use lib.Signed.{mag, ltZ}
+use mir.Syntax.{w16}
+use mir.Val.{SFits, toZ, ofZ}
+use mir.Facts.{toZ-ofZ}
 use borrow.Author.Tests.{lt-ltb, le-ltb, ltb-true}
 use Rattle.octets.specs.Ident.{twos, bits}
 
@@ -53,3 +56,15 @@ pub bits-small : (half : ℕ) (z : ℤ) → mag z < half → bits half z < half 
 unfolding bits
 bits-small half (pos n) h = omega arith
 bits-small half (negsuc n) h = omega arith
+
+-- the magnitude of a number of 16 bits, by the machine's own arithmetic
+module _ (z : ℤ) (fits : SFits w16 z) where
+  pub machine-negative :
+      ltZ (toZ w16 (ofZ w16 z)) (pos 0) ≡ true → negsuc 0 -ℤ toZ w16 (ofZ w16 z) ≡ pos (mag z)
+  machine-negative e = let same = toZ-ofZ fits in rw same (minus-negative z (rw same at e))
+
+  pub machine-positive : ltZ (toZ w16 (ofZ w16 z)) (pos 0) ≡ false → toZ w16 (ofZ w16 z) ≡ pos (mag z)
+  machine-positive e = let same = toZ-ofZ fits in rw same (positive z (rw same at e))
+
+  pub machine-magnitude : SFits w16 (pos (mag z))
+  machine-magnitude = record { sfits = fits .sfits }

@@ -21,10 +21,10 @@ infront low (found v next) = pick (eqb v 0) nothing (found (low + 128 * v) next)
 infront low nothing = nothing
 
 -- the number at `at`, of at most k groups
-unfoldable pub groupsAt : ℕ → List ℕ → ℕ → Found
-groupsAt zero s at = nothing
-groupsAt (suc k) s at =
-    pick (ltb (getD s at 0) 128) (found (getD s at 0) (at + 1)) (infront (getD s at 0 % 128) (groupsAt k s (at + 1)))
+unfoldable pub groupsIn : ℕ → List ℕ → ℕ → Found
+groupsIn zero s at = nothing
+groupsIn (suc k) s at =
+    pick (ltb (getD s at 0) 128) (found (getD s at 0) (at + 1)) (infront (getD s at 0 % 128) (groupsIn k s (at + 1)))
 
 -- a number below 2 ^ 32 is told; a larger one is only said to be one
 abbrev pub told : Found → Groups
@@ -32,8 +32,8 @@ told (found v next) = pick (ltb v (2 ^ 32)) (Is v next) (Large next)
 told nothing = Bad
 
 -- the number at `at`, of the octets of s before `end`
-unfoldable pub numberAt : List ℕ → ℕ → ℕ → Groups
-numberAt s at end = pick (ltb (length s) end) Bad (told (groupsAt (end - at) s at))
+unfoldable pub groupsAt : List ℕ → ℕ → ℕ → Groups
+groupsAt s at end = pick (ltb (length s) end) Bad (told (groupsIn (end - at) s at))
 
 -- n in at most k groups and one
 unfoldable pub groupsWith : ℕ → ℕ → List ℕ
@@ -44,15 +44,15 @@ groupsWith (suc k) n = pick (ltb n 128) (n ∷ []) ((128 + n % 128) ∷ groupsWi
 unfoldable pub groups : ℕ → List ℕ
 groups n = groupsWith n n
 
--- what `number_at` promises
-abbrev pub NumberAt : List ℕ → ℕ → ℕ → Groups → Type 0
-NumberAt s at end r = r ≡ numberAt s at end
+-- what `groups_at` promises
+abbrev pub GroupsAt : List ℕ → ℕ → ℕ → Groups → Type 0
+GroupsAt s at end r = r ≡ groupsAt s at end
 
--- what `put_number` promises
-abbrev pub PutNumber : List ℕ → ℕ → ℕ → ℕ → List ℕ → Type 0
-PutNumber xs at n next ys = Puts xs at (groups n) next ys
+-- what `put_groups` promises
+abbrev pub PutGroups : List ℕ → ℕ → ℕ → ℕ → List ℕ → Type 0
+PutGroups xs at n next ys = Puts xs at (groups n) next ys
 
--- ---- what the private functions under `number_at` promise
+-- ---- what the private functions under `groups_at` promise
 
 -- the most groups of a number below 2 ^ 32
 abbrev pub groupsMost : ℕ

@@ -4,7 +4,7 @@ ghost use mathlib.Core.Path.{_≡_};
 ghost use Prim.Native.Nat.{_+_, _≤_, _<_};
 ghost use lib.ListN.{length};
 ghost use Rattle.laws.specs.Over.{Wrote};
-ghost use Rattle.octets.specs.Groups.{NumberAt, PutNumber, LastAt, groups, groupsMost, groupsValue};
+ghost use Rattle.octets.specs.Groups.{GroupsAt, PutGroups, LastAt, groups, groupsMost, groupsValue};
 
 // A number and the place after it; a number that 32 bits do not hold is only said to be one.
 pub enum Groups {
@@ -47,8 +47,8 @@ fn groups_value(s: &[u8], at: usize, k: usize) -> u64
 }
 
 // The number at `at`, of the octets of `s` before `end`.
-pub fn number_at(s: &[u8], at: usize, end: usize) -> Groups
-    ensures { λ r. ⌜ NumberAt (now (s .entry)) at end r ⌝ }
+pub fn groups_at(s: &[u8], at: usize, end: usize) -> Groups
+    ensures { λ r. ⌜ GroupsAt (now (s .entry)) at end r ⌝ }
 {
     if s.len() < end {
         return Groups::Bad;
@@ -101,7 +101,7 @@ fn groups_size(n: u32) -> usize
 }
 
 // `n` in its groups.
-fn write_number(out: &mut [u8], at: usize, n: u32) -> usize
+fn write_groups(out: &mut [u8], at: usize, n: u32) -> usize
     requires { ⌜ at + length (groups n) ≤ length (now out) ⌝ }
     ensures { λ r. ⌜ Wrote (now (out .entry)) at (groups n) r (now (out .exit)) ⌝ }
 {
@@ -116,8 +116,8 @@ fn write_number(out: &mut [u8], at: usize, n: u32) -> usize
 }
 
 // `n` in its groups, or nothing.
-pub fn put_number(out: &mut [u8], at: usize, n: u32) -> usize
-    ensures { λ r. ⌜ PutNumber (now (out .entry)) at n r (now (out .exit)) ⌝ }
+pub fn put_groups(out: &mut [u8], at: usize, n: u32) -> usize
+    ensures { λ r. ⌜ PutGroups (now (out .entry)) at n r (now (out .exit)) ⌝ }
 {
     let need = groups_size(n);
     if out.len() < need {
@@ -126,5 +126,5 @@ pub fn put_number(out: &mut [u8], at: usize, n: u32) -> usize
     if out.len() - need < at {
         return at;
     }
-    write_number(out, at, n)
+    write_groups(out, at, n)
 }

@@ -10,7 +10,7 @@ use Rattle.octets.specs.Element.{PutHead, PutAll}
 use Rattle.octets.specs.Enumerated.{EnumeratedAt, PutEnumerated}
 use Rattle.octets.specs.Ident.{IdentAt, PutIdent}
 use Rattle.octets.specs.Skip.{SkipAt}
-use Rattle.octets.specs.Groups.{NumberAt, PutNumber}
+use Rattle.octets.specs.Groups.{GroupsAt, PutGroups}
 use Rattle.octets.specs.declared.head.Head.{Head}
 use Rattle.octets.specs.declared.enumerated.Enumerated.{Enumerated}
 use Rattle.octets.specs.declared.ident.Ident.{Ident}
@@ -34,8 +34,8 @@ module _ (s : List ℕ) (at end : ℕ) where
   pub only-skip-at : {a b : Skip} → SkipAt s at end a → SkipAt s at end b → a ≡ b
   only-skip-at = both
 
-  pub only-number-at : {a b : Groups} → NumberAt s at end a → NumberAt s at end b → a ≡ b
-  only-number-at = both
+  pub only-groups-at : {a b : Groups} → GroupsAt s at end a → GroupsAt s at end b → a ≡ b
+  only-groups-at = both
 
 -- ---- writers: the place after, and every octet of the output
 
@@ -53,5 +53,5 @@ module _ (xs : List ℕ) (at : ℕ) {p q : ℕ} {ys zs : List ℕ} where
   pub only-put-ident : (z : ℤ) → PutIdent xs at z p ys → PutIdent xs at z q zs → (p ≡ q) × (ys ≡ zs)
   only-put-ident z = only-puts
 
-  pub only-put-number : (n : ℕ) → PutNumber xs at n p ys → PutNumber xs at n q zs → (p ≡ q) × (ys ≡ zs)
-  only-put-number n = only-puts
+  pub only-put-groups : (n : ℕ) → PutGroups xs at n p ys → PutGroups xs at n q zs → (p ≡ q) × (ys ≡ zs)
+  only-put-groups n = only-puts

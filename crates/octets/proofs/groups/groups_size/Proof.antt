@@ -4,8 +4,8 @@ use native.Mathlib.Omega.{arith}
 use borrow.Author.Needs.{needs}
 use lib.ListN.{length}
 use Rattle.octets.specs.Groups.{groups}
-use Rattle.octets.proofs.NumberTurns.{size-more, size-last}
-use Rattle.octets.proofs.Numbers.{groups-length}
+use Rattle.octets.proofs.GroupTurns.{size-more, size-last}
+use Rattle.octets.proofs.GroupLaws.{groups-length}
 use Rattle.octets.proofs.groups.groups_size.Statement.{statement}
 use Rattle.octets.proofs.groups.groups_size.Tie as tie
 

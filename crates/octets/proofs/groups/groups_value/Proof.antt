@@ -3,7 +3,7 @@ use Prim.Native.Nat.{_+_, _-_, _≤_}
 use native.Mathlib.Omega.{arith}
 use borrow.Author.Needs.{needs}
 use Rattle.octets.specs.Groups.{groupsValue}
-use Rattle.octets.proofs.NumberTurns.{value-none, value-more, value-all, value-fits}
+use Rattle.octets.proofs.GroupTurns.{value-none, value-more, value-all, value-fits}
 use Rattle.octets.proofs.groups.groups_value.Statement.{statement}
 use Rattle.octets.proofs.groups.groups_value.Tie as tie
 

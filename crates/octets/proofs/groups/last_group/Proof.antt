@@ -2,7 +2,7 @@ use Prim.Native.Nat.{_-_, _≤_}
 use native.Mathlib.Omega.{arith}
 use borrow.Author.Needs.{needs}
 use Rattle.octets.specs.Groups.{LastAt}
-use Rattle.octets.proofs.NumberTurns.{last-none, last-more, last-here}
+use Rattle.octets.proofs.GroupTurns.{last-none, last-more, last-here}
 use Rattle.octets.proofs.groups.last_group.Statement.{statement}
 use Rattle.octets.proofs.groups.last_group.Tie as tie
 

@@ -1,6 +1,6 @@
+use borrow.Author.Tests.{eq-eqb, ne-eqb}
 use Rattle.octets.proofs.Within.{within}
 use Rattle.octets.specs.Ident.{identAt}
-use Rattle.laws.proofs.Cases.{cases}
 use mathlib.Core.Path.{sym, _∙_}
 use Prim.Native.Nat.{_-_}
 use native.Mathlib.Omega.{arith}
@@ -16,7 +16,7 @@ enum-known-tag c = search needs
 
 returns : tie.Need-returns
 unfolding identAt
-returns c = let found = sym (c .before .before .before .before .head-at .ensures) ∙ c .before .before .tag .given .1 in search (cases, found)
+returns c = let found = sym (c .before .before .before .before .head-at .ensures) ∙ c .before .before .tag .given .1 in rw (found, ne-eqb _ _ (c .if1 .taken))
 
 sub-ident-in : tie.Need-sub-ident-in
 sub-ident-in c = let found = sym (c .before .before .before .before .head-at .ensures) ∙ c .before .before .tag .given .1 in omega (arith, rw found at (within (c .before .before .before .before .before .before .args .depth) (c .before .before .before .before .before .before .args .s .now) (c .before .before .before .before .before .before .args .at) (c .before .before .before .before .before .before .args .end)))
@@ -29,11 +29,11 @@ enum-told c = search needs
 
 returns-2 : tie.Need-returns-2
 unfolding identAt
-returns-2 c = let found = sym (c .before .before .before .before .before .head-at .ensures) ∙ c .before .before .before .tag .given .1 in search (cases, found, c .ident-in .ensures)
+returns-2 c = let found = sym (c .before .before .before .before .before .head-at .ensures) ∙ c .before .before .before .tag .given .1 in rw (found, eq-eqb _ _ (c .before .if1 .left)) (c .ident-in .ensures)
 
 returns-3 : tie.Need-returns-3
 unfolding identAt
-returns-3 c = search (cases, ← c .before .before .head-at .ensures, c .enum-told .given .1)
+returns-3 c = rw (sym (c .before .before .head-at .ensures) ∙ c .enum-told .given .1)
 
 pub ident-at-spec : {M : Type 1} → statement M
 ident-at-spec =

@@ -2,7 +2,7 @@ use Prim.Native.Nat.{ℕ, _+_, _-_, _*_, _<_}
 use mathlib.Core.Path.{_≡_, refl, sym, _∙_}
 use native.Mathlib.Omega.{arith}
 use borrow.Author.Needs.{needs}
-use Rattle.laws.proofs.Cases.{cases}
+use borrow.Author.Tests.{eq-eqb, ne-eqb}
 use Rattle.octets.specs.Skip.{skipContents}
 use Rattle.octets.proofs.Within.{within}
 use Rattle.octets.proofs.Skips.{further, contents-end, contents-step, element-step}
@@ -146,7 +146,7 @@ skip-element-returns : (t : ℕ) → skip-element-lts.Need-returns (
 skip-element-returns t c =
     let a = c .before .before .before .before .before .before .args in
     let found = sym (c .before .before .before .before .head-at .ensures) ∙ c .before .before .tag .given .1 in
-    search (cases, element-step (a .depth) (a .s .now) (a .at) (a .end), found)
+    rw (element-step (a .depth) (a .s .now) (a .at) (a .end), found, eq-eqb _ _ (c .if1 .taken))
 
 skip-element-sub-skip-contents : (t : ℕ) → skip-element-lts.Need-sub-skip-contents (
   head-at-reads.Asked,
@@ -188,7 +188,7 @@ skip-element-returns-2 t c =
     let a = c .before .before .before .before .before .before .before .before .args in
     let found = sym (c .before .before .before .before .before .before .head-at .ensures) ∙ c .before .before .before .before .tag .given .1 in
     let good = sym (c .before .skip-contents .ensures) ∙ c .if2 .taken in
-    search (cases, element-step (a .depth) (a .s .now) (a .at) (a .end), found, good)
+    rw (element-step (a .depth) (a .s .now) (a .at) (a .end), found, ne-eqb _ _ (c .before .before .if1 .left), good)
 
 skip-element-returns-3 : (t : ℕ) → skip-element-lts.Need-returns-3 (
   head-at-reads.Asked,
@@ -200,7 +200,7 @@ skip-element-returns-3 t c =
     let a = c .before .before .before .before .before .before .before .before .args in
     let found = sym (c .before .before .before .before .before .before .head-at .ensures) ∙ c .before .before .before .before .tag .given .1 in
     let good = sym (c .before .skip-contents .ensures) ∙ c .if2 .left in
-    search (cases, element-step (a .depth) (a .s .now) (a .at) (a .end), found, good)
+    rw (element-step (a .depth) (a .s .now) (a .at) (a .end), found, ne-eqb _ _ (c .before .before .if1 .left), good)
 
 skip-element-returns-4 : (t : ℕ) → skip-element-lts.Need-returns-4 (
   head-at-reads.Asked,

@@ -1,4 +1,4 @@
--- What the functions under `number_at` and `put_number` go by: the turns of their loops, and what the last group decides.
+-- What the functions under `groups_at` and `put_groups` go by: the turns of their loops, and what the last group decides.
 -- Assumes nothing.
 use Prim.Native.Nat.{ℕ, zero, suc, _+_, _-_, _*_, _/_, _%_, _^_, _≤_, _<_}
 use mathlib.Core.Path.{_≡_, refl, sym, ap, _∙_}
@@ -10,9 +10,9 @@ use native.Mathlib.Omega.{arith}
 use lib.ListN.{length, getD, set}
 use borrow.Author.Tests.{lt-ltb, le-ltb, ne-eqb}
 use Rattle.laws.specs.Over.{over, Wrote}
-use Rattle.octets.specs.Groups.{Found, found, nothing, groupsAt, told, numberAt, groups, LastAt, groupsMost, groupsValue}
+use Rattle.octets.specs.Groups.{Found, found, nothing, groupsIn, told, groupsAt, groups, LastAt, groupsMost, groupsValue}
 use Rattle.octets.specs.declared.groups.Groups.the-variants.{Is, Large, Bad}
-use Rattle.octets.proofs.Numbers.{groups-last, groups-infront, groups-shortest, groups-one, groups-more}
+use Rattle.octets.proofs.GroupLaws.{groups-last, groups-infront, groups-shortest, groups-one, groups-more}
 
 -- ---- the value of k groups
 
@@ -109,8 +109,8 @@ last-wider s at end last h l = record {
 
 -- no last group, no number
 groups-none :
-    (k : ℕ) (s : List ℕ) (at end : ℕ) → end ≡ at + k → LastAt s at end end → groupsAt k s at ≡ nothing
-unfolding groupsAt
+    (k : ℕ) (s : List ℕ) (at end : ℕ) → end ≡ at + k → LastAt s at end end → groupsIn k s at ≡ nothing
+unfolding groupsIn
 groups-none zero s at end e l = refl
 groups-none (suc k) s at end e l =
     groups-infront k s at (l .more at (omega arith) (omega arith))
@@ -119,7 +119,7 @@ groups-none (suc k) s at end e l =
 -- a last group of 0 behind others: not the shortest
 groups-zero :
     (j k : ℕ) (s : List ℕ) (at end last : ℕ) → last ≡ at + suc j → end ≡ at + k → LastAt s at end last → last < end →
-    getD s last 0 ≡ 0 → groupsAt k s at ≡ nothing
+    getD s last 0 ≡ 0 → groupsIn k s at ≡ nothing
 groups-zero j zero s at end last e f l lt z = absurd (omega arith)
 groups-zero zero (suc zero) s at end last e f l lt z = absurd (omega arith)
 groups-zero zero (suc (suc k)) s at end last e f l lt z =
@@ -134,7 +134,7 @@ groups-zero (suc j) (suc k) s at end last e f l lt z =
 -- any other last group
 groups-ends :
     (j k : ℕ) (s : List ℕ) (at end last : ℕ) → last ≡ at + j → end ≡ at + k → LastAt s at end last → last < end →
-    (getD s last 0 ≡ 0 → ⊥) → groupsAt k s at ≡ found (groupsValue (suc j) s at) (last + 1)
+    (getD s last 0 ≡ 0 → ⊥) → groupsIn k s at ≡ found (groupsValue (suc j) s at) (last + 1)
 unfolding groupsValue
 groups-ends j zero s at end last e f l lt some = absurd (omega arith)
 groups-ends zero (suc k) s at end last e f l lt some =
@@ -151,65 +151,65 @@ groups-ends (suc j) (suc k) s at end last e f l lt some =
       ne-eqb rest 0 (value-some j s (at + 1) last e′ (l .last lt) some),
     )
 
--- ---- the ways out of `number_at`
+-- ---- the ways out of `groups_at`
 module _ (s : List ℕ) (at end : ℕ) (in-s : end ≤ length s) where
-  number-told : {x : Found} → groupsAt (end - at) s at ≡ x → numberAt s at end ≡ told x
-  unfolding numberAt
-  number-told e = rw (le-ltb (length s) end in-s, e)
+  groups-at-told : {x : Found} → groupsIn (end - at) s at ≡ x → groupsAt s at end ≡ told x
+  unfolding groupsAt
+  groups-at-told e = rw (le-ltb (length s) end in-s, e)
 
   -- no octet left
-  pub number-empty : end ≤ at → numberAt s at end ≡ Bad
-  unfolding groupsAt
-  number-empty h = let none : end - at ≡ 0 = omega arith in number-told {x = nothing} (rw none)
+  pub groups-at-empty : end ≤ at → groupsAt s at end ≡ Bad
+  unfolding groupsIn
+  groups-at-empty h = let none : end - at ≡ 0 = omega arith in groups-at-told {x = nothing} (rw none)
 
   -- one group
-  pub number-first : at < end → getD s at 0 < 128 → numberAt s at end ≡ Is (getD s at 0) (at + 1)
-  number-first lt small =
+  pub groups-at-first : at < end → getD s at 0 < 128 → groupsAt s at end ≡ Is (getD s at 0) (at + 1)
+  groups-at-first lt small =
       let some : end - at ≡ suc (end - at - 1) = omega arith in
-      number-told {x = found (getD s at 0) (at + 1)} (rw some (groups-last (end - at - 1) s at small))
+      groups-at-told {x = found (getD s at 0) (at + 1)} (rw some (groups-last (end - at - 1) s at small))
       ∙ rw (lt-ltb (getD s at 0) (2 ^ 32) (omega arith))
 
   module _ (last : ℕ) (lt : at < end) (big : 128 ≤ getD s at 0) (l : LastAt s (at + 1) end last) where
     -- the last group is missing
-    pub number-open : end ≤ last → numberAt s at end ≡ Bad
-    number-open h =
+    pub groups-at-open : end ≤ last → groupsAt s at end ≡ Bad
+    groups-at-open h =
         let same : last ≡ end = omega (arith, l .within) in
         let l′ : LastAt s at end end = rw same at (last-wider s at end last big l) in
-        number-told (groups-none (end - at) s at end (omega arith) l′)
+        groups-at-told (groups-none (end - at) s at end (omega arith) l′)
 
     -- the last group is 0
-    pub number-zero : last < end → getD s last 0 ≡ 0 → numberAt s at end ≡ Bad
-    number-zero h z =
+    pub groups-at-zero : last < end → getD s last 0 ≡ 0 → groupsAt s at end ≡ Bad
+    groups-at-zero h z =
         let l′ : LastAt s at end last = last-wider s at end last big l in
-        number-told (groups-zero (last - at - 1) (end - at) s at end last (omega (arith, l .from)) (omega arith) l′ h z)
+        groups-at-told (groups-zero (last - at - 1) (end - at) s at end last (omega (arith, l .from)) (omega arith) l′ h z)
 
-    number-found :
+    groups-at-found :
         last < end → (getD s last 0 ≡ 0 → ⊥) →
-        groupsAt (end - at) s at ≡ found (groupsValue (last + 1 - at) s at) (last + 1)
-    number-found h some =
+        groupsIn (end - at) s at ≡ found (groupsValue (last + 1 - at) s at) (last + 1)
+    groups-at-found h some =
         let l′ : LastAt s at end last = last-wider s at end last big l in
         let count : last + 1 - at ≡ suc (last - at) = omega (arith, l .from) in
         rw count (groups-ends (last - at) (end - at) s at end last (omega (arith, l .from)) (omega arith) l′ h some)
 
     -- any other number
-    pub number-ends :
+    pub groups-at-ends :
         last < end → (getD s last 0 ≡ 0 → ⊥) →
-        numberAt s at end ≡ told (found (groupsValue (last + 1 - at) s at) (last + 1))
-    number-ends h some = number-told (number-found h some)
+        groupsAt s at end ≡ told (found (groupsValue (last + 1 - at) s at) (last + 1))
+    groups-at-ends h some = groups-at-told (groups-at-found h some)
 
     -- more groups than a number below 2 ^ 32 has
-    pub number-large :
+    pub groups-at-large :
         last < end → (getD s last 0 ≡ 0 → ⊥) → groupsMost < last + 1 - at →
-        numberAt s at end ≡ Large (last + 1)
-    number-large h some many =
+        groupsAt s at end ≡ Large (last + 1)
+    groups-at-large h some many =
         let v : ℕ = groupsValue (last + 1 - at) s at in
         let least : 128 ^ (last - at) ≤ v =
-        groups-shortest (end - at) s at v (last + 1) (last - at) (number-found h some) (omega arith) (omega arith) in
+        groups-shortest (end - at) s at v (last + 1) (last - at) (groups-at-found h some) (omega arith) (omega arith) in
         let most : groupsMost ≤ last - at = omega arith in
         let power : 128 ^ groupsMost ≤ 128 ^ (last - at) = pow-le-pow-right (omega arith) most in
-        number-ends h some ∙ rw (le-ltb v (2 ^ 32) (omega arith))
+        groups-at-ends h some ∙ rw (le-ltb v (2 ^ 32) (omega arith))
 
--- ---- the turns of `put_number`
+-- ---- the turns of `put_groups`
 
 -- one group counted, or written, and as many left as there were
 pub size-more :

@@ -12,7 +12,7 @@ use Rattle.laws.specs.Pick.{pick}
 use Rattle.laws.specs.Stands.{Stands}
 use Rattle.laws.proofs.Picks.{pick-ind}
 use Rattle.laws.proofs.Stands.{stands-first, stands-right, stands-nil, stands-cons}
-use Rattle.octets.specs.Groups.{Found, found, nothing, infront, groupsAt, numberAt, groupsWith, groups}
+use Rattle.octets.specs.Groups.{Found, found, nothing, infront, groupsIn, groupsAt, groupsWith, groups}
 use Rattle.octets.specs.declared.groups.Groups.the-variants.{Is}
 
 -- ---- what is read
@@ -37,8 +37,8 @@ infront-takes k at b (found v next) t =
     })
 infront-takes k at b nothing t = tt
 
-takes-if : (k : ℕ) (s : List ℕ) (at : ℕ) → TakesIf k at (groupsAt k s at)
-unfolding groupsAt
+takes-if : (k : ℕ) (s : List ℕ) (at : ℕ) → TakesIf k at (groupsIn k s at)
+unfolding groupsIn
 takes-if zero s at = tt
 takes-if (suc k) s at =
     pick-ind (TakesIf (suc k) at) (ltb (getD s at 0) 128)
@@ -47,10 +47,10 @@ takes-if (suc k) s at =
       starts = omega arith;
       stops = omega arith;
     })
-    (λ _. infront-takes k at (getD s at 0) (groupsAt k s (at + 1)) (takes-if k s (at + 1)))
+    (λ _. infront-takes k at (getD s at 0) (groupsIn k s (at + 1)) (takes-if k s (at + 1)))
 
 -- the bound: a number of at most k groups is below 128 ^ k, and takes at least one octet and at most k
-pub groups-bound : (k : ℕ) (s : List ℕ) (at v next : ℕ) → groupsAt k s at ≡ found v next → Takes k at v next
+pub groups-bound : (k : ℕ) (s : List ℕ) (at v next : ℕ) → groupsIn k s at ≡ found v next → Takes k at v next
 groups-bound k s at v next e = rw e at (takes-if k s at)
 
 abbrev Least : ℕ → ℕ → ℕ → Type 0
@@ -65,12 +65,12 @@ infront-least at b v next h some zero e pos = omega arith
 infront-least at b v next h some (suc zero) e pos = omega arith
 infront-least at b v next h some (suc (suc j)) e pos = omega (arith, h (suc j) (omega arith) (omega arith))
 
-least-if : (k : ℕ) (s : List ℕ) (at : ℕ) → LeastIf at (groupsAt k s at)
-unfolding groupsAt
+least-if : (k : ℕ) (s : List ℕ) (at : ℕ) → LeastIf at (groupsIn k s at)
+unfolding groupsIn
 least-if zero s at = tt
 least-if (suc k) s at =
     pick-ind (LeastIf at) (ltb (getD s at 0) 128) (λ _ j e pos. absurd (omega arith))
-    (λ _. under (groupsAt k s (at + 1)) (least-if k s (at + 1)))
+    (λ _. under (groupsIn k s (at + 1)) (least-if k s (at + 1)))
   where
     under : (x : Found) → LeastIf (at + 1) x → LeastIf at (infront (getD s at 0 % 128) x)
     under (found v next) h =
@@ -79,7 +79,7 @@ least-if (suc k) s at =
 
 -- the shortest: a number that took j + 1 groups, j not 0, needs them all
 pub groups-shortest :
-    (k : ℕ) (s : List ℕ) (at v next j : ℕ) → groupsAt k s at ≡ found v next → next ≡ at + suc j → 0 < j →
+    (k : ℕ) (s : List ℕ) (at v next j : ℕ) → groupsIn k s at ≡ found v next → next ≡ at + suc j → 0 < j →
     128 ^ j ≤ v
 groups-shortest k s at v next j e = rw e at (least-if k s at) j
 
@@ -131,15 +131,15 @@ groups-length k n h = rw (groups-enough k n h) at (with-length k n)
 
 -- one group, which ends the number
 pub groups-last :
-    (k : ℕ) (s : List ℕ) (at : ℕ) → getD s at 0 < 128 → groupsAt (suc k) s at ≡ found (getD s at 0) (at + 1)
-unfolding groupsAt
+    (k : ℕ) (s : List ℕ) (at : ℕ) → getD s at 0 < 128 → groupsIn (suc k) s at ≡ found (getD s at 0) (at + 1)
+unfolding groupsIn
 groups-last k s at h = rw (lt-ltb (getD s at 0) 128 h)
 
 -- a group in front of others, of which more follow
 pub groups-infront :
     (k : ℕ) (s : List ℕ) (at : ℕ) → 128 ≤ getD s at 0 →
-    groupsAt (suc k) s at ≡ infront (getD s at 0 % 128) (groupsAt k s (at + 1))
-unfolding groupsAt
+    groupsIn (suc k) s at ≡ infront (getD s at 0 % 128) (groupsIn k s (at + 1))
+unfolding groupsIn
 groups-infront k s at h = rw (le-ltb (getD s at 0) 128 h)
 
 small-or-not : {P : Type 0} (n : ℕ) → (n < 128 → P) → (128 ≤ n → P) → P
@@ -149,7 +149,7 @@ small-or-not {P} n f g =
 -- the round trip: a number that stands somewhere in its groups is read as that number
 pub groups-back :
     (n k : ℕ) (s : List ℕ) (at : ℕ) → Stands s at (groups n) → length (groups n) ≤ k →
-    groupsAt k s at ≡ found n (at + length (groups n))
+    groupsIn k s at ≡ found n (at + length (groups n))
 groups-back n zero s at st le =
     small-or-not n (λ h. absurd (omega (arith, ap length (groups-one n h))))
     (λ h. absurd (omega (arith, ap length (groups-more n h))))
@@ -178,11 +178,11 @@ groups-back n (suc k) s at st le =
     ))
 
 -- a number below 2 ^ 32 that stands before `end` is told
-pub number-back :
+pub groups-at-back :
     (n : ℕ) (s : List ℕ) (at end : ℕ) → n < 2 ^ 32 → Stands s at (groups n) → at + length (groups n) ≤ end →
-    end ≤ length s → numberAt s at end ≡ Is n (at + length (groups n))
-unfolding numberAt
-number-back n s at end small st fit in-s =
+    end ≤ length s → groupsAt s at end ≡ Is n (at + length (groups n))
+unfolding groupsAt
+groups-at-back n s at end small st fit in-s =
     rw (le-ltb (length s) end in-s, groups-back n (end - at) s at st (omega arith), lt-ltb n (2 ^ 32) small)
 
 -- ---- nothing else is read
@@ -223,12 +223,12 @@ only-infront s at v next big some h o =
       ends = omega (arith, inner .ends);
     })
 
-only-if : (k : ℕ) (s : List ℕ) (at : ℕ) → OnlyIf s at (groupsAt k s at)
-unfolding groupsAt
+only-if : (k : ℕ) (s : List ℕ) (at : ℕ) → OnlyIf s at (groupsIn k s at)
+unfolding groupsIn
 only-if zero s at = tt
 only-if (suc k) s at =
     pick-ind (OnlyIf s at) (ltb (getD s at 0) 128) (λ e _. only-last s at (ltb-true (getD s at 0) 128 e))
-    (λ e. under (ltb-false (getD s at 0) 128 e) (groupsAt k s (at + 1)) (only-if k s (at + 1)))
+    (λ e. under (ltb-false (getD s at 0) 128 e) (groupsIn k s (at + 1)) (only-if k s (at + 1)))
   where
     under : 128 ≤ getD s at 0 → (x : Found) → OnlyIf s (at + 1) x → OnlyIf s at (infront (getD s at 0 % 128) x)
     under big (found v next) h =
@@ -238,5 +238,5 @@ only-if (suc k) s at =
 -- what is accepted is exactly what is written: the octets of a number that is read are its groups
 pub groups-only :
     (k : ℕ) (s : List ℕ) (at v next : ℕ) → ((i : ℕ) → at ≤ i → i < next → getD s i 0 < 256) →
-    groupsAt k s at ≡ found v next → StandsTo s at (groups v) next
+    groupsIn k s at ≡ found v next → StandsTo s at (groups v) next
 groups-only k s at v next o e = rw e at (only-if k s at) o

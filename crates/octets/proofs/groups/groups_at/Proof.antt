@@ -2,17 +2,17 @@ use mathlib.Core.Path.{sym}
 use borrow.Author.Tests.{lt-ltb, le-ltb}
 use borrow.Author.Needs.{needs}
 use Rattle.laws.proofs.Cases.{cases}
-use Rattle.octets.specs.Groups.{numberAt}
-use Rattle.octets.proofs.NumberTurns.{number-empty, number-first, number-open, number-zero, number-large, number-ends}
-use Rattle.octets.proofs.groups.number_at.Statement.{statement}
-use Rattle.octets.proofs.groups.number_at.Tie as tie
+use Rattle.octets.specs.Groups.{groupsAt}
+use Rattle.octets.proofs.GroupTurns.{groups-at-empty, groups-at-first, groups-at-open, groups-at-zero, groups-at-large, groups-at-ends}
+use Rattle.octets.proofs.groups.groups_at.Statement.{statement}
+use Rattle.octets.proofs.groups.groups_at.Tie as tie
 
 returns : tie.Need-returns
-unfolding numberAt
+unfolding groupsAt
 returns c = search cases
 
 returns-2 : tie.Need-returns-2
-returns-2 c = sym (number-empty _ _ _ (c .before .if1 .left) (c .if2 .taken))
+returns-2 c = sym (groups-at-empty _ _ _ (c .before .if1 .left) (c .if2 .taken))
 
 shared-slice-read-first : tie.Need-shared-slice-read-first
 shared-slice-read-first c = search needs
@@ -24,7 +24,7 @@ add-t15 : tie.Need-add-t15
 add-t15 c = search needs
 
 returns-3 : tie.Need-returns-3
-returns-3 c = sym (number-first _ _ _ (c .before .before .before .if1 .left) (c .before .before .if2 .left) (c .if3 .taken))
+returns-3 c = sym (groups-at-first _ _ _ (c .before .before .before .if1 .left) (c .before .before .if2 .left) (c .if3 .taken))
 
 add-last-group : tie.Need-add-last-group
 add-last-group c = search needs
@@ -33,14 +33,14 @@ last-group-requires : tie.Need-last-group-requires
 last-group-requires c κs = search needs
 
 returns-4 : tie.Need-returns-4
-returns-4 c = sym (number-open _ _ _ (c .before .before .before .before .before .if1 .left) _ (c .before .before .before .before .if2 .left) (c .before .before .if3 .left) (c .before .last-group .ensures) (c .if4 .taken))
+returns-4 c = sym (groups-at-open _ _ _ (c .before .before .before .before .before .if1 .left) _ (c .before .before .before .before .if2 .left) (c .before .before .if3 .left) (c .before .last-group .ensures) (c .if4 .taken))
 
 shared-slice-read-top : tie.Need-shared-slice-read-top
 shared-slice-read-top c = search needs
 
 returns-5 : tie.Need-returns-5
 returns-5 c = let d = c .before .before in
-    sym (number-zero _ _ _ (d .before .before .before .before .before .if1 .left) _ (d .before .before .before .before .if2 .left) (d .before .before .if3 .left) (d .before .last-group .ensures) (d .if4 .left) (c .if5 .taken))
+    sym (groups-at-zero _ _ _ (d .before .before .before .before .before .if1 .left) _ (d .before .before .before .before .if2 .left) (d .before .before .if3 .left) (d .before .last-group .ensures) (d .if4 .left) (c .if5 .taken))
 
 add-next : tie.Need-add-next
 add-next c = search needs
@@ -50,7 +50,7 @@ sub-k c = search needs
 
 returns-6 : tie.Need-returns-6
 returns-6 c = let d = c .before .before .before in
-    sym (number-large _ _ _ (d .before .before .before .before .before .if1 .left) _ (d .before .before .before .before .if2 .left) (d .before .before .if3 .left) (d .before .last-group .ensures) (d .if4 .left) (c .before .if5 .left) (c .if6 .taken))
+    sym (groups-at-large _ _ _ (d .before .before .before .before .before .if1 .left) _ (d .before .before .before .before .if2 .left) (d .before .before .if3 .left) (d .before .last-group .ensures) (d .if4 .left) (c .before .if5 .left) (c .if6 .taken))
 
 groups-value-requires : tie.Need-groups-value-requires
 groups-value-requires c κs = search needs
@@ -61,7 +61,7 @@ cast-t18 c = search needs
 returns-7 : tie.Need-returns-7
 returns-7 c = let d = c .before .before .before .before .before in
     rw (
-      number-ends _ _ _ (d .before .before .before .before .before .if1 .left) _ (d .before .before .before .before .if2 .left) (d .before .before .if3 .left) (d .before .last-group .ensures) (d .if4 .left) (c .before .before .before .if5 .left),
+      groups-at-ends _ _ _ (d .before .before .before .before .before .if1 .left) _ (d .before .before .before .before .if2 .left) (d .before .before .if3 .left) (d .before .last-group .ensures) (d .if4 .left) (c .before .before .before .if5 .left),
       ← c .before .groups-value .ensures,
       lt-ltb _ _ (c .if7 .taken),
     )
@@ -69,13 +69,13 @@ returns-7 c = let d = c .before .before .before .before .before in
 returns-8 : tie.Need-returns-8
 returns-8 c = let d = c .before .before .before .before .before in
     rw (
-      number-ends _ _ _ (d .before .before .before .before .before .if1 .left) _ (d .before .before .before .before .if2 .left) (d .before .before .if3 .left) (d .before .last-group .ensures) (d .if4 .left) (c .before .before .before .if5 .left),
+      groups-at-ends _ _ _ (d .before .before .before .before .before .if1 .left) _ (d .before .before .before .before .if2 .left) (d .before .before .if3 .left) (d .before .last-group .ensures) (d .if4 .left) (c .before .before .before .if5 .left),
       ← c .before .groups-value .ensures,
       le-ltb _ _ (c .if7 .left),
     )
 
-pub number-at-spec : {M : Type 1} → statement M
-number-at-spec =
+pub groups-at-spec : {M : Type 1} → statement M
+groups-at-spec =
     tie.close
     (tie.spec
     returns

@@ -5,9 +5,9 @@ use borrow.Author.Needs.{needs}
 use lib.ListN.{length, length-set}
 use Rattle.laws.specs.Over.{over}
 use Rattle.octets.specs.Groups.{groups}
-use Rattle.octets.proofs.NumberTurns.{size-more, size-last, over-group, wrote-last}
-use Rattle.octets.proofs.groups.write_number.Statement.{statement}
-use Rattle.octets.proofs.groups.write_number.Tie as tie
+use Rattle.octets.proofs.GroupTurns.{size-more, size-last, over-group, wrote-last}
+use Rattle.octets.proofs.groups.write_groups.Statement.{statement}
+use Rattle.octets.proofs.groups.write_groups.Tie as tie
 
 abbrev Inv-loop : tie.InvT-loop
 Inv-loop out₀ at n rest₀ p₀ out rest p =
@@ -54,8 +54,8 @@ returns c = let d = c .before .before .before .before in
     let l = d .before .loop in
     wrote-last (d .loop-test .left) (l .inv .1) (l .inv .2) (c .before .before .write-octet .ensures)
 
-pub write-number-spec : {M : Type 1} → statement M
-write-number-spec =
+pub write-groups-spec : {M : Type 1} → statement M
+write-groups-spec =
     tie.close
     (tie.spec
     Inv-loop

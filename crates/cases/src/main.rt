@@ -1,0 +1,40 @@
+// Reads cases from standard input, one to a line, and prints what the library answers to each. What it must answer stands in
+// the file stdout, written by hand from document 01; docs/ARCHITECTURE.md says how a line is built.
+mod line;
+mod readers;
+mod say;
+mod writers;
+
+use readers::Reader;
+
+fn main() {
+    let mut space = io::large_buffer();
+    let n = io::read_full(libc::STDIN_FILENO, &mut space);
+    each_line(&space[..n]);
+}
+
+fn each_line(s: &[u8]) {
+    let mut at = 0;
+    while at < s.len() {
+        let end = line::find(s, at, b'\n');
+        case(&s[at..end]);
+        say::text(b"\n");
+        at = end + 1;
+    }
+}
+
+fn case(text: &[u8]) {
+    let end = line::find(text, 0, b' ');
+    let by = readers::reader_of(&text[..end]);
+    match by {
+        Reader::Unknown => {
+            let by = writers::writer_of(&text[..end]);
+            writers::with_and_without_room(by, text);
+        }
+        _ => {
+            let mut octets = [0u8; 512];
+            let n = line::octets(text, end, &mut octets);
+            readers::whole_and_cut(by, &octets[..n]);
+        }
+    }
+}

@@ -1,0 +1,152 @@
+// The reading cases of the crate octets: each is read whole, and then cut at every octet.
+use crate::say;
+use octets::Enumerated;
+use octets::Groups;
+use octets::Head;
+use octets::Ident;
+use octets::Skip;
+
+// A reader of the crate octets.
+pub(crate) enum Reader {
+    Element,
+    Enumerated,
+    Identifier,
+    Skip,
+    Groups,
+    Unknown,
+}
+
+pub(crate) fn reader_of(word: &[u8]) -> Reader {
+    if check::same(word, b"element") {
+        return Reader::Element;
+    }
+    if check::same(word, b"enumerated") {
+        return Reader::Enumerated;
+    }
+    if check::same(word, b"identifier") {
+        return Reader::Identifier;
+    }
+    if check::same(word, b"skip") {
+        return Reader::Skip;
+    }
+    if check::same(word, b"groups") {
+        return Reader::Groups;
+    }
+    Reader::Unknown
+}
+
+// Prints what is read of `s`, and a mark for each cut: whether it is read too.
+pub(crate) fn whole_and_cut(by: Reader, s: &[u8]) {
+    reads(by, s, true);
+    say::text(b" cuts");
+    let mut i = 0;
+    while i < s.len() {
+        if i == 0 {
+            say::text(b" ");
+        }
+        if reads(by, &s[..i], false) {
+            say::text(b"+");
+        } else {
+            say::text(b".");
+        }
+        i += 1;
+    }
+}
+
+// Whether `s` is read; what is read is printed where `told` says so.
+fn reads(by: Reader, s: &[u8], told: bool) -> bool {
+    match by {
+        Reader::Element => element(s, told),
+        Reader::Enumerated => enumerated(s, told),
+        Reader::Identifier => identifier(s, told),
+        Reader::Skip => skipped(s, told),
+        Reader::Groups => groups(s, told),
+        Reader::Unknown => refused(b"unknown", told),
+    }
+}
+
+fn element(s: &[u8], told: bool) -> bool {
+    match octets::head_at(s, 0, s.len(), 1) {
+        Head::Is {
+            tag,
+            start,
+            stop,
+            next,
+        } => {
+            if told {
+                say::text(b"tag ");
+                say::octet(tag);
+                say::place(b" contents ", start);
+                say::place(b" ", stop);
+                say::place(b" next ", next);
+            }
+            true
+        }
+        Head::Bad => refused(b"bad", told),
+    }
+}
+
+fn enumerated(s: &[u8], told: bool) -> bool {
+    match octets::enumerated_at(s, 0, s.len(), 1) {
+        Enumerated::Is { value, next } => {
+            if told {
+                say::place(b"is ", value as usize);
+                say::place(b" next ", next);
+            }
+            true
+        }
+        Enumerated::Unreadable => refused(b"unreadable", told),
+    }
+}
+
+fn identifier(s: &[u8], told: bool) -> bool {
+    match octets::ident_at(s, 0, s.len(), 1) {
+        Ident::Is { value, next } => {
+            if told {
+                say::text(b"is ");
+                say::signed(value);
+                say::place(b" next ", next);
+            }
+            true
+        }
+        Ident::Unreadable => refused(b"unreadable", told),
+    }
+}
+
+fn skipped(s: &[u8], told: bool) -> bool {
+    match octets::skip_at(s, 0, s.len()) {
+        Skip::To(next) => {
+            if told {
+                say::place(b"to ", next);
+            }
+            true
+        }
+        Skip::Wrong => refused(b"wrong", told),
+    }
+}
+
+fn groups(s: &[u8], told: bool) -> bool {
+    match octets::groups_at(s, 0, s.len()) {
+        Groups::Is { value, next } => {
+            if told {
+                say::place(b"is ", value as usize);
+                say::place(b" next ", next);
+            }
+            true
+        }
+        Groups::Large { next } => {
+            if told {
+                say::place(b"large next ", next);
+            }
+            true
+        }
+        Groups::Bad => refused(b"bad", told),
+    }
+}
+
+fn refused(word: &[u8], told: bool) -> bool {
+    if told {
+        say::text(word);
+    }
+    false
+}

@@ -1,0 +1,48 @@
+// What is printed.
+
+pub(crate) fn text(s: &[u8]) {
+    io::write_all(libc::STDOUT_FILENO, s);
+}
+
+pub(crate) fn decimal(n: usize) {
+    io::print_decimal(libc::STDOUT_FILENO, n as u64);
+}
+
+// The digit for `n % 16`.
+fn glyph(n: u8) -> u8 {
+    let d = n % 16;
+    if d < 10 { b'0' + d } else { b'A' + (d - 10) }
+}
+
+// An octet in hexadecimal.
+pub(crate) fn octet(b: u8) {
+    text(&[glyph(b / 16), glyph(b)]);
+}
+
+// Octets in hexadecimal, separated by spaces.
+pub(crate) fn octets(s: &[u8]) {
+    let mut i = 0;
+    while i < s.len() {
+        if 0 < i {
+            text(b" ");
+        }
+        octet(s[i]);
+        i += 1;
+    }
+}
+
+// A number with its sign.
+pub(crate) fn signed(v: i16) {
+    if v < 0 {
+        text(b"-");
+        decimal(((-1 - v) as usize) + 1);
+    } else {
+        decimal(v as usize);
+    }
+}
+
+// The word before a place, and the place.
+pub(crate) fn place(word: &[u8], at: usize) {
+    text(word);
+    decimal(at);
+}

@@ -1,0 +1,101 @@
+// The writing cases of the crate octets: each is written between octets that must stay, and then into every smaller room.
+use crate::line;
+use crate::say;
+
+// A writer of the crate octets.
+pub(crate) enum Writer {
+    Head,
+    Enumerated,
+    Identifier,
+    Groups,
+    Unknown,
+}
+
+// Room for what is written; where it is written, so that octets stand before it too; and what all octets hold beforehand.
+const SIZE: usize = 16;
+
+const AT: usize = 3;
+
+const BEFORE: u8 = 0xAA;
+
+pub(crate) fn writer_of(word: &[u8]) -> Writer {
+    if check::same(word, b"write-head") {
+        return Writer::Head;
+    }
+    if check::same(word, b"write-enumerated") {
+        return Writer::Enumerated;
+    }
+    if check::same(word, b"write-identifier") {
+        return Writer::Identifier;
+    }
+    if check::same(word, b"write-groups") {
+        return Writer::Groups;
+    }
+    Writer::Unknown
+}
+
+// Prints what is written for the words of `line`, and a mark for each smaller room: whether nothing was altered.
+pub(crate) fn with_and_without_room(by: Writer, line: &[u8]) {
+    let mut out = [BEFORE; 16];
+    let next = writes(by, &mut out, line);
+    if SIZE < next {
+        return;
+    }
+    if next < AT {
+        return;
+    }
+    say::octets(&out[AT..next]);
+    say::text(b" room ");
+    let mut size = AT;
+    while size < next {
+        smaller(by, size, line);
+        size += 1;
+    }
+    if !untouched(&out, AT, next) {
+        say::text(b"!");
+    }
+}
+
+// A room of `size` octets is too small: the answer is the place it began at, and every octet stays.
+fn smaller(by: Writer, size: usize, line: &[u8]) {
+    let mut out = [BEFORE; 16];
+    if SIZE < size {
+        return;
+    }
+    let next = writes(by, &mut out[..size], line);
+    if next != AT {
+        say::text(b"!");
+        return;
+    }
+    if untouched(&out, 0, 0) {
+        say::text(b".");
+    } else {
+        say::text(b"!");
+    }
+}
+
+// Whether every octet of `s` but those from `from` up to `to` is as it was.
+fn untouched(s: &[u8], from: usize, to: usize) -> bool {
+    let mut i = 0;
+    while i < s.len() {
+        let inside = from <= i && i < to;
+        if !inside {
+            if s[i] != BEFORE {
+                return false;
+            }
+        }
+        i += 1;
+    }
+    true
+}
+
+fn writes(by: Writer, out: &mut [u8], line: &[u8]) -> usize {
+    let number = line::number(line);
+    match by {
+        Writer::Head => octets::put_head(out, AT, line::tag(line), (number % 65536) as u16),
+        Writer::Enumerated => octets::put_enumerated(out, AT, (number % 256) as u8),
+        Writer::Identifier => octets::put_ident(out, AT, line::identifier(line)),
+        Writer::Groups => octets::put_groups(out, AT, number),
+        Writer::Unknown => AT,
+    }
+}
