@@ -89,6 +89,17 @@ wrote {xs} {at} {ws} h p =
     let fits : room xs at ws ≡ true = le-leb (at + length ws) (length xs) h in
     record { moved = rw fits at (p .moved); holds = rw fits at (p .holds) }
 
+-- two writers, one after the other, the second of them offered to all: room for both is room for it
+pub then-put :
+    {xs : List ℕ} {at : ℕ} {ws : List ℕ} {p : ℕ} {ys : List ℕ} {vs : List ℕ} {q : ℕ} {zs : List ℕ} →
+    at + length (ws ++ vs) ≤ length xs →
+    Wrote xs at ws p ys →
+    Puts ys p vs q zs →
+    Wrote xs at (ws ++ vs) q zs
+then-put {xs} {at} {ws} {p} {ys} {vs} h a b =
+    let long : length ys ≡ length xs = ap length (a .holds) ∙ length-over xs at ws in
+    then a (wrote (omega (arith, a .moved, length-append ws vs)) b)
+
 -- the two ways out of a writer that is offered to all
 pub puts-all :
     {xs : List ℕ} {at : ℕ} {ws : List ℕ} {next : ℕ} {ys : List ℕ} →

@@ -1,4 +1,5 @@
 pub mod Pick
 pub mod Fewest
+pub mod Got
 pub mod Over
 pub mod Stands

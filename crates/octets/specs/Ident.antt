@@ -6,6 +6,7 @@ use mathlib.Core.Bool.{Bool}
 use mathlib.Core.List.{List}
 use lib.IntN.{ℤ, pos, negsuc}
 use lib.Signed.{mag}
+use lib.ListN.{length}
 use lib.Dec.{ltb, eqb}
 use Rattle.laws.specs.Pick.{pick}
 use Rattle.laws.specs.Fewest.{fewest}
@@ -74,6 +75,10 @@ identOctets z = element identTag (identWith (identFewest z) z)
 -- what `ident_at` promises
 abbrev pub IdentAt : ℕ → List ℕ → ℕ → ℕ → Ident → Type 0
 IdentAt depth s at end r = r ≡ identAt depth s at end
+
+-- what `ident_size` promises
+abbrev pub IdentSize : ℤ → ℕ → Type 0
+IdentSize z r = r ≡ length (identOctets z)
 
 -- what `put_ident` promises
 abbrev pub PutIdent : List ℕ → ℕ → ℤ → ℕ → List ℕ → Type 0

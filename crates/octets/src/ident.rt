@@ -8,7 +8,7 @@ ghost use mathlib.Core.Path.{_≡_};
 ghost use Prim.Native.Nat.{_+_, _≤_, _<_};
 ghost use lib.ListN.{length};
 ghost use lib.Signed.{mag};
-ghost use Rattle.octets.specs.Ident.{half, twos, bits, identIn, identFewest, IdentAt, PutIdent};
+ghost use Rattle.octets.specs.Ident.{half, twos, bits, identIn, identFewest, IdentAt, IdentSize, PutIdent};
 
 const IDENTTAG: u8 = 0x02;
 
@@ -119,6 +119,13 @@ fn pattern(value: i16, half: usize) -> usize
 {
     let m = unsigned(value);
     if value < 0 { half + half - 1 - m } else { m }
+}
+
+// How many octets the element of an identifier takes.
+pub fn ident_size(value: i16) -> usize
+    ensures { λ r. ⌜ IdentSize value r ⌝ }
+{
+    2 + ident_fewest(value)
 }
 
 // The element of an identifier, in its shortest form.

@@ -18,6 +18,7 @@ pub use head::Head;
 pub use head::head_at;
 pub use ident::Ident;
 pub use ident::ident_at;
+pub use ident::ident_size;
 pub use ident::put_ident;
 pub use skip::Skip;
 pub use skip::skip_at;

@@ -8,7 +8,7 @@ use Rattle.laws.proofs.Over.{only-puts}
 use Rattle.octets.specs.Head.{HeadAt}
 use Rattle.octets.specs.Element.{PutHead, PutAll}
 use Rattle.octets.specs.Enumerated.{EnumeratedAt, PutEnumerated}
-use Rattle.octets.specs.Ident.{IdentAt, PutIdent}
+use Rattle.octets.specs.Ident.{IdentAt, IdentSize, PutIdent}
 use Rattle.octets.specs.Skip.{SkipAt}
 use Rattle.octets.specs.Groups.{GroupsAt, PutGroups}
 use Rattle.octets.specs.declared.head.Head.{Head}
@@ -29,6 +29,9 @@ module _ (depth : ℕ) (s : List ℕ) (at end : ℕ) where
 
   pub only-ident-at : {a b : Ident} → IdentAt depth s at end a → IdentAt depth s at end b → a ≡ b
   only-ident-at = both
+
+pub only-ident-size : (z : ℤ) {a b : ℕ} → IdentSize z a → IdentSize z b → a ≡ b
+only-ident-size z = both
 
 module _ (s : List ℕ) (at end : ℕ) where
   pub only-skip-at : {a b : Skip} → SkipAt s at end a → SkipAt s at end b → a ≡ b

@@ -1,0 +1,11 @@
+-- What a reader finds: a thing and the place after it, or nothing of the kind. Readers of parts are put together by `andThen`.
+use Prim.Native.Nat.{ℕ}
+
+pub data Got (A : Type 0) : Type 0 where
+  got : A → ℕ → Got A
+  wrong : Got A
+
+-- what is found, and then what `next` makes of it at the place after it
+abbrev pub andThen : {A B : Type 0} → Got A → (A → ℕ → Got B) → Got B
+andThen (got a place) next = next a place
+andThen wrong next = wrong
