@@ -68,7 +68,7 @@ module _ (step : ℕ → Skip) (end : ℕ) (moves : (at : ℕ) → Further at en
       (λ next p q. fills-same n m next q (omega arith) (omega arith)))
 
   -- before the end: one element, and then what is left
-  fills-step :
+  pub fills-step :
       (at : ℕ) → at < end →
       fills step (end - at) at end ≡ onward (λ next. fills step (end - next) next end) (step at)
   unfolding fills
@@ -78,11 +78,16 @@ module _ (step : ℕ → Skip) (end : ℕ) (moves : (at : ℕ) → Further at en
       (onward-same _ _ at end (step at) (moves at)
       (λ next p q. fills-same (end - at) (end - next) next q (omega arith) (omega arith)))
 
--- where nothing is left before `end`, contents are good exactly if they end there
+-- where nothing is left before `end`, elements fill it exactly if they end there
+pub fills-past :
+    (step : ℕ → Skip) (at end : ℕ) → end ≤ at → fills step (end - at) at end ≡ eqb at end
+unfolding fills
+fills-past step at end le = let none : end - at ≡ 0 = omega arith in rw none
+
 pub contents-end :
     (depth : ℕ) (s : List ℕ) (at end : ℕ) → end ≤ at → skipContents depth s at end ≡ eqb at end
-unfolding skipContents fills
-contents-end depth s at end le = let none : end - at ≡ 0 = omega arith in rw none
+unfolding skipContents
+contents-end depth s at end le = fills-past (λ a. skipElement depth s a end) at end le
 
 -- where something is left, contents are one element and then good contents from where it ends
 pub contents-step :
