@@ -2,4 +2,5 @@ pub mod Cases
 pub mod Picks
 pub mod Fewest
 pub mod Over
+pub mod Parts
 pub mod Stands

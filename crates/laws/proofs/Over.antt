@@ -8,8 +8,8 @@ use native.Mathlib.Nat.{add-suc, suc-add, add-zero}
 use native.Mathlib.Numerals.{add-one}
 use native.Mathlib.Omega.{arith}
 use lib.ListN.{length, take, drop, getD, set, length-append}
-use lib.Seq.{sets, sets-eq, length-sets, set-comm, take-suc, length-take-le}
-use borrow.Author.Tests.{le-leb, lt-leb}
+use lib.Seq.{sets, sets-eq, length-sets, set-comm, take-suc, take-append-seam, length-take-le}
+use borrow.Author.Tests.{le-leb, lt-leb, leb-true}
 use Rattle.laws.specs.Pick.{pick}
 use Rattle.laws.specs.Over.{over, room, Wrote, Puts}
 use Rattle.laws.proofs.Picks.{both}
@@ -46,6 +46,11 @@ pub over-eq :
 unfolding over
 over-eq xs at ws h = sets-eq ws xs at h
 
+-- what was written from the start of a list on are its first octets
+pub take-over : (xs ws : List ℕ) → length ws ≤ length xs → take (length ws) (over xs 0 ws) ≡ ws
+take-over xs ws h =
+    rw (over-eq xs 0 ws (omega arith)) (take-append-seam ws (drop (0 + length ws) xs))
+
 -- an octet behind the octets may be written first
 pub over-set :
     (xs : List ℕ) (at : ℕ) (ws : List ℕ) (j w : ℕ) → at + length ws ≤ j →
@@ -78,6 +83,11 @@ over-more xs at src i h =
     ∙ over-over xs at (take i src) (getD src i 0 ∷ [])
     ∙ rw (take-suc src i 0 h)
 
+-- where the test finds room, there is room
+pub room-fits : (xs : List ℕ) (at : ℕ) (ws : List ℕ) → room xs at ws ≡ true → at + length ws ≤ length xs
+unfolding room
+room-fits xs at ws h = leb-true (at + length ws) (length xs) h
+
 -- where there is room, what is offered to all is what was asked for
 pub wrote :
     {xs : List ℕ} {at : ℕ} {ws : List ℕ} {next : ℕ} {ys : List ℕ} →
@@ -89,16 +99,25 @@ wrote {xs} {at} {ws} h p =
     let fits : room xs at ws ≡ true = le-leb (at + length ws) (length xs) h in
     record { moved = rw fits at (p .moved); holds = rw fits at (p .holds) }
 
--- two writers, one after the other, the second of them offered to all: room for both is room for it
-pub then-put :
-    {xs : List ℕ} {at : ℕ} {ws : List ℕ} {p : ℕ} {ys : List ℕ} {vs : List ℕ} {q : ℕ} {zs : List ℕ} →
+-- room for two is room for the second after the first
+pub room-then :
+    {xs : List ℕ} {at : ℕ} {ws : List ℕ} {p : ℕ} {ys : List ℕ} (vs : List ℕ) →
     at + length (ws ++ vs) ≤ length xs →
     Wrote xs at ws p ys →
-    Puts ys p vs q zs →
+    p + length vs ≤ length ys
+room-then {xs} {at} {ws} vs h w =
+    omega (arith, w .moved, length-append ws vs, ap length (w .holds), length-over xs at ws)
+
+-- a writer that is offered to all, and then others, where there is room for all of them
+pub puts-then :
+    {xs : List ℕ} {at : ℕ} {ws : List ℕ} {p : ℕ} {ys : List ℕ} {vs : List ℕ} {q : ℕ} {zs : List ℕ} →
+    at + length (ws ++ vs) ≤ length xs →
+    Puts xs at ws p ys →
+    (p + length vs ≤ length ys → Wrote ys p vs q zs) →
     Wrote xs at (ws ++ vs) q zs
-then-put {xs} {at} {ws} {p} {ys} {vs} h a b =
-    let long : length ys ≡ length xs = ap length (a .holds) ∙ length-over xs at ws in
-    then a (wrote (omega (arith, a .moved, length-append ws vs)) b)
+puts-then {xs} {at} {ws} {p} {ys} {vs} h a k =
+    let first : Wrote xs at ws p ys = wrote (omega (arith, length-append ws vs)) a in
+    then first (k (room-then vs h first))
 
 -- the two ways out of a writer that is offered to all
 pub puts-all :

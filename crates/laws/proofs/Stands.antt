@@ -2,10 +2,10 @@
 use Prim.Native.Nat.{ℕ, zero, suc, _+_, _≤_, _<_}
 use mathlib.Core.Path.{_≡_, refl, sym, ap, _∙_}
 use mathlib.Core.List.{List, [], _∷_, _++_, append-assoc}
-use native.Mathlib.Nat.{add-zero, add-assoc}
+use native.Mathlib.Nat.{add-zero, zero-add, add-assoc}
 use native.Mathlib.Omega.{arith}
 use lib.ListN.{length, take, drop, getD, length-append, List·getD-append}
-use lib.Seq.{getD-append-add, length-take-le}
+use lib.Seq.{getD-append-add, getD-take, getD-drop, ext-getD, length-take-le, slice, length-slice}
 use Rattle.laws.specs.Over.{over}
 use Rattle.laws.specs.Stands.{Stands}
 use Rattle.laws.proofs.Over.{over-eq}
@@ -16,6 +16,11 @@ stands-here pre ws post i h =
     ap (λ (l : List ℕ). getD l (length pre + i) 0) (append-assoc pre ws post)
     ∙ getD-append-add pre (ws ++ post) i 0
     ∙ List·getD-append ws post 0 i h
+
+-- octets stand at their own start
+pub stands-whole : (s : List ℕ) → Stands s 0 s
+unfolding Stands
+stands-whole s i h = rw zero-add
 
 -- what was written over a list stands in it
 pub stands-over :
@@ -50,3 +55,16 @@ unfolding Stands
 stands-cons s at w ws e st zero h = rw add-zero e
 stands-cons s at w ws e st (suc i) h =
     let p : at + suc i ≡ at + 1 + i = omega arith in rw p (st i (omega arith))
+
+-- what stands at a place is the slice there
+pub slice-stands :
+    (s : List ℕ) (at : ℕ) (ws : List ℕ) → Stands s at ws → at + length ws ≤ length s →
+    slice at (at + length ws) s ≡ ws
+unfolding Stands
+slice-stands s at ws st h =
+    let stop : ℕ = at + length ws in
+    let long : length (slice at stop s) ≡ length ws = omega (arith, length-slice at stop s h) in
+    ext-getD 0 (slice at stop s) ws long (λ i k.
+    getD-drop at (take stop s) i 0
+    ∙ getD-take stop s (at + i) 0 (omega arith)
+    ∙ st i (omega arith))

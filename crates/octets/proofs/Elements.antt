@@ -8,10 +8,10 @@ use lib.ListN.{length, getD, length-append}
 use borrow.Author.Tests.{le-ltb, lt-leb, ne-eqb}
 use Rattle.laws.specs.Over.{Wrote}
 use Rattle.laws.specs.Stands.{Stands}
-use Rattle.laws.proofs.Over.{then}
+use Rattle.laws.proofs.Over.{puts-then}
 use Rattle.laws.proofs.Stands.{stands-first, stands-left, stands-right}
 use Rattle.octets.specs.Head.{lengthMost, headAt, lengthAt}
-use Rattle.octets.specs.Element.{lengthHolds, lengthWith, lengthFewest, headWith, headOctets, element}
+use Rattle.octets.specs.Element.{lengthHolds, lengthWith, lengthFewest, headWith, headOctets, element, PutHead}
 use Rattle.octets.specs.declared.head.Head.the-variants.{Is, Bad}
 use Rattle.octets.proofs.Lengths.{length-length, length-back, fewest-short, shortest-holds, shortest-most}
 
@@ -61,17 +61,25 @@ element-back depth tag contents s at end deep low small st fit in-s =
       b,
     )
 
+-- its first octet is its tag
+pub element-first :
+    (tag : ℕ) (contents s : List ℕ) (at : ℕ) → Stands s at (element tag contents) → getD s at 0 ≡ tag
+element-first tag contents s at st =
+    let n : ℕ = length contents in
+    stands-first s at tag (lengthWith (lengthFewest n) n) (stands-left s at (headOctets tag n) contents st)
+
 -- its contents stand after its head
 pub element-contents :
     (tag : ℕ) (contents s : List ℕ) (at : ℕ) → Stands s at (element tag contents) →
     Stands s (at + length (headOctets tag (length contents))) contents
 element-contents tag contents s at st = stands-right s at (headOctets tag (length contents)) contents st
 
--- a head that was written for the contents that follow it makes an element
+-- a head that is written for the contents that follow it makes an element
 pub headed :
-    {xs : List ℕ} {at tag n p : ℕ} {ys ws : List ℕ} {q : ℕ} {zs : List ℕ} → Wrote xs at (headOctets tag n) p ys →
-    n ≡ length ws → Wrote ys p ws q zs → Wrote xs at (element tag ws) q zs
-headed {tag = tag} {ws = ws} h e w = then (rw e at h) w
+    {xs : List ℕ} {at tag n p : ℕ} {ys ws : List ℕ} {q : ℕ} {zs : List ℕ} → at + length (element tag ws) ≤ length xs →
+    n ≡ length ws → PutHead xs at tag n p ys → (p + length ws ≤ length ys → Wrote ys p ws q zs) →
+    Wrote xs at (element tag ws) q zs
+headed {tag = tag} {ws = ws} h e a k = puts-then h (rw e at a) k
 
 -- an element of fewer than 128 octets has one length octet
 pub element-small :
@@ -79,3 +87,35 @@ pub element-small :
     element tag contents ≡ tag ∷ length contents ∷ contents
 unfolding lengthWith
 element-small tag contents h = rw (fewest-short (length contents) h)
+
+-- and so it is two octets longer than its contents
+pub length-small :
+    (tag : ℕ) (contents : List ℕ) → length contents < 128 →
+    length (element tag contents) ≡ length contents + 2
+length-small tag contents h = omega (arith, ap length (element-small tag contents h))
+
+-- an element that stands at `at`: where its contents start, that its head is read, that its contents stand there, and where
+-- they end
+pub record Inside (depth : ℕ) (s : List ℕ) (at end tag : ℕ) (ws : List ℕ) : Type 0 where
+  pub start : ℕ
+  pub is : headAt depth s at end ≡ Is tag start (start + length ws) (start + length ws)
+  pub stands : Stands s start ws
+  pub stop : start + length ws ≡ at + length (element tag ws)
+  pub room : start + length ws ≤ length s
+
+-- every element that stands before `end` is one
+pub inside :
+    (depth : ℕ) (s : List ℕ) (at end tag : ℕ) (ws : List ℕ) → (depth ≡ 0 → ⊥) → (tag % 32 ≡ 31 → ⊥) →
+    length ws < 65536 → Stands s at (element tag ws) → at + length (element tag ws) ≤ end → end ≤ length s →
+    Inside depth s at end tag ws
+inside depth s at end tag ws deep low small st fit in-s =
+    let start : ℕ = at + length (headOctets tag (length ws)) in
+    let stop : start + length ws ≡ at + length (element tag ws) =
+    omega (arith, length-append (headOctets tag (length ws)) ws) in
+    record {
+      start = start;
+      is = rw stop (element-back depth tag ws s at end deep low small st fit in-s);
+      stands = element-contents tag ws s at st;
+      stop = stop;
+      room = omega arith;
+    }

@@ -10,7 +10,7 @@ use Rattle.laws.proofs.Stands.{stands-first}
 use Rattle.octets.specs.Element.{headOctets, element}
 use Rattle.octets.specs.Enumerated.{enumeratedTag, enumeratedAt, enumeratedOctets}
 use Rattle.octets.specs.declared.enumerated.Enumerated.the-variants.{Is}
-use Rattle.octets.proofs.Elements.{length-head, length-element, element-back, element-contents}
+use Rattle.octets.proofs.Elements.{length-head, length-element, length-small, element-back, element-contents}
 
 pub enumerated-back :
     (depth v : ℕ) (s : List ℕ) (at end : ℕ) → (depth ≡ 0 → ⊥) → Stands s at (enumeratedOctets v) →
@@ -27,3 +27,7 @@ enumerated-back depth v s at end deep st fit in-s =
       one,
       stands-first s start v [] (element-contents enumeratedTag ws s at st),
     )
+
+-- an enumerated value has three octets
+pub length-enumerated : (v : ℕ) → length (enumeratedOctets v) ≡ 3
+length-enumerated v = length-small enumeratedTag (v ∷ []) (omega arith)

@@ -51,6 +51,12 @@ half-most (suc w) h = let small : w ≤ 1 = omega arith in
     let p : 256 ^ w ≤ 256 ^ 1 = pow-le-pow-right (omega arith) small in
     omega arith
 
+-- with at most one octet, half of them is at most 128
+half-one : (w : ℕ) → w ≤ 1 → half w ≤ 128
+unfolding half
+half-one zero h = omega arith
+half-one (suc w) h = let none : w ≡ 0 = omega arith in rw none (omega arith)
+
 -- the fewest octets: they can say the number, none fewer can, and there are one or two
 module _ (z : ℤ) (range : mag z < 32768) where
   pub fewest-holds : identHolds z (identFewest z) ≡ true
@@ -122,6 +128,31 @@ ident-octets z range =
     let count : length ws ≡ identFewest z = length-ident (identFewest z) z in
     element-small identTag ws (omega (arith, fewest-two z range))
     ∙ ap (λ (n : ℕ). identTag ∷ n ∷ ws) count
+
+-- ---- how many octets the element of an identifier has
+
+-- two more than its contents
+ident-long : (z : ℤ) → mag z < 32768 → length (identOctets z) ≡ identFewest z + 2
+ident-long z range = omega (arith, ap length (ident-octets z range), length-ident (identFewest z) z)
+
+-- at most four
+pub ident-most : (z : ℤ) → mag z < 32768 → length (identOctets z) ≤ 4
+ident-most z range = omega (arith, ident-long z range, fewest-two z range)
+
+-- three where one octet can say it
+pub ident-one : (z : ℤ) → mag z < 128 → length (identOctets z) ≡ 3
+unfolding identFewest identHolds half
+ident-one z low =
+    let range : mag z < 32768 = omega arith in
+    let least : identFewest z ≤ 1 = fewest-least (identHolds z) identMost 1 (lt-ltb (mag z) 128 low) in
+    omega (arith, ident-long z range, fewest-some z range)
+
+-- four where one cannot
+pub ident-two : (z : ℤ) → 128 ≤ mag z → mag z < 32768 → length (identOctets z) ≡ 4
+ident-two z high range =
+    let more : identFewest z ≤ 1 → ⊥ =
+    λ le. omega (arith, fewest-magnitude z range, half-one (identFewest z) le) in
+    omega (arith, more, ident-long z range, fewest-two z range)
 
 -- the two ways out of reading w octets, by the parts that the code works out
 module _ (w : ℕ) (s : List ℕ) (at next u h m fewer : ℕ) (some : w ≡ 0 → ⊥) (most : w ≤ identMost)

@@ -1,0 +1,5 @@
+pub mod Tables
+pub mod Goods
+pub mod Readers
+pub mod Sizes
+pub mod Trips

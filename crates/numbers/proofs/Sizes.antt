@@ -1,0 +1,178 @@
+-- Which octets a number and an address are written as, and how many: by the fields of the record, and at most.
+-- Assumes nothing.
+use Prim.Native.Nat.{ℕ, _+_, _≤_}
+use mathlib.Core.Path.{_≡_, refl, _∙_}
+use mathlib.Core.Bool.{true}
+use mathlib.Core.List.{List, [], _++_}
+use native.Mathlib.Omega.{arith}
+use lib.ListN.{length, replicate, length-append, length-take}
+use lib.Seq.{length-take-le}
+use lib.Dec.{eqb}
+use borrow.Author.Tests.{eq-eqb, ne-eqb}
+use Rattle.laws.specs.Pick.{pick}
+use Rattle.laws.proofs.Picks.{pick-ind, pick-map}
+use Rattle.octets.specs.Element.{element}
+use Rattle.octets.specs.Enumerated.{enumeratedOctets}
+use Rattle.octets.proofs.Elements.{length-small}
+use Rattle.octets.proofs.Enumerateds.{length-enumerated}
+use Rattle.numbers.specs.Number.{
+  most,
+  unknown,
+  public,
+  allDigits,
+  fair,
+  digitsGood,
+  typeGood,
+  digitsOf,
+  numberGood,
+  numberOctets,
+}
+use Rattle.numbers.specs.Address.{subOctetsOf, addressGood, subOctets, addressOctets}
+use Rattle.numbers.specs.declared.number.Number.{Number}
+use Rattle.numbers.specs.declared.address.Address.{Address}
+use Rattle.numbers.proofs.Goods.{digits-fair, good-number, good-address}
+
+-- ---- numbers
+
+-- unknown form: digits under the tag 80
+pub unknown-octets : (n : Number) → n .form ≡ unknown → numberOctets n ≡ element 0x80 (digitsOf n)
+unfolding numberOctets
+unknown-octets n h = rw (eq-eqb (n .form) unknown h)
+
+-- any other form is written as the public one: a type and a numeric string under the tag A1
+pub public-octets :
+    (n : Number) → (n .form ≡ unknown → ⊥) →
+    numberOctets n ≡ element 0xA1 (enumeratedOctets (n .kind) ++ element 0x12 (digitsOf n))
+unfolding numberOctets
+public-octets n h = rw (ne-eqb (n .form) unknown h)
+
+-- a type and a numeric string are five octets longer than the digits
+pub public-inside :
+    (kind : ℕ) (ws : List ℕ) → length ws ≤ most →
+    length (enumeratedOctets kind ++ element 0x12 ws) ≡ length ws + 5
+public-inside kind ws few =
+    omega
+    (arith, length-append (enumeratedOctets kind) (element 0x12 ws), length-enumerated kind, length-small 0x12 ws (omega arith))
+
+-- the octets of a number, by how many digits it has
+number-long :
+    (n : Number) → length (digitsOf n) ≤ most →
+    length (numberOctets n) ≡ pick (eqb (n .form) unknown) (length (digitsOf n) + 2) (length (digitsOf n) + 7)
+unfolding numberOctets
+number-long n few =
+    let ws : List ℕ = digitsOf n in
+    let vs : List ℕ = enumeratedOctets (n .kind) ++ element 0x12 ws in
+    let inner : length vs ≡ length ws + 5 = public-inside (n .kind) ws few in
+    let outer : length (element 0xA1 vs) ≡ length ws + 7 = omega (arith, length-small 0xA1 vs (omega arith)) in
+    pick-map length (eqb (n .form) unknown) (element 0x80 ws) (element 0xA1 vs)
+    ∙ rw (length-small 0x80 ws (omega arith), outer)
+
+-- the octets of a good number, by its fields
+pub number-size :
+    (n : Number) → numberGood n ≡ true → length (n .digits) ≡ most →
+    length (numberOctets n) ≡ pick (eqb (n .form) unknown) (n .count + 2) (n .count + 7)
+number-size n h long =
+    let g = good-number n h in
+    let count : length (digitsOf n) ≡ n .count = length-take-le (n .count) (n .digits) (omega arith) in
+    rw count at (number-long n (omega arith))
+
+-- a good number has at most 27 octets
+pub number-most : (n : Number) → numberGood n ≡ true → length (numberOctets n) ≤ 27
+number-most n h =
+    let few = digits-fair (digitsOf n) (good-number n h .digits) .1 in
+    rw (number-long n few)
+    (pick-ind (λ k. k ≤ 27) (eqb (n .form) unknown) (λ _. omega arith) (λ _. omega arith))
+
+-- ---- addresses
+
+-- no subaddress is written as nothing
+pub sub-none : subOctets [] ≡ []
+unfolding subOctets
+sub-none = refl
+
+-- a subaddress is its octets under the tag 04
+pub sub-some : (ws : List ℕ) → (length ws ≡ 0 → ⊥) → subOctets ws ≡ element 0x04 ws
+unfolding subOctets
+sub-some ws h = rw (ne-eqb (length ws) 0 h)
+
+-- the octets of a subaddress, by how many it holds
+pub sub-size :
+    (ws : List ℕ) → length ws ≤ most →
+    length (subOctets ws) ≡ pick (eqb (length ws) 0) 0 (length ws + 2)
+unfolding subOctets
+sub-size ws few =
+    pick-map length (eqb (length ws) 0) [] (element 0x04 ws)
+    ∙ rw (length-small 0x04 ws (omega arith))
+
+-- at most 20 octets of a subaddress are written
+pub sub-few : (a : Address) → addressGood a ≡ true → length (subOctetsOf a) ≤ most
+sub-few a h = let g = good-address a h in omega (arith, length-take (a .subcount) (a .sub))
+
+-- the contents of an address, by its fields
+pub contents-size :
+    (a : Address) → addressGood a ≡ true → length (a .sub) ≡ most →
+    length (numberOctets (a .number) ++ subOctets (subOctetsOf a))
+    ≡ length (numberOctets (a .number)) + pick (eqb (a .subcount) 0) 0 (a .subcount + 2)
+contents-size a h long =
+    let g = good-address a h in
+    let count : length (subOctetsOf a) ≡ a .subcount = length-take-le (a .subcount) (a .sub) (omega arith) in
+    rw (length-append (numberOctets (a .number)) (subOctets (subOctetsOf a)), sub-size (subOctetsOf a) (omega arith), count)
+
+-- the contents of a good address are at most 49 octets
+pub contents-most :
+    (a : Address) → addressGood a ≡ true →
+    length (numberOctets (a .number) ++ subOctets (subOctetsOf a)) ≤ 49
+contents-most a h =
+    let few = sub-few a h in
+    let number = number-most (a .number) (good-address a h .number) in
+    let sub : length (subOctets (subOctetsOf a)) ≤ 22 =
+    rw (sub-size (subOctetsOf a) few)
+    (pick-ind (λ k. k ≤ 22) (eqb (length (subOctetsOf a)) 0) (λ _. omega arith) (λ _. omega arith)) in
+    omega (arith, length-append (numberOctets (a .number)) (subOctets (subOctetsOf a)))
+
+-- an address is two octets longer than its contents
+pub address-long :
+    (a : Address) → addressGood a ≡ true →
+    length (addressOctets a) ≡ length (numberOctets (a .number) ++ subOctets (subOctetsOf a)) + 2
+unfolding addressOctets
+address-long a h =
+    let few = contents-most a h in
+    length-small 0x30 (numberOctets (a .number) ++ subOctets (subOctetsOf a)) (omega arith)
+
+-- the octets of an address, by its fields
+pub address-size :
+    (a : Address) → addressGood a ≡ true → length (a .sub) ≡ most →
+    length (addressOctets a) ≡ length (numberOctets (a .number)) + pick (eqb (a .subcount) 0) 0 (a .subcount + 2) + 2
+address-size a h long = rw (address-long a h, contents-size a h long)
+
+-- a good address has at most 51 octets
+pub address-most : (a : Address) → addressGood a ≡ true → length (addressOctets a) ≤ 51
+address-most a h = omega (arith, address-long a h, contents-most a h)
+
+-- ---- both bounds are reached
+
+-- a public number of 20 digits
+abbrev pub longestNumber : Number
+longestNumber = record { form = public; kind = 0; count = most; digits = replicate most 48 }
+
+-- it is good
+pub longest-number : numberGood longestNumber ≡ true
+unfolding numberGood digitsGood fair allDigits typeGood
+longest-number = refl
+
+-- and has 27 octets
+pub number-longest : length (numberOctets longestNumber) ≡ 27
+number-longest = number-size longestNumber longest-number refl
+
+-- its address with 20 octets of subaddress
+abbrev pub longestAddress : Address
+longestAddress = record { number = longestNumber; subcount = most; sub = replicate most 0 }
+
+-- it is good
+pub longest-address : addressGood longestAddress ≡ true
+unfolding addressGood
+longest-address = longest-number
+
+-- and has 51 octets
+pub address-longest : length (addressOctets longestAddress) ≡ 51
+address-longest = rw number-longest at (address-size longestAddress longest-address refl)

@@ -1,0 +1,138 @@
+-- Numbers: which octets are one, and which octets one is written as (document 01, "Numbers").
+-- A number's record has room for 20 digits; the places past its count hold 0 where it was read.
+use Prim.Native.Nat.{ℕ, _+_, _-_}
+use mathlib.Core.Path.{_≡_}
+use mathlib.Core.Bool.{Bool, true, false}
+use mathlib.Core.List.{List, [], _∷_, _++_}
+use lib.ListN.{length, getD, take, replicate}
+use lib.Seq.{slice}
+use lib.Dec.{ltb, leb, eqb}
+use Rattle.laws.specs.Pick.{pick}
+use Rattle.laws.specs.Got.{Got, got, wrong, andThen}
+use Rattle.laws.specs.Over.{Puts}
+use Rattle.octets.specs.Head.{headAt}
+use Rattle.octets.specs.Element.{element}
+use Rattle.octets.specs.Enumerated.{enumeratedAt, enumeratedOctets}
+use Rattle.octets.specs.declared.head.Head.{Head}
+use Rattle.octets.specs.declared.head.Head.the-variants as head
+use Rattle.octets.specs.declared.enumerated.Enumerated.{Enumerated}
+use Rattle.octets.specs.declared.enumerated.Enumerated.the-variants as enumerated
+use Rattle.numbers.specs.declared.number.Number.{Number}
+use Rattle.numbers.specs.declared.number.NumberRead.{NumberRead}
+
+-- "1 to 20 characters"
+abbrev pub most : ℕ
+most = 20
+
+-- the forms of a record: "unknown form is tag 80", "public form is tag A1", and the other kinds, whose contents aren't read
+abbrev pub unknown : ℕ
+unknown = 0
+
+abbrev pub public : ℕ
+public = 1
+
+abbrev pub other : ℕ
+other = 2
+
+-- at most 20 octets, with zeros after them
+abbrev pub padded : List ℕ → List ℕ
+padded ws = ws ++ replicate (most - length ws) 0
+
+-- "only 0 to 9": the characters 48 to 57
+unfoldable pub allDigits : List ℕ → Bool
+allDigits [] = true
+allDigits (c ∷ cs) = pick (ltb c 48) false (pick (ltb 57 c) false (allDigits cs))
+
+-- 1 to 20 octets
+unfoldable pub fair : ℕ → Bool
+fair n = pick (ltb n 1) false (leb n most)
+
+-- "1 to 20 characters, only 0 to 9 (house: no space)"
+unfoldable pub digitsGood : List ℕ → Bool
+digitsGood cs = pick (fair (length cs)) (allDigits cs) false
+
+-- "an enumerated type (0, 1, 2, 3, 4 or 6)"
+unfoldable pub typeGood : ℕ → Bool
+typeGood kind = pick (ltb 6 kind) false (pick (eqb kind 5) false true)
+
+-- the record of a number with the digits cs
+abbrev pub numberOf : ℕ → ℕ → List ℕ → Number
+numberOf form kind cs = record { form = form; kind = kind; count = length cs; digits = padded cs }
+
+-- a number of the digits from `start` up to `stop`
+unfoldable pub digitsIn : ℕ → ℕ → List ℕ → ℕ → ℕ → ℕ → Got Number
+digitsIn form kind s start stop next =
+    pick (digitsGood (slice start stop s)) (got (numberOf form kind (slice start stop s)) next) wrong
+
+-- an enumerated value, as what a reader finds
+abbrev pub valueOf : Enumerated → Got ℕ
+valueOf (enumerated.Is value next) = got value next
+valueOf enumerated.Unreadable = wrong
+
+-- the numeric string, tag 12, with which a public number ends
+abbrev pub stringOf : ℕ → List ℕ → ℕ → ℕ → Head → Got Number
+stringOf kind s end after (head.Is tag start stop next) =
+    pick (eqb tag 0x12) (pick (eqb next end) (digitsIn public kind s start stop after) wrong) wrong
+stringOf kind s end after head.Bad = wrong
+
+unfoldable pub stringAt : ℕ → ℕ → List ℕ → ℕ → ℕ → ℕ → Got Number
+stringAt depth kind s at end after = stringOf kind s end after (headAt depth s at end)
+
+-- the contents of a public number, from `start` up to `stop`: a type and a numeric string
+unfoldable pub publicIn : ℕ → List ℕ → ℕ → ℕ → ℕ → Got Number
+publicIn depth s start stop after =
+    andThen (valueOf (enumeratedAt depth s start stop))
+    (λ kind place. pick (typeGood kind) (stringAt depth kind s place stop after) wrong)
+
+-- "Tags 82, 83, 84, A5, 88 are other kinds: whole, contents not read."
+unfoldable pub otherTag : ℕ → Bool
+otherTag tag =
+    pick (eqb tag 0x82) true
+    (pick (eqb tag 0x83) true (pick (eqb tag 0x84) true (pick (eqb tag 0xA5) true (eqb tag 0x88))))
+
+abbrev pub numberIn : ℕ → List ℕ → Head → Got Number
+numberIn depth s (head.Is tag start stop next) =
+    pick (eqb tag 0x80) (digitsIn unknown 0 s start stop next)
+    (pick (eqb tag 0xA1) (publicIn (depth - 1) s start stop next)
+    (pick (otherTag tag) (got (numberOf other 0 []) next) wrong))
+numberIn depth s head.Bad = wrong
+
+-- the number at `at`, of the octets of s before `end`
+unfoldable pub numberAt : ℕ → List ℕ → ℕ → ℕ → Got Number
+numberAt depth s at end = numberIn depth s (headAt depth s at end)
+
+-- what a reader answers
+abbrev pub numberRead : Got Number → NumberRead
+numberRead (got number next) = record { ok = true; number = number; next = next }
+numberRead wrong = record { ok = false; number = numberOf 0 0 []; next = 0 }
+
+-- ---- numbers that a table holds, and how they are written
+
+-- the digits of a record
+abbrev pub digitsOf : Number → List ℕ
+digitsOf n = take (n .count) (n .digits)
+
+-- the same number with zeros past its digits
+abbrev pub tidyNumber : Number → Number
+tidyNumber n = numberOf (n .form) (n .kind) (digitsOf n)
+
+-- whether a record is a number as a table holds it: of unknown form with type 0, or of public form with one of its types
+unfoldable pub numberGood : Number → Bool
+numberGood n =
+    pick (ltb most (n .count)) false
+    (pick (digitsGood (digitsOf n))
+    (pick (eqb (n .form) unknown) (eqb (n .kind) 0) (pick (eqb (n .form) public) (typeGood (n .kind)) false))
+    false)
+
+unfoldable pub numberOctets : Number → List ℕ
+numberOctets n =
+    pick (eqb (n .form) unknown) (element 0x80 (digitsOf n))
+    (element 0xA1 (enumeratedOctets (n .kind) ++ element 0x12 (digitsOf n)))
+
+-- what `number_at` promises
+abbrev pub NumberAt : ℕ → List ℕ → ℕ → ℕ → NumberRead → Type 0
+NumberAt depth s at end r = r ≡ numberRead (numberAt depth s at end)
+
+-- what `number_good` promises
+abbrev pub NumberGood : Number → Bool → Type 0
+NumberGood n r = r ≡ numberGood n

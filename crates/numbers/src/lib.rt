@@ -1,0 +1,16 @@
+// Codes, numbers and addresses of document 01: the records that hold them, and the octets they are read from.
+mod address;
+mod codes;
+mod number;
+
+pub use address::Address;
+pub use address::AddressRead;
+pub use address::Forwarded;
+pub use address::address_at;
+pub use address::address_good;
+pub use codes::service_place;
+pub use codes::trunkreason;
+pub use number::Number;
+pub use number::NumberRead;
+pub use number::number_at;
+pub use number::number_good;

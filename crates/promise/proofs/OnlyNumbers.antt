@@ -1,0 +1,33 @@
+-- Each promise of the crate numbers admits one answer. Assumes nothing.
+use Prim.Native.Nat.{ℕ}
+use mathlib.Core.Path.{_≡_}
+use mathlib.Core.Bool.{Bool}
+use mathlib.Core.List.{List}
+use Rattle.laws.proofs.Picks.{both}
+use Rattle.numbers.specs.Codes.{ServicePlace, TrunkReason}
+use Rattle.numbers.specs.Number.{NumberAt, NumberGood}
+use Rattle.numbers.specs.Address.{AddressAt, AddressGood}
+use Rattle.numbers.specs.declared.number.Number.{Number}
+use Rattle.numbers.specs.declared.number.NumberRead.{NumberRead}
+use Rattle.numbers.specs.declared.address.Address.{Address}
+use Rattle.numbers.specs.declared.address.AddressRead.{AddressRead}
+
+pub only-service-place : (code : ℕ) {a b : ℕ} → ServicePlace code a → ServicePlace code b → a ≡ b
+only-service-place code = both
+
+pub only-trunkreason : (reason : ℕ) {a b : ℕ} → TrunkReason reason a → TrunkReason reason b → a ≡ b
+only-trunkreason reason = both
+
+pub only-number-good : (n : Number) {a b : Bool} → NumberGood n a → NumberGood n b → a ≡ b
+only-number-good n = both
+
+pub only-address-good : (a : Address) {x y : Bool} → AddressGood a x → AddressGood a y → x ≡ y
+only-address-good a = both
+
+module _ (depth : ℕ) (s : List ℕ) (at end : ℕ) where
+  pub only-number-at : {a b : NumberRead} → NumberAt depth s at end a → NumberAt depth s at end b → a ≡ b
+  only-number-at = both
+
+  pub only-address-at :
+      {a b : AddressRead} → AddressAt depth s at end a → AddressAt depth s at end b → a ≡ b
+  only-address-at = both
