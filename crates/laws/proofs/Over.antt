@@ -99,6 +99,10 @@ wrote {xs} {at} {ws} h p =
     let fits : room xs at ws ≡ true = le-leb (at + length ws) (length xs) h in
     record { moved = rw fits at (p .moved); holds = rw fits at (p .holds) }
 
+-- nothing is written
+pub wrote-none : {xs : List ℕ} {at : ℕ} → Wrote xs at [] at xs
+wrote-none {xs} {at} = record { moved = omega arith; holds = sym (over-nil xs at) }
+
 -- room for two is room for the second after the first
 pub room-then :
     {xs : List ℕ} {at : ℕ} {ws : List ℕ} {p : ℕ} {ys : List ℕ} (vs : List ℕ) →
@@ -107,6 +111,22 @@ pub room-then :
     p + length vs ≤ length ys
 room-then {xs} {at} {ws} vs h w =
     omega (arith, w .moved, length-append ws vs, ap length (w .holds), length-over xs at ws)
+
+pub room-after :
+    {xs : List ℕ} {at : ℕ} {ws : List ℕ} {p : ℕ} {ys : List ℕ} (vs : List ℕ) →
+    at + length (ws ++ vs) ≤ length xs →
+    Puts xs at ws p ys →
+    p + length vs ≤ length ys
+room-after {xs} {at} {ws} vs h a = room-then vs h (wrote (omega (arith, length-append ws vs)) a)
+
+-- whether there is room, as a test
+pub room-true : (xs : List ℕ) (at : ℕ) (ws : List ℕ) → at + length ws ≤ length xs → room xs at ws ≡ true
+unfolding room
+room-true xs at ws h = le-leb (at + length ws) (length xs) h
+
+pub room-false : (xs : List ℕ) (at : ℕ) (ws : List ℕ) → length xs < at + length ws → room xs at ws ≡ false
+unfolding room
+room-false xs at ws h = lt-leb (at + length ws) (length xs) h
 
 -- a writer that is offered to all, and then others, where there is room for all of them
 pub puts-then :

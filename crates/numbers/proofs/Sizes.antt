@@ -176,3 +176,9 @@ longest-address = longest-number
 -- and has 51 octets
 pub address-longest : length (addressOctets longestAddress) ≡ 51
 address-longest = rw number-longest at (address-size longestAddress longest-address refl)
+
+-- an address is the sequence of its parts
+pub address-octets :
+    (a : Address) → addressOctets a ≡ element 0x30 (numberOctets (a .number) ++ subOctets (subOctetsOf a))
+unfolding addressOctets
+address-octets a = refl

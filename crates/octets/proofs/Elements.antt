@@ -8,7 +8,7 @@ use lib.ListN.{length, getD, length-append}
 use borrow.Author.Tests.{le-ltb, lt-leb, ne-eqb}
 use Rattle.laws.specs.Over.{Wrote}
 use Rattle.laws.specs.Stands.{Stands}
-use Rattle.laws.proofs.Over.{puts-then}
+use Rattle.laws.proofs.Over.{wrote, room-then, puts-then}
 use Rattle.laws.proofs.Stands.{stands-first, stands-left, stands-right}
 use Rattle.octets.specs.Head.{lengthMost, headAt, lengthAt}
 use Rattle.octets.specs.Element.{lengthHolds, lengthWith, lengthFewest, headWith, headOctets, element, PutHead}
@@ -80,6 +80,15 @@ pub headed :
     n ≡ length ws → PutHead xs at tag n p ys → (p + length ws ≤ length ys → Wrote ys p ws q zs) →
     Wrote xs at (element tag ws) q zs
 headed {tag = tag} {ws = ws} h e a k = puts-then h (rw e at a) k
+
+-- room for an element is room for its contents after its head
+pub room-headed :
+    {xs : List ℕ} {at tag n p : ℕ} {ys : List ℕ} (ws : List ℕ) → at + length (element tag ws) ≤ length xs → n ≡ length ws →
+    PutHead xs at tag n p ys → p + length ws ≤ length ys
+room-headed {xs} {at} {tag} {n} {p} {ys} ws h e a =
+    let first : Wrote xs at (headOctets tag (length ws)) p ys =
+    wrote (omega (arith, length-append (headOctets tag (length ws)) ws)) (rw e at a) in
+    room-then ws h first
 
 -- an element of fewer than 128 octets has one length octet
 pub element-small :

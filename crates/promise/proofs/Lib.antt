@@ -1,3 +1,4 @@
 pub mod Samples
+pub mod OnlyCoding
 pub mod OnlyNumbers
 pub mod OnlyOctets

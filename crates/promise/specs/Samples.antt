@@ -4,6 +4,7 @@ use mathlib.Core.Path.{_≡_}
 use mathlib.Core.List.{List, [], _∷_}
 use lib.IntN.{ℤ, pos, negsuc}
 use lib.ListN.{length}
+use Rattle.laws.specs.Got.{got}
 use Rattle.octets.specs.Ident.{identAt, identOctets}
 use Rattle.octets.specs.Groups.{groupsAt, groups}
 use Rattle.octets.specs.declared.ident.Ident.{Ident}
@@ -11,11 +12,23 @@ use Rattle.octets.specs.declared.ident.Ident.the-variants as ident
 use Rattle.octets.specs.declared.groups.Groups.{Groups}
 use Rattle.octets.specs.declared.groups.Groups.the-variants as groups
 
+use Rattle.numbers.specs.Number.{unknown, numberOf}
+use Rattle.numbers.specs.Address.{subOf, forwardedOf}
+use Rattle.coding.specs.Heard.{local, heard}
+use Rattle.coding.specs.Request.{activation, interrogation, allNumbers, nowhere, requestOf, argumentAt}
+use Rattle.coding.specs.Sent.{requestOctets}
+use Rattle.coding.specs.declared.heard.Heard.{Heard}
+use Rattle.coding.specs.declared.heard.Heard.the-variants as heard
+use Rattle.coding.specs.declared.request.Request.{Request}
+
 pub data Sample : Type 0 where
   reads-identifier : List ℕ → Ident → Sample
   writes-identifier : ℤ → List ℕ → Sample
   reads-groups : List ℕ → Groups → Sample
   writes-groups : ℕ → List ℕ → Sample
+  hears : List ℕ → Heard → Sample
+  asks : (operation : ℕ) → List ℕ → (at : ℕ) → Request → Sample
+  sends : (identifier : ℤ) (operation : ℕ) → Request → List ℕ → Sample
 
 -- what a sample says: octets are read from the first to the end
 abbrev pub Says : Sample → Type 0
@@ -23,10 +36,29 @@ Says (reads-identifier s r) = identAt 1 s 0 (length s) ≡ r
 Says (writes-identifier z s) = identOctets z ≡ s
 Says (reads-groups s r) = groupsAt s 0 (length s) ≡ r
 Says (writes-groups n s) = groups n ≡ s
+Says (hears s r) = heard s ≡ r
+Says (asks operation s at r) = argumentAt (local (pos operation)) s at (length s) ≡ got r (length s)
+Says (sends identifier operation r s) = requestOctets identifier operation r ≡ s
 
 abbrev pub Each : List Sample → Type 0
 Each [] = Unit {0}
 Each (x ∷ xs) = Says x × Each xs
+
+-- "interrogation of cfb", and "cfb, speech, 24680, all numbers"
+abbrev pub interrogationOctets : List ℕ
+interrogationOctets =
+    0xA1 ∷ 0x10 ∷ 0x02 ∷ 0x01 ∷ 0x01 ∷ 0x02 ∷ 0x01 ∷ 0x0B ∷ 0x30 ∷ 0x08 ∷ 0x0A ∷ 0x01 ∷ 0x01 ∷ 0x0A ∷ 0x01 ∷ 0x00 ∷ 0x05 ∷ 0x00 ∷ []
+
+abbrev pub activationOctets : List ℕ
+activationOctets =
+    0xA1 ∷ 0x19 ∷ 0x02 ∷ 0x01 ∷ 0x02 ∷ 0x02 ∷ 0x01 ∷ 0x07 ∷ 0x30 ∷ 0x11 ∷ 0x0A ∷ 0x01 ∷ 0x01 ∷ 0x0A ∷ 0x01 ∷ 0x01 ∷ 0x30 ∷ 0x07 ∷ 0x80 ∷ 0x05 ∷ 0x32 ∷ 0x34 ∷ 0x36 ∷ 0x38 ∷ 0x30 ∷ 0x05 ∷ 0x00 ∷ []
+
+abbrev pub interrogationOfCfb : Request
+interrogationOfCfb = requestOf 1 0 nowhere allNumbers
+
+abbrev pub activationOfCfb : Request
+activationOfCfb =
+    requestOf 1 1 (forwardedOf (numberOf unknown 0 (0x32 ∷ 0x34 ∷ 0x36 ∷ 0x38 ∷ 0x30 ∷ [])) (subOf [])) allNumbers
 
 abbrev pub samples : List Sample
 samples =
@@ -40,4 +72,13 @@ samples =
     ∷ reads-groups (0xAC ∷ 0x02 ∷ []) (groups.Is 300 2)
     ∷ writes-groups 300 (0xAC ∷ 0x02 ∷ [])
     ∷ reads-groups (0x80 ∷ 0x00 ∷ []) groups.Bad
+    -- the two requests, heard, read and written
+    ∷ hears interrogationOctets (heard.Asks (pos 1) (local (pos interrogation)) 8 18)
+    ∷ asks interrogation interrogationOctets 8 interrogationOfCfb
+    ∷ sends (pos 1) interrogation interrogationOfCfb interrogationOctets
+    ∷ hears activationOctets (heard.Asks (pos 2) (local (pos activation)) 8 27)
+    ∷ asks activation activationOctets 8 activationOfCfb
+    ∷ sends (pos 2) activation activationOfCfb activationOctets
+    -- "empty input" is not one element
+    ∷ hears [] heard.NotOne
     ∷ []

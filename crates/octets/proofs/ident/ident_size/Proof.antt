@@ -7,22 +7,16 @@ use native.Mathlib.Omega.{arith}
 use borrow.Author.Needs.{needs}
 use Rattle.octets.proofs.ident.ident_size.Statement.{statement}
 use Rattle.octets.proofs.ident.ident_size.Tie as tie
-use Rattle.octets.proofs.ident.ident_size.Reads as reads
-use Rattle.octets.proofs.ident.ident_size.Lts as lts
-use Rattle.octets.proofs.ident.ident_fewest.Reads as ident-fewest-reads
 
--- src/ident.rt:128:9
 ident-fewest-requires : tie.Need-ident-fewest-requires
 ident-fewest-requires c κs = search needs
 
--- src/ident.rt:128:5
 add-result : tie.Need-add-result
 add-result c = let z = c .before .args .value in
     let range = c .before .fits .value .sfits in
     let count = rw (toZ-ofZ (c .before .fits .value)) at (c .ident-fewest .ensures) in
     omega (arith, count, fewest-two z range)
 
--- src/ident.rt:125:1
 returns : tie.Need-returns
 returns c = let z = c .before .args .value in
     let range = c .before .fits .value .sfits in

@@ -1,0 +1,7 @@
+pub mod Goods
+pub mod Sizes
+pub mod Readers
+pub mod Arguments
+pub mod Trips
+pub mod Writers
+pub mod Senders

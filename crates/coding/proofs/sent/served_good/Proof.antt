@@ -1,0 +1,23 @@
+use Rattle.coding.specs.Sent.{servedGood}
+use borrow.Author.Tests.{eq-eqb, ne-eqb}
+use borrow.Author.Needs.{needs}
+use Rattle.coding.proofs.sent.served_good.Statement.{statement}
+use Rattle.coding.proofs.sent.served_good.Tie as tie
+
+returns : tie.Need-returns
+unfolding servedGood
+returns c = rw (eq-eqb _ _ (c .if1 .taken))
+
+number-good-requires : tie.Need-number-good-requires
+number-good-requires c κs = search needs
+
+returns-2 : tie.Need-returns-2
+unfolding servedGood
+returns-2 c = rw (ne-eqb _ _ (c .before .before .before .before .if1 .left), eq-eqb _ _ (c .before .before .if2 .taken)) (c .number-good .ensures)
+
+returns-3 : tie.Need-returns-3
+unfolding servedGood
+returns-3 c = rw (ne-eqb _ _ (c .before .before .if1 .left), ne-eqb _ _ (c .if2 .left))
+
+pub served-good-spec : {M : Type 1} → statement M
+served-good-spec = tie.close (tie.spec returns number-good-requires returns-2 returns-3)

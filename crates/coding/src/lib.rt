@@ -1,0 +1,15 @@
+// Components of document 01: octets to values, and values to octets.
+mod argument;
+mod heard;
+mod parts;
+mod request;
+mod sent;
+
+pub use argument::argument_at;
+pub use heard::Heard;
+pub use heard::Operation;
+pub use heard::hear;
+pub use request::Request;
+pub use request::RequestRead;
+pub use request::Served;
+pub use sent::put_request;

@@ -1,0 +1,29 @@
+-- Each promise of the crate coding admits one answer, and one lent output afterwards. Assumes nothing.
+use Prim.Native.Nat.{ℕ}
+use mathlib.Core.Path.{_≡_}
+use mathlib.Core.List.{List}
+use lib.IntN.{ℤ}
+use Rattle.laws.proofs.Picks.{both}
+use Rattle.coding.specs.Heard.{Hears}
+use Rattle.coding.specs.Request.{ArgumentAt}
+use Rattle.coding.specs.Sent.{PutRequest}
+use Rattle.coding.specs.declared.heard.Heard.{Heard}
+use Rattle.coding.specs.declared.heard.Operation.{Operation}
+use Rattle.coding.specs.declared.request.Request.{Request}
+use Rattle.coding.specs.declared.request.RequestRead.{RequestRead}
+
+pub only-hear : (s : List ℕ) {a b : Heard} → Hears s a → Hears s b → a ≡ b
+only-hear s = both
+
+pub only-argument-at :
+    (operation : Operation) (s : List ℕ) (at end : ℕ) {a b : RequestRead} → ArgumentAt operation s at end a →
+    ArgumentAt operation s at end b →
+    a ≡ b
+only-argument-at operation s at end = both
+
+pub only-put-request :
+    (xs : List ℕ) (identifier : ℤ) (operation : ℕ) (r : Request) {m n : ℕ} {ys zs : List ℕ} →
+    PutRequest xs identifier operation r m ys →
+    PutRequest xs identifier operation r n zs →
+    (m ≡ n) × (ys ≡ zs)
+only-put-request xs identifier operation r a b = (both (a .counted) (b .counted), both (a .holds) (b .holds))
