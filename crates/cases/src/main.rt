@@ -1,5 +1,6 @@
 // Reads cases from standard input, one to a line, and prints what the library answers to each. What it must answer stands in
 // the file stdout, written by hand from document 01; docs/ARCHITECTURE.md says how a line is built.
+mod components;
 mod line;
 mod readers;
 mod say;
@@ -7,9 +8,16 @@ mod writers;
 
 use readers::Reader;
 
+// Room for all cases; more is said to be too much.
+const SPACE: usize = 262144;
+
 fn main() {
-    let mut space = io::large_buffer();
+    let mut space = [0u8; SPACE];
     let n = io::read_full(libc::STDIN_FILENO, &mut space);
+    if n == SPACE {
+        say::text(b"too many cases\n");
+        return;
+    }
     each_line(&space[..n]);
 }
 
@@ -25,6 +33,12 @@ fn each_line(s: &[u8]) {
 
 fn case(text: &[u8]) {
     let end = line::find(text, 0, b' ');
+    if check::same(&text[..end], b"component") {
+        let mut octets = [0u8; 1024];
+        let n = line::octets(text, end, &mut octets);
+        components::heard(&octets[..n]);
+        return;
+    }
     let by = readers::reader_of(&text[..end]);
     match by {
         Reader::Unknown => {

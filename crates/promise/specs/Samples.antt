@@ -11,7 +11,6 @@ use Rattle.octets.specs.declared.ident.Ident.{Ident}
 use Rattle.octets.specs.declared.ident.Ident.the-variants as ident
 use Rattle.octets.specs.declared.groups.Groups.{Groups}
 use Rattle.octets.specs.declared.groups.Groups.the-variants as groups
-
 use Rattle.numbers.specs.Number.{unknown, numberOf}
 use Rattle.numbers.specs.Address.{subOf, forwardedOf}
 use Rattle.coding.specs.Heard.{local, heard}
