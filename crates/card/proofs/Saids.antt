@@ -1,6 +1,6 @@
 -- What C is told, from what the reader of the argument answers. Assumes nothing.
 use mathlib.Core.Path.{_≡_, refl, sym, ap, _∙_}
-use mathlib.Core.Bool.{Bool, true, false, false≢true}
+use mathlib.Core.Bool.{true, false, false≢true}
 use lib.IntN.{ℤ}
 use Rattle.laws.specs.Got.{Got, got, wrong}
 use Rattle.coding.specs.Request.{requestRead}

@@ -1,10 +1,8 @@
 -- What a component asks for, as C is told.
 use Prim.Native.Nat.{ℕ}
 use mathlib.Core.Path.{_≡_}
-use mathlib.Core.Bool.{Bool, true, false}
 use mathlib.Core.List.{List}
 use lib.IntN.{ℤ, pos}
-use Rattle.laws.specs.Pick.{pick}
 use Rattle.laws.specs.Got.{Got, got, wrong}
 use Rattle.coding.specs.Heard.{heard}
 use Rattle.coding.specs.Request.{argumentAt, requestRead}

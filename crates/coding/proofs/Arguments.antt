@@ -26,40 +26,11 @@ use Rattle.numbers.specs.declared.number.Number.{Number}
 use Rattle.numbers.specs.declared.address.Forwarded.{Forwarded}
 use Rattle.numbers.proofs.Trips.{NotNull, number-not-null, number-back, address-back}
 use Rattle.coding.specs.Heard.{argumentDepth, insideDepth, local}
-use Rattle.coding.specs.Request.{
-  activation,
-  deactivation,
-  interrogation,
-  codeAt,
-  serviceAt,
-  individual,
-  allNumbers,
-  servedIn,
-  servedAt,
-  privateAt,
-  privates,
-  nowhere,
-  requestOf,
-  lastIn,
-  activationIn,
-  deactivationIn,
-  interrogationIn,
-  contentsIn,
-  argumentAt,
-}
+use Rattle.coding.specs.Request.{activation, deactivation, interrogation, codeAt, serviceAt, individual, allNumbers, servedIn, servedAt, privateAt, privates, nowhere, requestOf, lastIn, activationIn, deactivationIn, interrogationIn, contentsIn, argumentAt}
 use Rattle.coding.specs.Sent.{servedGood, sendable, servedOctets, toOctets, contentsOctets, tidyServed, tidyRequest}
 use Rattle.coding.specs.declared.request.Served.{Served}
 use Rattle.coding.specs.declared.request.Request.{Request}
-use Rattle.coding.proofs.Goods.{
-  good-served,
-  good-to,
-  Asked,
-  activates,
-  deactivates,
-  interrogates,
-  GoodRequest,
-  good-request,
-}
+use Rattle.coding.proofs.Goods.{good-served, good-to, Asked, activates, deactivates, interrogates, GoodRequest, good-request}
 use Rattle.coding.proofs.Sizes.{all-octets, one-octets, to-octets, to-none, contents-size, contents-most}
 
 -- ---- codes

@@ -1,6 +1,6 @@
 -- What the writer of requests leaves, from what each of its steps leaves. Assumes nothing.
 use Prim.Native.Nat.{ℕ, _+_, _≤_, _<_}
-use mathlib.Core.Path.{_≡_, refl, sym, ap, _∙_}
+use mathlib.Core.Path.{_≡_, _∙_}
 use mathlib.Core.Bool.{true, false}
 use mathlib.Core.List.{List, _++_}
 use native.Mathlib.Nat.{zero-add}
@@ -8,7 +8,7 @@ use native.Mathlib.Omega.{arith}
 use lib.IntN.{ℤ, pos}
 use lib.ListN.{length}
 use Rattle.laws.specs.Over.{Wrote}
-use Rattle.laws.proofs.Over.{then, puts-then, room-then, room-after, room-true, room-false}
+use Rattle.laws.proofs.Over.{then, puts-then, room-after, room-true, room-false}
 use Rattle.octets.specs.Element.{element, PutHead}
 use Rattle.octets.specs.Enumerated.{enumeratedOctets, PutEnumerated}
 use Rattle.octets.specs.Ident.{identOctets, PutIdent}

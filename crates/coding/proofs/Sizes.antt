@@ -22,28 +22,9 @@ use Rattle.numbers.specs.Number.{numberOctets}
 use Rattle.numbers.specs.Address.{addressOctets}
 use Rattle.numbers.specs.declared.address.Forwarded.{Forwarded}
 use Rattle.numbers.proofs.Tables.{procedure-three, service-all}
-use Rattle.numbers.proofs.Sizes.{
-  number-most,
-  address-most,
-  longestNumber,
-  longest-number,
-  number-longest,
-  longestAddress,
-  longest-address,
-  address-longest,
-}
+use Rattle.numbers.proofs.Sizes.{number-most, address-most, longestNumber, longest-number, number-longest, longestAddress, longest-address, address-longest}
 use Rattle.coding.specs.Request.{activation, individual, requestOf}
-use Rattle.coding.specs.Sent.{
-  servedGood,
-  toGood,
-  partsGood,
-  sendable,
-  servedOctets,
-  ToFits,
-  toOctets,
-  contentsOctets,
-  requestOctets,
-}
+use Rattle.coding.specs.Sent.{servedGood, toGood, partsGood, sendable, servedOctets, ToFits, toOctets, contentsOctets, requestOctets}
 use Rattle.coding.specs.declared.request.Served.{Served}
 use Rattle.coding.specs.declared.request.Request.{Request}
 use Rattle.coding.proofs.Goods.{good-served, good-to, Asked, activates, deactivates, interrogates, good-request}

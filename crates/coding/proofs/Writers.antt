@@ -1,10 +1,10 @@
 -- What the writers of numbers and addresses leave, from what each of their steps leaves. Assumes nothing.
 use Prim.Native.Nat.{ℕ, _+_, _≤_}
-use mathlib.Core.Path.{_≡_, refl, sym, ap, _∙_}
+use mathlib.Core.Path.{_≡_, sym, _∙_}
 use mathlib.Core.Bool.{true}
 use mathlib.Core.List.{List, _++_}
 use native.Mathlib.Omega.{arith}
-use lib.ListN.{length, take}
+use lib.ListN.{length}
 use lib.Seq.{length-take-le}
 use Rattle.laws.specs.Over.{Wrote}
 use Rattle.laws.proofs.Over.{wrote, wrote-none, then, puts-then}

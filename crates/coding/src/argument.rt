@@ -1,4 +1,10 @@
 // The argument of a request is read (EN 300 207-1, clause 7.1; document 01, "Reading a component").
+use crate::codes::ACTIVATION;
+use crate::codes::ARGUMENTDEPTH;
+use crate::codes::DEACTIVATION;
+use crate::codes::INSIDEDEPTH;
+use crate::codes::INTERROGATION;
+use crate::codes::PROCEDURES;
 use crate::heard::Operation;
 use crate::request::Request;
 use crate::request::RequestRead;
@@ -9,9 +15,11 @@ use crate::request::no_request;
 use crate::request::no_served;
 use crate::request::to_nowhere;
 use numbers::Forwarded;
+use numbers::SERVICECOUNT;
 use numbers::address_at;
 use numbers::number_at;
 use numbers::service_place;
+use octets::ENUMERATEDTAG;
 use octets::Enumerated;
 use octets::Head;
 use octets::Skip;
@@ -27,22 +35,12 @@ ghost use Rattle.numbers.specs.Number.{valueOf, numberAt};
 ghost use Rattle.coding.specs.Heard.{argumentDepth};
 ghost use Rattle.coding.specs.Request.{codeAt, serviceAt, individual, servedAt, servedRead, privates, lastIn, activationIn, deactivationIn, interrogationIn, contentsIn, requestRead, ArgumentAt};
 
-const ACTIVATION: usize = 7;
+// The operations as the numbers that an identifier's reader hands on.
+const ACTIVATIONVALUE: usize = ACTIVATION as usize;
 
-const DEACTIVATION: usize = 8;
+const DEACTIVATIONVALUE: usize = DEACTIVATION as usize;
 
-const INTERROGATION: usize = 11;
-
-// How many elements deep an argument, and what stands in it, may go.
-const INSIDEDEPTH: u8 = 9;
-
-const ARGUMENTDEPTH: u8 = 8;
-
-const PROCEDURES: u8 = 3;
-
-const SERVICECOUNT: usize = 16;
-
-const ENUMERATEDTAG: u8 = 0x0A;
+const INTERROGATIONVALUE: usize = INTERROGATION as usize;
 
 // The procedure at `at`.
 fn procedure_at(s: &[u8], at: usize, end: usize) -> Enumerated
@@ -270,13 +268,13 @@ fn contents_in(operation: usize, s: &[u8], at: usize, end: usize) -> RequestRead
     requires { ⌜ end ≤ length (now s) ⌝ }
     ensures { λ r. ⌜ r ≡ requestRead (contentsIn operation (now (s .entry)) at end) ⌝ }
 {
-    if operation == ACTIVATION {
+    if operation == ACTIVATIONVALUE {
         return activation_in(s, at, end);
     }
-    if operation == DEACTIVATION {
+    if operation == DEACTIVATIONVALUE {
         return deactivation_in(s, at, end);
     }
-    if operation == INTERROGATION {
+    if operation == INTERROGATIONVALUE {
         return interrogation_in(s, at, end);
     }
     no_request()

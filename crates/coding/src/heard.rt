@@ -1,15 +1,12 @@
 // What an arriving component says, down to where its argument stands (document 01, "Replies, in the order checked").
+use crate::codes::COMPONENTDEPTH;
+use crate::codes::INSIDEDEPTH;
 use octets::Head;
 use octets::Ident;
 use octets::head_at;
 use octets::ident_at;
 ghost use mathlib.Core.Path.{_≡_};
 ghost use Rattle.coding.specs.Heard.{replyTag, operationAt, identifierAt, Hears};
-
-// How many elements deep a component, and what stands in it, may go.
-const COMPONENTDEPTH: u8 = 10;
-
-const INSIDEDEPTH: u8 = 9;
 
 // An operation: a local value.
 pub struct Operation {

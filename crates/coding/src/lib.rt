@@ -1,5 +1,6 @@
 // Components of document 01: octets to values, and values to octets.
 mod argument;
+mod codes;
 mod heard;
 mod parts;
 mod request;

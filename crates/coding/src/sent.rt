@@ -1,5 +1,9 @@
 // Requests are written as the customer end sends them.
 use crate::argument::service_code;
+use crate::codes::ACTIVATION;
+use crate::codes::DEACTIVATION;
+use crate::codes::INTERROGATION;
+use crate::codes::PROCEDURES;
 use crate::parts::address_size;
 use crate::parts::number_size;
 use crate::parts::write_address;
@@ -19,14 +23,6 @@ ghost use Prim.Native.Nat.{_+_, _≤_};
 ghost use lib.ListN.{length};
 ghost use Rattle.laws.specs.Over.{Wrote};
 ghost use Rattle.coding.specs.Sent.{servedGood, toGood, partsGood, sendable, servedOctets, toOctets, contentsOctets, ToFits, PutRequest};
-
-const ACTIVATION: u8 = 7;
-
-const DEACTIVATION: u8 = 8;
-
-const INTERROGATION: u8 = 11;
-
-const PROCEDURES: u8 = 3;
 
 fn served_good(served: Served) -> bool
     ensures { λ r. ⌜ r ≡ servedGood served ⌝ }

@@ -1,7 +1,7 @@
 -- Laws of `fewest`: it will do, none below it does, and it is within its bound. Assumes nothing.
-use Prim.Native.Nat.{ℕ, zero, suc, _+_, _≤_, _<_}
+use Prim.Native.Nat.{ℕ, zero, suc, _+_, _≤_}
 use mathlib.Core.Path.{_≡_, refl, sym, _∙_}
-use mathlib.Core.Bool.{Bool, true, false}
+use mathlib.Core.Bool.{Bool, true, false, false≢true}
 use mathlib.Core.Logic.{⊎-elim}
 use native.Mathlib.Nat.{add-zero, zero-add, add-suc, suc-add, eq-or-lt-of-le}
 use native.Mathlib.Omega.{arith}
@@ -40,12 +40,9 @@ module _ (will : ℕ → Bool) where
   least-from (suc more) from k le h =
       pick-ind (λ j. j ≤ k) (will from) (λ _. le)
       (λ no. ⊎-elim
-      (λ same. let z : _≡_ {A = Bool} true false = sym h ∙ rw (← same) no in absurd (clash z))
+      (λ same. absurd (false≢true (sym no ∙ rw same h)))
       (λ lt. least-from more (suc from) k lt h)
       (eq-or-lt-of-le le))
-    where
-      clash : _≡_ {A = Bool} true false → ⊥
-      clash z = let w : _≡_ {A = ℕ} 0 1 = cc in omega arith
 
   -- the fewest will do, if the most will
   pub fewest-will : (most : ℕ) → will most ≡ true → will (fewest will most) ≡ true

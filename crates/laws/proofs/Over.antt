@@ -8,9 +8,8 @@ use native.Mathlib.Nat.{add-suc, suc-add, add-zero}
 use native.Mathlib.Numerals.{add-one}
 use native.Mathlib.Omega.{arith}
 use lib.ListN.{length, take, drop, getD, set, length-append}
-use lib.Seq.{sets, sets-eq, length-sets, set-comm, take-suc, take-append-seam, length-take-le}
+use lib.Seq.{sets-eq, length-sets, set-comm, take-suc, take-append-seam, length-take-le}
 use borrow.Author.Tests.{le-leb, lt-leb, leb-true}
-use Rattle.laws.specs.Pick.{pick}
 use Rattle.laws.specs.Over.{over, room, Wrote, Puts}
 use Rattle.laws.proofs.Picks.{both}
 

@@ -1,8 +1,8 @@
 -- Laws of the readers and tests of this crate, over plain values. Assumes nothing.
 use Prim.Native.Nat.{ℕ, zero, suc, _+_, _-_, _≤_, _<_}
 use mathlib.Core.Path.{_≡_, refl, sym, ap, _∙_}
-use mathlib.Core.Bool.{Bool, true, false}
-use mathlib.Core.List.{List, [], _∷_, _++_}
+use mathlib.Core.Bool.{true, false, false≢true}
+use mathlib.Core.List.{List}
 use native.Mathlib.Nat.{zero-add, sub-zero, zero-sub, suc-sub-suc}
 use native.Mathlib.Numerals.{add-one}
 use native.Mathlib.Omega.{arith}
@@ -170,19 +170,15 @@ module _ (s : List ℕ) (start stop : ℕ) (inside : stop ≤ length s) (some : 
 
 -- ---- what the readers answer
 
--- one answer is not the other
-clash : _≡_ {A = Bool} true false → ⊥
-clash z = let w : _≡_ {A = ℕ} 0 1 = cc in omega arith
-
 -- an answer with `ok` names what was found
 pub number-found :
     (g : Got Number) (r : NumberRead) → r ≡ numberRead g → r .ok ≡ true → g ≡ got (r .number) (r .next)
 number-found (got number next) r e h = rw e
-number-found wrong r e h = absurd (clash (sym h ∙ ap (λ (x : NumberRead). x .ok) e))
+number-found wrong r e h = absurd (false≢true (sym (ap (λ (x : NumberRead). x .ok) e) ∙ h))
 
 -- an answer without says that there is none
 pub number-none : (g : Got Number) (r : NumberRead) → r ≡ numberRead g → r .ok ≡ false → g ≡ wrong
-number-none (got number next) r e h = absurd (clash (sym (ap (λ (x : NumberRead). x .ok) e) ∙ h))
+number-none (got number next) r e h = absurd (false≢true (sym h ∙ ap (λ (x : NumberRead). x .ok) e))
 number-none wrong r e h = refl
 
 -- the same of a subaddress: the address that it ends
@@ -192,20 +188,20 @@ pub sub-found :
     record { ok = true; to = forwardedOf number (r .sub); next = next }
     (addressRead (andThen g (λ sub last. got (forwardedOf number sub) next)))
 sub-found (got sub last) r number next e h = rw e
-sub-found wrong r number next e h = absurd (clash (sym h ∙ ap (λ (x : SubRead). x .ok) e))
+sub-found wrong r number next e h = absurd (false≢true (sym (ap (λ (x : SubRead). x .ok) e) ∙ h))
 
 pub sub-none : (g : Got Sub) (r : SubRead) → r ≡ subRead g → r .ok ≡ false → g ≡ wrong
-sub-none (got sub last) r e h = absurd (clash (sym (ap (λ (x : SubRead). x .ok) e) ∙ h))
+sub-none (got sub last) r e h = absurd (false≢true (sym h ∙ ap (λ (x : SubRead). x .ok) e))
 sub-none wrong r e h = refl
 
 -- the same of an address
 pub address-found :
     (g : Got Forwarded) (r : AddressRead) → r ≡ addressRead g → r .ok ≡ true → g ≡ got (r .to) (r .next)
 address-found (got to next) r e h = rw e
-address-found wrong r e h = absurd (clash (sym h ∙ ap (λ (x : AddressRead). x .ok) e))
+address-found wrong r e h = absurd (false≢true (sym (ap (λ (x : AddressRead). x .ok) e) ∙ h))
 
 pub address-none : (g : Got Forwarded) (r : AddressRead) → r ≡ addressRead g → r .ok ≡ false → g ≡ wrong
-address-none (got to next) r e h = absurd (clash (sym (ap (λ (x : AddressRead). x .ok) e) ∙ h))
+address-none (got to next) r e h = absurd (false≢true (sym h ∙ ap (λ (x : AddressRead). x .ok) e))
 address-none wrong r e h = refl
 
 -- ---- where what was found ends

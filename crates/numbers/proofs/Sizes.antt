@@ -15,18 +15,7 @@ use Rattle.octets.specs.Element.{element}
 use Rattle.octets.specs.Enumerated.{enumeratedOctets}
 use Rattle.octets.proofs.Elements.{length-small}
 use Rattle.octets.proofs.Enumerateds.{length-enumerated}
-use Rattle.numbers.specs.Number.{
-  most,
-  unknown,
-  public,
-  allDigits,
-  fair,
-  digitsGood,
-  typeGood,
-  digitsOf,
-  numberGood,
-  numberOctets,
-}
+use Rattle.numbers.specs.Number.{most, unknown, public, allDigits, fair, digitsGood, typeGood, digitsOf, numberGood, numberOctets}
 use Rattle.numbers.specs.Address.{subOctetsOf, addressGood, subOctets, addressOctets}
 use Rattle.numbers.specs.declared.number.Number.{Number}
 use Rattle.numbers.specs.declared.address.Address.{Address}

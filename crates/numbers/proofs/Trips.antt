@@ -18,47 +18,12 @@ use Rattle.octets.specs.declared.head.Head.{Head}
 use Rattle.octets.specs.declared.head.Head.the-variants as head
 use Rattle.octets.proofs.Elements.{length-small, Inside, inside}
 use Rattle.octets.proofs.Enumerateds.{enumerated-back}
-use Rattle.numbers.specs.Number.{
-  most,
-  unknown,
-  public,
-  digitsGood,
-  typeGood,
-  numberOf,
-  digitsIn,
-  stringAt,
-  publicIn,
-  otherTag,
-  numberIn,
-  numberAt,
-  digitsOf,
-  tidyNumber,
-  numberGood,
-  numberOctets,
-}
-use Rattle.numbers.specs.Address.{
-  subOf,
-  octetsIn,
-  subAt,
-  addressAt,
-  subOctetsOf,
-  tidyAddress,
-  addressGood,
-  subOctets,
-  addressOctets,
-}
+use Rattle.numbers.specs.Number.{most, unknown, public, digitsGood, typeGood, numberOf, digitsIn, stringAt, publicIn, otherTag, numberIn, numberAt, digitsOf, tidyNumber, numberGood, numberOctets}
+use Rattle.numbers.specs.Address.{subOf, octetsIn, subAt, addressAt, subOctetsOf, tidyAddress, addressGood, subOctets, addressOctets}
 use Rattle.numbers.specs.declared.number.Number.{Number}
 use Rattle.numbers.specs.declared.address.Address.{Address}
 use Rattle.numbers.proofs.Goods.{some-fair, digits-fair, good-number, good-address}
-use Rattle.numbers.proofs.Sizes.{
-  unknown-octets,
-  public-octets,
-  public-inside,
-  sub-none,
-  sub-some,
-  sub-few,
-  contents-most,
-}
+use Rattle.numbers.proofs.Sizes.{unknown-octets, public-octets, public-inside, sub-none, sub-some, sub-few, contents-most}
 
 -- ---- numbers
 

@@ -4,12 +4,11 @@ use Prim.Native.Nat.{ℕ, _+_, _-_}
 use mathlib.Core.Path.{_≡_}
 use mathlib.Core.Bool.{Bool, true, false}
 use mathlib.Core.List.{List, [], _∷_, _++_}
-use lib.ListN.{length, getD, take, replicate}
+use lib.ListN.{length, take, replicate}
 use lib.Seq.{slice}
 use lib.Dec.{ltb, leb, eqb}
 use Rattle.laws.specs.Pick.{pick}
 use Rattle.laws.specs.Got.{Got, got, wrong, andThen}
-use Rattle.laws.specs.Over.{Puts}
 use Rattle.octets.specs.Head.{headAt}
 use Rattle.octets.specs.Element.{element}
 use Rattle.octets.specs.Enumerated.{enumeratedAt, enumeratedOctets}

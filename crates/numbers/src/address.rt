@@ -1,4 +1,5 @@
 // Addresses: a number and perhaps a subaddress (document 01, "Numbers").
+use crate::number::MOST;
 use crate::number::Number;
 use crate::number::number_at;
 use crate::number::number_good;
@@ -10,9 +11,6 @@ ghost use Prim.Native.Nat.{_≤_};
 ghost use lib.ListN.{length};
 ghost use Rattle.laws.specs.Got.{got, wrong};
 ghost use Rattle.numbers.specs.Address.{octetsIn, subAt, subRead, userSub, addressRead, AddressAt, AddressGood};
-
-// The most octets of a subaddress.
-const MOST: usize = 20;
 
 // An address: `subcount` octets of subaddress, none where it is 0. Places past the count carry no meaning.
 #[repr(C)]

@@ -3,7 +3,7 @@ ghost use mathlib.Core.Path.{_≡_};
 ghost use Rattle.numbers.specs.Codes.{ServicePlace, TrunkReason};
 
 // How many basic services there are.
-const SERVICECOUNT: usize = 16;
+pub const SERVICECOUNT: usize = 16;
 
 // The basic services besides 0, all of them; ascending.
 const SERVICES: [u8; SERVICECOUNT] = [1, 2, 3, 4, 5, 32, 33, 34, 35, 36, 37, 38, 39, 40, 41, 42];

@@ -8,6 +8,7 @@ pub use address::AddressRead;
 pub use address::Forwarded;
 pub use address::address_at;
 pub use address::address_good;
+pub use codes::SERVICECOUNT;
 pub use codes::service_place;
 pub use codes::trunkreason;
 pub use number::Number;

@@ -11,8 +11,8 @@ ghost use mathlib.Core.List.{[]};
 ghost use Rattle.laws.specs.Got.{got, wrong};
 ghost use Rattle.numbers.specs.Number.{allDigits, typeGood, otherTag, padded, digitsIn, stringAt, publicIn, numberOf, other, numberRead, NumberAt, NumberGood};
 
-// The most digits of a number, and the forms of its record.
-const MOST: usize = 20;
+// The most digits of a number, which are also the most octets of a subaddress, and the forms of its record.
+pub(crate) const MOST: usize = 20;
 
 const UNKNOWN: u8 = 0;
 

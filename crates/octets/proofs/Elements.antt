@@ -1,8 +1,8 @@
 -- What is written as an element reads back as that element, with any length coding that is allowed. Assumes nothing.
 use Prim.Native.Nat.{ℕ, suc, _+_, _%_, _≤_, _<_}
-use mathlib.Core.Path.{_≡_, refl, sym, ap, _∙_}
+use mathlib.Core.Path.{_≡_, ap}
 use mathlib.Core.Bool.{true}
-use mathlib.Core.List.{List, [], _∷_, _++_}
+use mathlib.Core.List.{List, [], _∷_}
 use native.Mathlib.Omega.{arith}
 use lib.ListN.{length, getD, length-append}
 use borrow.Author.Tests.{le-ltb, lt-leb, ne-eqb}
@@ -10,9 +10,9 @@ use Rattle.laws.specs.Over.{Wrote}
 use Rattle.laws.specs.Stands.{Stands}
 use Rattle.laws.proofs.Over.{wrote, room-then, puts-then}
 use Rattle.laws.proofs.Stands.{stands-first, stands-left, stands-right}
-use Rattle.octets.specs.Head.{lengthMost, headAt, lengthAt}
+use Rattle.octets.specs.Head.{lengthMost, headAt}
 use Rattle.octets.specs.Element.{lengthHolds, lengthWith, lengthFewest, headWith, headOctets, element, PutHead}
-use Rattle.octets.specs.declared.head.Head.the-variants.{Is, Bad}
+use Rattle.octets.specs.declared.head.Head.the-variants.{Is}
 use Rattle.octets.proofs.Lengths.{length-length, length-back, fewest-short, shortest-holds, shortest-most}
 
 -- a head with k octets after the length's first, k as it likes

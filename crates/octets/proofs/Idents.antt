@@ -1,42 +1,25 @@
 -- Laws of identifiers, once over the number w of contents octets: the bound, the shortest form, and that what is written
 -- reads back with its exact sign. Assumes nothing.
-use Prim.Native.Nat.{ℕ, zero, suc, _+_, _-_, _*_, _^_, _≤_, _<_}
+use Prim.Native.Nat.{ℕ, zero, suc, _+_, _-_, _^_, _≤_, _<_}
 use mathlib.Core.Path.{_≡_, refl, sym, ap, _∙_}
 use mathlib.Core.Bool.{Bool, true, false}
-use mathlib.Core.List.{List, [], _∷_}
+use mathlib.Core.List.{List, _∷_}
 use native.Mathlib.Nat.{pow-le-pow-right}
 use native.Mathlib.Omega.{arith}
-use lib.IntN.{ℤ, pos, negsuc}
+use lib.IntN.{ℤ}
 use lib.Signed.{mag}
-use lib.ListN.{length, getD, length-append}
-use lib.Dec.{ltb, eqb}
-use borrow.Author.Tests.{lt-ltb, le-ltb, eq-eqb, ne-eqb, ltb-true, ltb-false}
+use lib.ListN.{length}
+use borrow.Author.Tests.{lt-ltb, le-ltb, ne-eqb, ltb-true}
 use Rattle.laws.specs.Fewest.{fewestFrom}
 use Rattle.laws.specs.Stands.{Stands}
-use Rattle.laws.proofs.Picks.{pick-ind}
 use Rattle.laws.proofs.Fewest.{fewest-step, fewest-will, fewest-most, fewest-least}
-use Rattle.octets.specs.Word.{wordAt, wordOctets}
-use Rattle.octets.specs.Head.{headAt}
+use Rattle.octets.specs.Word.{wordAt}
 use Rattle.octets.specs.Element.{headOctets, element}
-use Rattle.octets.specs.Ident.{
-  identTag,
-  identMost,
-  half,
-  twos,
-  bits,
-  identHolds,
-  shortest,
-  identIn,
-  identAt,
-  identFewest,
-  identWith,
-  identOctets,
-}
-use Rattle.octets.specs.declared.ident.Ident.{Ident}
+use Rattle.octets.specs.Ident.{identTag, identMost, half, twos, bits, identHolds, identIn, identAt, identFewest, identWith, identOctets}
 use Rattle.octets.specs.declared.ident.Ident.the-variants.{Is, Unreadable}
 use Rattle.octets.proofs.Words.{length-word, word-back}
 use Rattle.octets.proofs.Elements.{length-head, length-element, element-small, element-back, element-contents}
-use Rattle.octets.proofs.Signs.{twos-low, twos-high, twos-bits, bits-small}
+use Rattle.octets.proofs.Signs.{twos-bits, bits-small}
 
 -- half of the numbers of w octets, twice, is all of them
 pub half-twice : (w : ℕ) → (w ≡ 0 → ⊥) → half w + half w ≡ 256 ^ w

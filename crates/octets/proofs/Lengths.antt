@@ -1,12 +1,11 @@
 -- Laws of lengths, once over the number k of octets after the first: how long, the shortest of them, and that each reads
 -- back. Assumes nothing.
 use Prim.Native.Nat.{ℕ, zero, suc, _+_, _-_, _^_, _≤_, _<_}
-use mathlib.Core.Path.{_≡_, refl, sym, ap, _∙_}
-use mathlib.Core.Bool.{Bool, true, false}
+use mathlib.Core.Path.{_≡_, refl, ap}
+use mathlib.Core.Bool.{true}
 use mathlib.Core.List.{List, [], _∷_}
 use native.Mathlib.Omega.{arith}
 use lib.ListN.{length, getD}
-use lib.Dec.{ltb, leb, eqb}
 use borrow.Author.Tests.{lt-ltb, le-ltb, le-leb, lt-leb, ne-eqb, ltb-true}
 use Rattle.laws.specs.Stands.{Stands}
 use Rattle.laws.specs.Fewest.{fewestFrom}
@@ -15,7 +14,7 @@ use Rattle.laws.proofs.Stands.{stands-first, stands-right}
 use Rattle.octets.specs.Word.{wordAt, wordOctets}
 use Rattle.octets.specs.Head.{lengthMost, spanOf, lengthBy, lengthAt}
 use Rattle.octets.specs.Element.{lengthHolds, lengthWith, lengthFewest}
-use Rattle.octets.specs.declared.head.Span.the-variants.{Is, Wrong}
+use Rattle.octets.specs.declared.head.Span.the-variants.{Is}
 use Rattle.octets.proofs.Words.{length-word, word-back}
 
 -- the bound: k octets after the first say every length below 256 ^ k (below 128 with none)

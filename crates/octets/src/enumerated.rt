@@ -4,7 +4,7 @@ use crate::head::head_at;
 use crate::write::write_octet;
 ghost use Rattle.octets.specs.Enumerated.{EnumeratedAt, PutEnumerated};
 
-const ENUMERATEDTAG: u8 = 0x0A;
+pub const ENUMERATEDTAG: u8 = 0x0A;
 
 // An enumerated value, and the place after its element.
 pub enum Enumerated {

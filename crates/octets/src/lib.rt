@@ -8,6 +8,7 @@ mod skip;
 mod word;
 mod write;
 
+pub use enumerated::ENUMERATEDTAG;
 pub use enumerated::Enumerated;
 pub use enumerated::enumerated_at;
 pub use enumerated::put_enumerated;

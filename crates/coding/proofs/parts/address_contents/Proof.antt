@@ -3,7 +3,7 @@ use lib.Dec.{eqb}
 use Rattle.numbers.proofs.Sizes.{number-size, contents-size, contents-most}
 use Rattle.numbers.proofs.Goods.{good-address}
 use Rattle.numbers.specs.Number.{most}
-use lib.ListN.{length, take}
+use lib.ListN.{length}
 use mathlib.Core.Path.{_≡_}
 use Prim.Native.Nat.{_+_}
 use native.Mathlib.Omega.{arith}

@@ -1,4 +1,4 @@
-use Rattle.numbers.proofs.Sizes.{address-long, address-size}
+use Rattle.numbers.proofs.Sizes.{address-long}
 use native.Mathlib.Omega.{arith}
 use borrow.Author.Needs.{needs}
 use Rattle.coding.proofs.parts.address_size.Statement.{statement}

@@ -1,7 +1,6 @@
-use lib.Dec.{eqb}
 use Rattle.numbers.proofs.Sizes.{number-size, number-most}
 use Rattle.numbers.specs.Number.{most, numberOctets}
-use lib.ListN.{length, take}
+use lib.ListN.{length}
 use mathlib.Core.Path.{_≡_, sym}
 use Prim.Native.Nat.{_+_}
 use native.Mathlib.Omega.{arith}

@@ -3,9 +3,8 @@ use Rattle.coding.proofs.Writers.{address-wrote}
 use Rattle.numbers.proofs.Goods.{good-address}
 use Rattle.numbers.specs.Address.{subOctetsOf, subOctets}
 use Rattle.numbers.specs.Number.{numberOctets}
-use Rattle.laws.proofs.Over.{wrote, then, room-then}
-use lib.ListN.{length, length-append}
-use mathlib.Core.Path.{ap}
+use Rattle.laws.proofs.Over.{room-then}
+use lib.ListN.{length-append}
 use native.Mathlib.Omega.{arith}
 use borrow.Author.Needs.{needs}
 use Rattle.coding.proofs.parts.write_address.Statement.{statement}

@@ -1,8 +1,7 @@
 use Rattle.coding.proofs.Writers.{digits-counted, unknown-wrote, public-wrote}
 use Rattle.numbers.proofs.Goods.{good-number}
 use Rattle.numbers.specs.Number.{most}
-use Rattle.laws.proofs.Over.{wrote}
-use lib.ListN.{length, take}
+use lib.ListN.{length}
 use mathlib.Core.Path.{_≡_, sym}
 use native.Mathlib.Omega.{arith}
 use borrow.Author.Needs.{needs}

@@ -2,8 +2,7 @@ use Rattle.coding.proofs.Writers.{sub-unwritten}
 use Rattle.coding.proofs.Writers.{sub-counted, sub-wrote}
 use Rattle.numbers.proofs.Goods.{good-address}
 use Rattle.numbers.specs.Number.{most}
-use Rattle.laws.proofs.Over.{wrote}
-use lib.ListN.{length, take}
+use lib.ListN.{length}
 use mathlib.Core.Path.{_≡_, sym}
 use native.Mathlib.Omega.{arith}
 use borrow.Author.Needs.{needs}

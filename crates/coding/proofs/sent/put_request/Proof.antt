@@ -1,12 +1,9 @@
 use Rattle.coding.specs.Sent.{requestOctets}
 use Rattle.coding.proofs.Senders.{room-contents, request-wrote, not-sendable, not-room, is-sent}
 use Rattle.coding.proofs.Sizes.{contents-size, operation-size, inside-size, request-size}
-use Rattle.coding.specs.Sent.{sendable}
 use Rattle.octets.proofs.Idents.{ident-most}
 use mir.Facts.{toZ-ofZ, toZ-pos}
-use mir.Val.{toZ, ofZ}
 use mir.Syntax.{w16}
-use lib.IntN.{pos}
 use lib.ListN.{length}
 use mathlib.Core.Path.{sym, _∙_}
 use Prim.Native.Nat.{_≤_}

@@ -4,8 +4,6 @@ use Rattle.coding.proofs.Senders.{room-rest, contents-wrote}
 use Rattle.coding.proofs.Goods.{good-request}
 use Rattle.coding.specs.Sent.{servedOctets}
 use Rattle.laws.proofs.Over.{room-then}
-use lib.ListN.{length}
-use mathlib.Core.Path.{ap}
 use native.Mathlib.Omega.{arith}
 use borrow.Author.Needs.{needs}
 use Rattle.coding.proofs.sent.write_contents.Statement.{statement}

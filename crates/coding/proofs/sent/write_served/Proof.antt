@@ -2,7 +2,6 @@ use Rattle.coding.proofs.Sizes.{all-octets, one-octets}
 use Rattle.coding.proofs.Goods.{one-served}
 use Rattle.octets.proofs.Elements.{headed}
 use Rattle.laws.proofs.Over.{wrote-none}
-use lib.ListN.{length}
 use mathlib.Core.Path.{refl}
 use borrow.Author.Needs.{needs}
 use Rattle.coding.proofs.sent.write_served.Statement.{statement}

@@ -1,7 +1,6 @@
 use Rattle.coding.proofs.Sizes.{to-octets, to-none}
 use Rattle.coding.proofs.Goods.{good-to}
 use Rattle.laws.proofs.Over.{wrote-none}
-use lib.ListN.{length}
 use borrow.Author.Needs.{needs}
 use Rattle.coding.proofs.sent.write_to.Statement.{statement}
 use Rattle.coding.proofs.sent.write_to.Tie as tie

@@ -1,9 +1,7 @@
 use borrow.Author.Needs.{sfits-of}
 use Rattle.octets.proofs.Idents.{half-twice, half-most, ident-not-shortest, ident-read}
 use Rattle.octets.specs.Ident.{identIn}
-use lib.Signed.{mag}
 use mir.Facts.{toZ-ofZ}
-use mir.Val.{toZ, ofZ}
 use mir.Syntax.{w16}
 use Rattle.laws.proofs.Cases.{cases}
 use mathlib.Core.Path.{_∙_}

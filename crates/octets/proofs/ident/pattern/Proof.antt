@@ -1,7 +1,5 @@
 use Rattle.octets.proofs.Signs.{bits-negative, bits-positive}
-use lib.IntN.{pos}
 use mir.Facts.{toZ-ofZ}
-use mir.Val.{toZ, ofZ}
 use Prim.Native.Nat.{_-_}
 use native.Mathlib.Omega.{arith}
 use borrow.Author.Needs.{needs}

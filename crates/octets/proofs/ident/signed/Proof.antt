@@ -1,8 +1,7 @@
 use mir.Val.{SFits}
 use Rattle.octets.proofs.Signs.{minus, twos-low, twos-high}
-use lib.IntN.{pos, negsuc}
+use lib.IntN.{negsuc}
 use mir.Facts.{toZ-ofZ, toZ-pos}
-use mir.Val.{toZ, ofZ}
 use mir.Syntax.{w16}
 use Prim.Native.Nat.{_+_, _-_}
 use native.Mathlib.Omega.{arith}

@@ -1,7 +1,5 @@
 use Rattle.laws.proofs.Over.{over-one}
 use mathlib.Core.Path.{sym}
-use Rattle.laws.specs.Over.{over}
-use lib.ListN.{length}
 use mathlib.Core.Path.{refl}
 use Prim.Native.Nat.{_-_}
 use borrow.Author.Needs.{needs}
