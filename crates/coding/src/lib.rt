@@ -1,4 +1,5 @@
 // Components of document 01: octets to values, and values to octets.
+mod answer;
 mod argument;
 mod codes;
 mod heard;
@@ -6,6 +7,10 @@ mod parts;
 mod request;
 mod sent;
 
+pub use answer::Answer;
+pub use answer::Problem;
+pub use answer::Whose;
+pub use answer::put_answer;
 pub use argument::argument_at;
 pub use heard::Heard;
 pub use heard::Operation;

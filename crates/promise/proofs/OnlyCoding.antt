@@ -4,9 +4,12 @@ use mathlib.Core.Path.{_≡_}
 use mathlib.Core.List.{List}
 use lib.IntN.{ℤ}
 use Rattle.laws.proofs.Picks.{both}
+use Rattle.laws.proofs.Over.{only-puts}
+use Rattle.coding.specs.Answer.{PutAnswer}
 use Rattle.coding.specs.Heard.{Hears}
 use Rattle.coding.specs.Request.{ArgumentAt}
 use Rattle.coding.specs.Sent.{PutRequest}
+use Rattle.coding.specs.declared.answer.Answer.{Answer}
 use Rattle.coding.specs.declared.heard.Heard.{Heard}
 use Rattle.coding.specs.declared.heard.Operation.{Operation}
 use Rattle.coding.specs.declared.request.Request.{Request}
@@ -27,3 +30,9 @@ pub only-put-request :
     PutRequest xs identifier operation r n zs →
     (m ≡ n) × (ys ≡ zs)
 only-put-request xs identifier operation r a b = (both (a .counted) (b .counted), both (a .holds) (b .holds))
+
+pub only-put-answer :
+    (xs : List ℕ) (answer : Answer) {m n : ℕ} {ys zs : List ℕ} → PutAnswer xs answer m ys →
+    PutAnswer xs answer n zs →
+    (m ≡ n) × (ys ≡ zs)
+only-put-answer xs answer = only-puts

@@ -13,9 +13,14 @@ use Rattle.octets.specs.declared.groups.Groups.{Groups}
 use Rattle.octets.specs.declared.groups.Groups.the-variants as groups
 use Rattle.numbers.specs.Number.{unknown, numberOf}
 use Rattle.numbers.specs.Address.{subOf, forwardedOf}
+use Rattle.coding.specs.Answer.{answerOctets}
 use Rattle.coding.specs.Heard.{local, heard}
 use Rattle.coding.specs.Request.{activation, interrogation, allNumbers, nowhere, requestOf, argumentAt}
 use Rattle.coding.specs.Sent.{requestOctets}
+use Rattle.coding.specs.declared.answer.Answer.{Answer}
+use Rattle.coding.specs.declared.answer.Answer.the-variants as answer
+use Rattle.coding.specs.declared.answer.Problem.the-variants as problem
+use Rattle.coding.specs.declared.answer.Whose.the-variants as whose
 use Rattle.coding.specs.declared.heard.Heard.{Heard}
 use Rattle.coding.specs.declared.heard.Heard.the-variants as heard
 use Rattle.coding.specs.declared.request.Request.{Request}
@@ -28,6 +33,7 @@ pub data Sample : Type 0 where
   hears : List ℕ → Heard → Sample
   asks : (operation : ℕ) → List ℕ → (at : ℕ) → Request → Sample
   sends : (identifier : ℤ) (operation : ℕ) → Request → List ℕ → Sample
+  answers : Answer → List ℕ → Sample
 
 -- what a sample says: octets are read from the first to the end
 abbrev pub Says : Sample → Type 0
@@ -38,6 +44,7 @@ Says (writes-groups n s) = groups n ≡ s
 Says (hears s r) = heard s ≡ r
 Says (asks operation s at r) = argumentAt (local (pos operation)) s at (length s) ≡ got r (length s)
 Says (sends identifier operation r s) = requestOctets identifier operation r ≡ s
+Says (answers a s) = answerOctets a ≡ s
 
 abbrev pub Each : List Sample → Type 0
 Each [] = Unit {0}
@@ -80,4 +87,10 @@ samples =
     ∷ sends (pos 2) activation activationOfCfb activationOctets
     -- "empty input" is not one element
     ∷ hears [] heard.NotOne
+    -- the replies: "`A2 03 02 01 02`", the duplicate, "not subscribed, identifier 1", and that to the empty input
+    ∷ answers (answer.Result (pos 2)) (0xA2 ∷ 0x03 ∷ 0x02 ∷ 0x01 ∷ 0x02 ∷ [])
+    ∷ answers (answer.Reject (whose.Own (pos 2)) (problem.Invoke 0))
+    (0xA4 ∷ 0x06 ∷ 0x02 ∷ 0x01 ∷ 0x02 ∷ 0x81 ∷ 0x01 ∷ 0x00 ∷ [])
+    ∷ answers (answer.Error (pos 1) 0) (0xA3 ∷ 0x06 ∷ 0x02 ∷ 0x01 ∷ 0x01 ∷ 0x02 ∷ 0x01 ∷ 0x00 ∷ [])
+    ∷ answers (answer.Reject whose.Null (problem.General 2)) (0xA4 ∷ 0x05 ∷ 0x05 ∷ 0x00 ∷ 0x80 ∷ 0x01 ∷ 0x02 ∷ [])
     ∷ []
