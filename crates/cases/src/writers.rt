@@ -75,7 +75,7 @@ fn smaller(by: Writer, size: usize, line: &[u8]) {
 }
 
 // Whether every octet of `s` but those from `from` up to `to` is as it was.
-fn untouched(s: &[u8], from: usize, to: usize) -> bool {
+pub(crate) fn untouched(s: &[u8], from: usize, to: usize) -> bool {
     let mut i = 0;
     while i < s.len() {
         let inside = from <= i && i < to;

@@ -1,5 +1,5 @@
-use native.Mathlib.Omega.{arith}
 use lib.ListN.{length-take}
+use native.Mathlib.Omega.{arith}
 use borrow.Author.Needs.{needs}
 use Rattle.cases.proofs.case.Statement.{statement}
 use Rattle.cases.proofs.case.Tie as tie
@@ -34,6 +34,21 @@ heard-requires c κs = search needs
 returns : tie.Need-returns
 returns c = search needs
 
+slice-aggregate-is-answer : tie.Need-slice-aggregate-is-answer
+slice-aggregate-is-answer c = simp length-take (omega arith)
+
+is-answer-requires : tie.Need-is-answer-requires
+is-answer-requires c κs = search needs
+
+slice-aggregate-written : tie.Need-slice-aggregate-written
+slice-aggregate-written c = simp length-take (omega arith)
+
+written-requires : tie.Need-written-requires
+written-requires c κs = search needs
+
+returns-2 : tie.Need-returns-2
+returns-2 c = search needs
+
 slice-aggregate-reader-of : tie.Need-slice-aggregate-reader-of
 slice-aggregate-reader-of c = simp length-take (omega arith)
 
@@ -67,11 +82,11 @@ slice-aggregate-whole-and-cut c = simp length-take (omega arith)
 whole-and-cut-requires : tie.Need-whole-and-cut-requires
 whole-and-cut-requires c κs = search needs
 
-returns-2 : tie.Need-returns-2
-returns-2 c = search needs
-
 returns-3 : tie.Need-returns-3
 returns-3 c = search needs
+
+returns-4 : tie.Need-returns-4
+returns-4 c = search needs
 
 pub case-spec : {M : Type 1} → statement M
 case-spec =
@@ -87,6 +102,11 @@ case-spec =
     slice-aggregate-heard
     heard-requires
     returns
+    slice-aggregate-is-answer
+    is-answer-requires
+    slice-aggregate-written
+    written-requires
+    returns-2
     slice-aggregate-reader-of
     reader-of-requires
     enum-told
@@ -98,5 +118,5 @@ case-spec =
     array-share-prefix-octets-2
     slice-aggregate-whole-and-cut
     whole-and-cut-requires
-    returns-2
-    returns-3)
+    returns-3
+    returns-4)
