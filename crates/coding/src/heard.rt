@@ -31,7 +31,7 @@ pub enum Heard {
 }
 
 // Whether a component with this tag is a reply or a reject.
-fn reply_tag(tag: u8) -> bool
+pub(crate) fn reply_tag(tag: u8) -> bool
     ensures { λ r. ⌜ r ≡ replyTag tag ⌝ }
 {
     if tag == 0xA2 {

@@ -4,6 +4,7 @@ mod argument;
 mod codes;
 mod heard;
 mod parts;
+mod reply;
 mod request;
 mod sent;
 
@@ -15,6 +16,8 @@ pub use argument::argument_at;
 pub use heard::Heard;
 pub use heard::Operation;
 pub use heard::hear;
+pub use reply::Reply;
+pub use reply::reply_to;
 pub use request::Request;
 pub use request::RequestRead;
 pub use request::Served;

@@ -7,11 +7,13 @@ use Rattle.laws.proofs.Picks.{both}
 use Rattle.laws.proofs.Over.{only-puts}
 use Rattle.coding.specs.Answer.{PutAnswer}
 use Rattle.coding.specs.Heard.{Hears}
+use Rattle.coding.specs.Reply.{ReplyTo}
 use Rattle.coding.specs.Request.{ArgumentAt}
 use Rattle.coding.specs.Sent.{PutRequest}
 use Rattle.coding.specs.declared.answer.Answer.{Answer}
 use Rattle.coding.specs.declared.heard.Heard.{Heard}
 use Rattle.coding.specs.declared.heard.Operation.{Operation}
+use Rattle.coding.specs.declared.reply.Reply.{Reply}
 use Rattle.coding.specs.declared.request.Request.{Request}
 use Rattle.coding.specs.declared.request.RequestRead.{RequestRead}
 
@@ -36,3 +38,9 @@ pub only-put-answer :
     PutAnswer xs answer n zs →
     (m ≡ n) × (ys ≡ zs)
 only-put-answer xs answer = only-puts
+
+pub only-reply-to :
+    (identifier : ℤ) (operation : ℕ) (s : List ℕ) {a b : Reply} → ReplyTo identifier operation s a →
+    ReplyTo identifier operation s b →
+    a ≡ b
+only-reply-to identifier operation s = both
