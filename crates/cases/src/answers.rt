@@ -14,15 +14,11 @@ const SIZE: usize = 16;
 const BEFORE: u8 = 0xAA;
 
 // Whether `word` begins with `start`.
-fn begins(word: &[u8], start: &[u8]) -> bool {
+pub(crate) fn begins(word: &[u8], start: &[u8]) -> bool {
     if word.len() < start.len() {
         return false;
     }
     check::same(&word[..start.len()], start)
-}
-
-pub(crate) fn is_answer(word: &[u8]) -> bool {
-    begins(word, b"answer-")
 }
 
 // The answer that a line names.

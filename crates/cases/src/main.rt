@@ -4,6 +4,7 @@ mod answers;
 mod components;
 mod line;
 mod readers;
+mod replies;
 mod say;
 mod writers;
 
@@ -32,15 +33,26 @@ fn each_line(s: &[u8]) {
     }
 }
 
+// A component arrives, at the exchange or at the end.
+fn arrived(exchange: bool, word: &[u8], text: &[u8]) {
+    let mut octets = [0u8; 1024];
+    let n = line::octets(text, word.len(), &mut octets);
+    if exchange {
+        components::heard(&octets[..n]);
+    } else {
+        replies::replied(word, &octets[..n]);
+    }
+}
+
 fn case(text: &[u8]) {
     let end = line::find(text, 0, b' ');
-    if check::same(&text[..end], b"component") {
-        let mut octets = [0u8; 1024];
-        let n = line::octets(text, end, &mut octets);
-        components::heard(&octets[..n]);
+    let component = check::same(&text[..end], b"component");
+    let reply = answers::begins(&text[..end], b"reply-");
+    if component || reply {
+        arrived(component, &text[..end], text);
         return;
     }
-    if answers::is_answer(&text[..end]) {
+    if answers::begins(&text[..end], b"answer-") {
         answers::written(&text[..end], text);
         return;
     }

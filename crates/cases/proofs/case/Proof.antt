@@ -16,29 +16,32 @@ slice-aggregate-same-2 c = search needs
 same-requires : tie.Need-same-requires
 same-requires c κs = search needs
 
-slice-aggregate-octets : tie.Need-slice-aggregate-octets
-slice-aggregate-octets c = search needs
+slice-aggregate-begins : tie.Need-slice-aggregate-begins
+slice-aggregate-begins c = simp length-take (omega arith)
 
-octets-requires : tie.Need-octets-requires
-octets-requires c κs = search needs
+slice-aggregate-begins-2 : tie.Need-slice-aggregate-begins-2
+slice-aggregate-begins-2 c = search needs
 
-array-share-prefix-octets : tie.Need-array-share-prefix-octets
-array-share-prefix-octets c = search needs
+begins-requires : tie.Need-begins-requires
+begins-requires c κs = search needs
 
-slice-aggregate-heard : tie.Need-slice-aggregate-heard
-slice-aggregate-heard c = simp length-take (omega arith)
+slice-aggregate-arrived : tie.Need-slice-aggregate-arrived
+slice-aggregate-arrived c = simp length-take (omega arith)
 
-heard-requires : tie.Need-heard-requires
-heard-requires c κs = search needs
+arrived-requires : tie.Need-arrived-requires
+arrived-requires c κs = search needs
 
 returns : tie.Need-returns
 returns c = search needs
 
-slice-aggregate-is-answer : tie.Need-slice-aggregate-is-answer
-slice-aggregate-is-answer c = simp length-take (omega arith)
+slice-aggregate-begins-3 : tie.Need-slice-aggregate-begins-3
+slice-aggregate-begins-3 c = simp length-take (omega arith)
 
-is-answer-requires : tie.Need-is-answer-requires
-is-answer-requires c κs = search needs
+slice-aggregate-begins-4 : tie.Need-slice-aggregate-begins-4
+slice-aggregate-begins-4 c = search needs
+
+begins-requires-2 : tie.Need-begins-requires-2
+begins-requires-2 c κs = search needs
 
 slice-aggregate-written : tie.Need-slice-aggregate-written
 slice-aggregate-written c = simp length-take (omega arith)
@@ -67,14 +70,14 @@ writer-of-requires c κs = search needs
 with-and-without-room-requires : tie.Need-with-and-without-room-requires
 with-and-without-room-requires c κs = search needs
 
-slice-aggregate-octets-2 : tie.Need-slice-aggregate-octets-2
-slice-aggregate-octets-2 c = search needs
+slice-aggregate-octets : tie.Need-slice-aggregate-octets
+slice-aggregate-octets c = search needs
 
-octets-requires-2 : tie.Need-octets-requires-2
-octets-requires-2 c κs = search needs
+octets-requires : tie.Need-octets-requires
+octets-requires c κs = search needs
 
-array-share-prefix-octets-2 : tie.Need-array-share-prefix-octets-2
-array-share-prefix-octets-2 c = search needs
+array-share-prefix-octets : tie.Need-array-share-prefix-octets
+array-share-prefix-octets c = search needs
 
 slice-aggregate-whole-and-cut : tie.Need-slice-aggregate-whole-and-cut
 slice-aggregate-whole-and-cut c = simp length-take (omega arith)
@@ -96,14 +99,15 @@ case-spec =
     slice-aggregate-same
     slice-aggregate-same-2
     same-requires
-    slice-aggregate-octets
-    octets-requires
-    array-share-prefix-octets
-    slice-aggregate-heard
-    heard-requires
+    slice-aggregate-begins
+    slice-aggregate-begins-2
+    begins-requires
+    slice-aggregate-arrived
+    arrived-requires
     returns
-    slice-aggregate-is-answer
-    is-answer-requires
+    slice-aggregate-begins-3
+    slice-aggregate-begins-4
+    begins-requires-2
     slice-aggregate-written
     written-requires
     returns-2
@@ -113,9 +117,9 @@ case-spec =
     slice-aggregate-writer-of
     writer-of-requires
     with-and-without-room-requires
-    slice-aggregate-octets-2
-    octets-requires-2
-    array-share-prefix-octets-2
+    slice-aggregate-octets
+    octets-requires
+    array-share-prefix-octets
     slice-aggregate-whole-and-cut
     whole-and-cut-requires
     returns-3

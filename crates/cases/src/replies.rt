@@ -1,0 +1,25 @@
+// The cases of replies: what a component says to the end whose request, with identifier 5, is outstanding. The kind's word ends in
+// the request's operation.
+use crate::line;
+use crate::say;
+use coding::Reply;
+
+const IDENTIFIER: i16 = 5;
+
+pub(crate) fn replied(word: &[u8], s: &[u8]) {
+    let operation = (line::number(word) % 256) as u8;
+    match coding::reply_to(s, IDENTIFIER, operation) {
+        Reply::Dropped => say::text(b"dropped"),
+        Reply::Rejected => say::text(b"rejected"),
+        Reply::Failed { value } => {
+            say::text(b"failed ");
+            say::signed(value);
+        }
+        Reply::Done => say::text(b"done"),
+        Reply::Listed { at, end } => {
+            say::place(b"listed ", at);
+            say::place(b" ", end);
+        }
+        Reply::Wrong => say::text(b"wrong"),
+    }
+}
