@@ -1,6 +1,6 @@
 // Reads cases from standard input, one to a line, and prints what the library answers to each. What it must answer stands in
 // the file stdout, written by hand from document 01; docs/ARCHITECTURE.md says how a line is built.
-mod answers;
+mod answered;
 mod components;
 mod line;
 mod readers;
@@ -47,13 +47,13 @@ fn arrived(exchange: bool, word: &[u8], text: &[u8]) {
 fn case(text: &[u8]) {
     let end = line::find(text, 0, b' ');
     let component = check::same(&text[..end], b"component");
-    let reply = answers::begins(&text[..end], b"reply-");
+    let reply = answered::begins(&text[..end], b"reply-");
     if component || reply {
         arrived(component, &text[..end], text);
         return;
     }
-    if answers::begins(&text[..end], b"answer-") {
-        answers::written(&text[..end], text);
+    if answered::begins(&text[..end], b"answer-") {
+        answered::written(&text[..end], text);
         return;
     }
     let by = readers::reader_of(&text[..end]);

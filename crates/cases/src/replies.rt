@@ -2,13 +2,13 @@
 // the request's operation.
 use crate::line;
 use crate::say;
-use coding::Reply;
+use answers::Reply;
 
 const IDENTIFIER: i16 = 5;
 
 pub(crate) fn replied(word: &[u8], s: &[u8]) {
     let operation = (line::number(word) % 256) as u8;
-    match coding::reply_to(s, IDENTIFIER, operation) {
+    match answers::reply_to(s, IDENTIFIER, operation) {
         Reply::Dropped => say::text(b"dropped"),
         Reply::Rejected => say::text(b"rejected"),
         Reply::Failed { value } => {

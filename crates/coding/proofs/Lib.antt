@@ -5,5 +5,4 @@ pub mod Arguments
 pub mod Trips
 pub mod Writers
 pub mod Senders
-pub mod Replies
-pub mod Answers
+pub mod Tags

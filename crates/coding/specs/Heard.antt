@@ -67,3 +67,7 @@ heard s = componentOf s (headAt componentDepth s 0 (length s))
 -- what `hear` promises
 abbrev pub Hears : List ℕ → Heard → Type 0
 Hears s r = r ≡ heard s
+
+-- what `reply_tag` promises
+abbrev pub ReplyTag : ℕ → Bool → Type 0
+ReplyTag tag r = r ≡ replyTag tag

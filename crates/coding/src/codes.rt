@@ -4,14 +4,14 @@ pub(crate) const ACTIVATION: u8 = 7;
 
 pub(crate) const DEACTIVATION: u8 = 8;
 
-pub(crate) const INTERROGATION: u8 = 11;
+pub const INTERROGATION: u8 = 11;
 
 // How many procedures there are: cfu 0, cfb 1, cfnr 2.
 pub(crate) const PROCEDURES: u8 = 3;
 
 // How many elements deep a component, what stands in it, and what stands in its argument may go.
-pub(crate) const COMPONENTDEPTH: u8 = 10;
+pub const COMPONENTDEPTH: u8 = 10;
 
-pub(crate) const INSIDEDEPTH: u8 = 9;
+pub const INSIDEDEPTH: u8 = 9;
 
-pub(crate) const ARGUMENTDEPTH: u8 = 8;
+pub const ARGUMENTDEPTH: u8 = 8;

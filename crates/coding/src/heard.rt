@@ -6,7 +6,7 @@ use octets::Ident;
 use octets::head_at;
 use octets::ident_at;
 ghost use mathlib.Core.Path.{_≡_};
-ghost use Rattle.coding.specs.Heard.{replyTag, operationAt, identifierAt, Hears};
+ghost use Rattle.coding.specs.Heard.{ReplyTag, operationAt, identifierAt, Hears};
 
 // An operation: a local value.
 pub struct Operation {
@@ -31,8 +31,8 @@ pub enum Heard {
 }
 
 // Whether a component with this tag is a reply or a reject.
-pub(crate) fn reply_tag(tag: u8) -> bool
-    ensures { λ r. ⌜ r ≡ replyTag tag ⌝ }
+pub fn reply_tag(tag: u8) -> bool
+    ensures { λ r. ⌜ ReplyTag tag r ⌝ }
 {
     if tag == 0xA2 {
         return true;

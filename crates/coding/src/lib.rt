@@ -1,23 +1,20 @@
 // Components of document 01: octets to values, and values to octets.
-mod answer;
 mod argument;
 mod codes;
 mod heard;
 mod parts;
-mod reply;
 mod request;
 mod sent;
 
-pub use answer::Answer;
-pub use answer::Problem;
-pub use answer::Whose;
-pub use answer::put_answer;
 pub use argument::argument_at;
+pub use codes::ARGUMENTDEPTH;
+pub use codes::COMPONENTDEPTH;
+pub use codes::INSIDEDEPTH;
+pub use codes::INTERROGATION;
 pub use heard::Heard;
 pub use heard::Operation;
 pub use heard::hear;
-pub use reply::Reply;
-pub use reply::reply_to;
+pub use heard::reply_tag;
 pub use request::Request;
 pub use request::RequestRead;
 pub use request::Served;

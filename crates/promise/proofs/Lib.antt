@@ -1,4 +1,5 @@
 pub mod Samples
+pub mod OnlyAnswers
 pub mod OnlyCard
 pub mod OnlyCoding
 pub mod OnlyNumbers

@@ -1,19 +1,15 @@
 -- Each promise of the crate coding admits one answer, and one lent output afterwards. Assumes nothing.
 use Prim.Native.Nat.{ℕ}
 use mathlib.Core.Path.{_≡_}
+use mathlib.Core.Bool.{Bool}
 use mathlib.Core.List.{List}
 use lib.IntN.{ℤ}
 use Rattle.laws.proofs.Picks.{both}
-use Rattle.laws.proofs.Over.{only-puts}
-use Rattle.coding.specs.Answer.{PutAnswer}
-use Rattle.coding.specs.Heard.{Hears}
-use Rattle.coding.specs.Reply.{ReplyTo}
+use Rattle.coding.specs.Heard.{Hears, ReplyTag}
 use Rattle.coding.specs.Request.{ArgumentAt}
 use Rattle.coding.specs.Sent.{PutRequest}
-use Rattle.coding.specs.declared.answer.Answer.{Answer}
 use Rattle.coding.specs.declared.heard.Heard.{Heard}
 use Rattle.coding.specs.declared.heard.Operation.{Operation}
-use Rattle.coding.specs.declared.reply.Reply.{Reply}
 use Rattle.coding.specs.declared.request.Request.{Request}
 use Rattle.coding.specs.declared.request.RequestRead.{RequestRead}
 
@@ -33,14 +29,5 @@ pub only-put-request :
     (m ≡ n) × (ys ≡ zs)
 only-put-request xs identifier operation r a b = (both (a .counted) (b .counted), both (a .holds) (b .holds))
 
-pub only-put-answer :
-    (xs : List ℕ) (answer : Answer) {m n : ℕ} {ys zs : List ℕ} → PutAnswer xs answer m ys →
-    PutAnswer xs answer n zs →
-    (m ≡ n) × (ys ≡ zs)
-only-put-answer xs answer = only-puts
-
-pub only-reply-to :
-    (identifier : ℤ) (operation : ℕ) (s : List ℕ) {a b : Reply} → ReplyTo identifier operation s a →
-    ReplyTo identifier operation s b →
-    a ≡ b
-only-reply-to identifier operation s = both
+pub only-reply-tag : (tag : ℕ) {a b : Bool} → ReplyTag tag a → ReplyTag tag b → a ≡ b
+only-reply-tag tag = both

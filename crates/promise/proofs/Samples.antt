@@ -11,7 +11,7 @@ use Rattle.octets.specs.Groups.{groupsIn, groupsAt, groupsWith, groups}
 use Rattle.numbers.specs.Codes.{placeOf, serviceCode, procedureCode}
 use Rattle.numbers.specs.Number.{allDigits, fair, digitsGood, digitsIn, numberAt, numberOctets}
 use Rattle.numbers.specs.Address.{subAt, addressAt, subOctets, addressOctets}
-use Rattle.coding.specs.Answer.{answerOctets}
+use Rattle.answers.specs.Answer.{answerOctets}
 use Rattle.coding.specs.Heard.{replyTag, operationAt, identifierAt, heard}
 use Rattle.coding.specs.Request.{codeAt, serviceAt, servedAt, privates, lastIn, activationIn, interrogationIn, contentsIn, argumentAt}
 use Rattle.coding.specs.Sent.{servedOctets, toOctets, requestOctets}

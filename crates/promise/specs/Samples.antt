@@ -13,14 +13,14 @@ use Rattle.octets.specs.declared.groups.Groups.{Groups}
 use Rattle.octets.specs.declared.groups.Groups.the-variants as groups
 use Rattle.numbers.specs.Number.{unknown, numberOf}
 use Rattle.numbers.specs.Address.{subOf, forwardedOf}
-use Rattle.coding.specs.Answer.{answerOctets}
+use Rattle.answers.specs.Answer.{answerOctets}
 use Rattle.coding.specs.Heard.{local, heard}
 use Rattle.coding.specs.Request.{activation, interrogation, allNumbers, nowhere, requestOf, argumentAt}
 use Rattle.coding.specs.Sent.{requestOctets}
-use Rattle.coding.specs.declared.answer.Answer.{Answer}
-use Rattle.coding.specs.declared.answer.Answer.the-variants as answer
-use Rattle.coding.specs.declared.answer.Problem.the-variants as problem
-use Rattle.coding.specs.declared.answer.Whose.the-variants as whose
+use Rattle.answers.specs.declared.answer.Answer.{Answer}
+use Rattle.answers.specs.declared.answer.Answer.the-variants as answer
+use Rattle.answers.specs.declared.answer.Problem.the-variants as problem
+use Rattle.answers.specs.declared.answer.Whose.the-variants as whose
 use Rattle.coding.specs.declared.heard.Heard.{Heard}
 use Rattle.coding.specs.declared.heard.Heard.the-variants as heard
 use Rattle.coding.specs.declared.request.Request.{Request}

@@ -1,0 +1,71 @@
+use lib.ListN.{length-take, length-append, length-drop}
+use Prim.Native.Nat.{_-_}
+use native.Mathlib.Omega.{arith}
+use borrow.Author.Needs.{needs}
+use Rattle.cases.proofs.answered.smaller.Statement.{statement}
+use Rattle.cases.proofs.answered.smaller.Tie as tie
+
+returns : tie.Need-returns
+returns c = search needs
+
+array-borrow-prefix-out : tie.Need-array-borrow-prefix-out
+array-borrow-prefix-out c = search needs
+
+slice-aggregate-put-answer : tie.Need-slice-aggregate-put-answer
+slice-aggregate-put-answer c = simp length-take (omega arith)
+
+put-answer-requires : tie.Need-put-answer-requires
+put-answer-requires c κs = search needs
+
+slice-aggregate-text : tie.Need-slice-aggregate-text
+slice-aggregate-text c = search needs
+
+text-requires : tie.Need-text-requires
+text-requires c κs = search needs
+
+returns-2 : tie.Need-returns-2
+returns-2 c = search needs
+
+slice-aggregate-untouched : tie.Need-slice-aggregate-untouched
+slice-aggregate-untouched c = simp (length-append, length-drop, c .before .before .before .put-answer .kept .0, length-take) (omega arith)
+
+untouched-requires : tie.Need-untouched-requires
+untouched-requires c κs = search needs
+
+slice-aggregate-text-2 : tie.Need-slice-aggregate-text-2
+slice-aggregate-text-2 c = search needs
+
+text-requires-2 : tie.Need-text-requires-2
+text-requires-2 c κs = search needs
+
+slice-aggregate-text-3 : tie.Need-slice-aggregate-text-3
+slice-aggregate-text-3 c = search needs
+
+text-requires-3 : tie.Need-text-requires-3
+text-requires-3 c κs = search needs
+
+returns-3 : tie.Need-returns-3
+returns-3 c = search needs
+
+returns-4 : tie.Need-returns-4
+returns-4 c = search needs
+
+pub smaller-spec : {M : Type 1} → statement M
+smaller-spec =
+    tie.close
+    (tie.spec
+    returns
+    array-borrow-prefix-out
+    slice-aggregate-put-answer
+    put-answer-requires
+    slice-aggregate-text
+    text-requires
+    returns-2
+    slice-aggregate-untouched
+    untouched-requires
+    slice-aggregate-text-2
+    text-requires-2
+    slice-aggregate-text-3
+    text-requires-3
+    returns-3
+    returns-4)

@@ -1,0 +1,91 @@
+// The cases of answers: each is written with room for more, and then into every smaller room. The kind's word ends in the
+// problem or the error value; the identifier follows.
+use crate::line;
+use crate::say;
+use crate::writers::untouched;
+use answers::Answer;
+use answers::Problem;
+use answers::Whose;
+use answers::put_answer;
+
+// Room for what is written, and what its octets hold beforehand.
+const SIZE: usize = 16;
+
+const BEFORE: u8 = 0xAA;
+
+// Whether `word` begins with `start`.
+pub(crate) fn begins(word: &[u8], start: &[u8]) -> bool {
+    if word.len() < start.len() {
+        return false;
+    }
+    check::same(&word[..start.len()], start)
+}
+
+// The answer that a line names.
+fn answer_of(word: &[u8], text: &[u8]) -> Answer {
+    let value = (line::number(word) % 256) as u8;
+    let identifier = line::identifier(text);
+    if begins(word, b"answer-null-") {
+        return Answer::Reject {
+            whose: Whose::Null,
+            problem: Problem::General(value),
+        };
+    }
+    if begins(word, b"answer-general-") {
+        return Answer::Reject {
+            whose: Whose::Own(identifier),
+            problem: Problem::General(value),
+        };
+    }
+    if begins(word, b"answer-invoke-") {
+        return Answer::Reject {
+            whose: Whose::Own(identifier),
+            problem: Problem::Invoke(value),
+        };
+    }
+    if begins(word, b"answer-error-") {
+        return Answer::Error { identifier, value };
+    }
+    if begins(word, b"answer-result") {
+        return Answer::Result { identifier };
+    }
+    Answer::Silence
+}
+
+// Prints what is written for the line, and a mark for each smaller room: whether nothing was altered.
+pub(crate) fn written(word: &[u8], text: &[u8]) {
+    let answer = answer_of(word, text);
+    let mut out = [BEFORE; 16];
+    let n = put_answer(&mut out, answer);
+    if SIZE < n {
+        return;
+    }
+    say::octets(&out[..n]);
+    if !untouched(&out, 0, n) {
+        say::text(b"!");
+    }
+    say::text(b" room ");
+    let mut size = 0;
+    while size < n {
+        smaller(answer, size);
+        size += 1;
+    }
+}
+
+// A room of `size` octets is too small: nothing is written.
+fn smaller(answer: Answer, size: usize) {
+    let mut out = [BEFORE; 16];
+    if SIZE < size {
+        return;
+    }
+    let n = put_answer(&mut out[..size], answer);
+    if n != 0 {
+        say::text(b"!");
+        return;
+    }
+    if untouched(&out, 0, 0) {
+        say::text(b".");
+    } else {
+        say::text(b"!");
+    }
+}
