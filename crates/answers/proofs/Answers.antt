@@ -26,7 +26,7 @@ use Rattle.answers.specs.declared.reply.Reply.the-variants.{Rejected, Fa
 use Rattle.answers.proofs.Replies.{same-self}
 
 -- a component of tag A2, A3 or A4 that begins with the request's own identifier
-own-in :
+pub own-in :
     (identifier : ℤ) (operation tag : ℕ) (ws s : List ℕ) → mag identifier < 32768 → replyTag tag ≡ true →
     (i : Inside componentDepth s 0 (length s) tag ws) → length (element tag ws) ≡ length s →
     Stands s (i .start) (identOctets identifier) → length (identOctets identifier) ≤ length ws →

@@ -42,6 +42,10 @@ pub length-element :
     length (element tag contents) ≡ suc (suc (lengthFewest (length contents))) + length contents
 length-element tag contents = rw (length-append (headOctets tag (length contents)) contents, length-head tag (length contents))
 
+-- a head has at most four octets
+pub length-most : (tag : ℕ) (contents : List ℕ) → length (element tag contents) ≤ length contents + 4
+length-most tag contents = omega (arith, length-element tag contents, shortest-most (length contents))
+
 -- an element as it is written
 pub element-back :
     (depth tag : ℕ) (contents s : List ℕ) (at end : ℕ) → (depth ≡ 0 → ⊥) → (tag % 32 ≡ 31 → ⊥) →

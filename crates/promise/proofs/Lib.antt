@@ -2,5 +2,6 @@ pub mod Samples
 pub mod OnlyAnswers
 pub mod OnlyCard
 pub mod OnlyCoding
+pub mod OnlyLists
 pub mod OnlyNumbers
 pub mod OnlyOctets

@@ -1,0 +1,3 @@
+pub mod Readers
+pub mod Sizes
+pub mod Trips
