@@ -86,7 +86,7 @@ served-back depth v s at end deep h st fit in-s =
     (null-in depth s at end
     (inside depth s at end 0x05 [] (λ z. omega arith) (λ z. omega arith) (omega arith) (rw o at st) (rw o at fit) in-s)))
     (λ p.
-    let o = one-octets v (p .0) in
+    let o = one-octets v (λ e. omega (arith, p .0)) in
     rw (o, p .0)
     (one-back depth s at end (number-back depth (v .number) s at end deep (p .1) (rw o at st) (rw o at fit) in-s)))
     (good-served v h)

@@ -3,7 +3,7 @@
 use Prim.Native.Nat.{ℕ}
 use mathlib.Core.Path.{_≡_}
 use mathlib.Core.Bool.{Bool, true, false, false≢true}
-use mathlib.Core.Logic.{_⊎_, inl, inr, ⊎-elim}
+use mathlib.Core.Logic.{_⊎_, inl, inr}
 use lib.Dec.{eqb}
 use borrow.Author.Tests.{eq-eqb, eqb-true, eqb-false}
 use Rattle.laws.specs.Pick.{pick}
@@ -116,8 +116,3 @@ unfolding sendable
 good-request operation r h =
     let p = pick-then (procedureCode (r .procedure)) (partsGood operation r) h in
     good-parts operation r (p .0) (p .1)
-
--- one that is not all of them is a good number
-pub one-served :
-    (v : Served) → servedGood v ≡ true → (v .all ≡ 1 → ⊥) → (v .all ≡ 0) × (numberGood (v .number) ≡ true)
-one-served v good other = ⊎-elim (λ all. absurd (other all)) (λ one. one) (good-served v good)

@@ -3,6 +3,5 @@ pub mod Sizes
 pub mod Readers
 pub mod Arguments
 pub mod Trips
-pub mod Writers
 pub mod Senders
 pub mod Tags

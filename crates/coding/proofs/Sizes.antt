@@ -37,15 +37,15 @@ unfolding servedOctets
 all-octets v h = rw (eq-eqb (v .all) 1 h)
 
 -- one number: its octets
-pub one-octets : (v : Served) → v .all ≡ 0 → servedOctets v ≡ numberOctets (v .number)
+pub one-octets : (v : Served) → (v .all ≡ 1 → ⊥) → servedOctets v ≡ numberOctets (v .number)
 unfolding servedOctets
-one-octets v h = rw (ne-eqb (v .all) 1 (λ e. omega arith))
+one-octets v h = rw (ne-eqb (v .all) 1 h)
 
 -- a good served number has at most 27 octets
 pub served-most : (v : Served) → servedGood v ≡ true → length (servedOctets v) ≤ 27
 served-most v h =
     ⊎-elim (λ e. rw (all-octets v e) (omega (arith, length-small 0x05 [] (omega arith))))
-    (λ p. rw (one-octets v (p .0)) (number-most (v .number) (p .1)))
+    (λ p. rw (one-octets v (λ e. omega (arith, p .0))) (number-most (v .number) (p .1)))
     (good-served v h)
 
 -- an activation's forwarded-to address: its octets
@@ -182,7 +182,7 @@ request-longest =
     let to : length (toOctets activation (r .to)) ≡ 51 =
     rw (to-octets activation (r .to) refl) address-longest in
     let served : length (servedOctets (r .served)) ≡ 27 =
-    rw (one-octets (r .served) refl) number-longest in
+    rw (one-octets (r .served) (λ e. omega arith)) number-longest in
     omega (
       arith,
       request-size (pos 32767) activation r (omega arith) longest-request,

@@ -15,10 +15,9 @@ use crate::request::no_request;
 use crate::request::no_served;
 use crate::request::to_nowhere;
 use numbers::Forwarded;
-use numbers::SERVICECOUNT;
 use numbers::address_at;
 use numbers::number_at;
-use numbers::service_place;
+use numbers::service_code;
 use octets::ENUMERATEDTAG;
 use octets::Enumerated;
 use octets::Head;
@@ -55,16 +54,6 @@ fn procedure_at(s: &[u8], at: usize, end: usize) -> Enumerated
         }
         Enumerated::Unreadable => Enumerated::Unreadable,
     }
-}
-
-// Whether a request may name this service.
-pub(crate) fn service_code(code: u8) -> bool
-    ensures { λ r. ⌜ r ≡ serviceCode code ⌝ }
-{
-    if code == 0 {
-        return true;
-    }
-    service_place(code) < SERVICECOUNT
 }
 
 // The basic service at `at`.

@@ -2,7 +2,6 @@
 mod argument;
 mod codes;
 mod heard;
-mod parts;
 mod request;
 mod sent;
 

@@ -1,28 +1,27 @@
 // Requests are written as the customer end sends them.
-use crate::argument::service_code;
 use crate::codes::ACTIVATION;
 use crate::codes::DEACTIVATION;
 use crate::codes::INTERROGATION;
 use crate::codes::PROCEDURES;
-use crate::parts::address_size;
-use crate::parts::number_size;
-use crate::parts::write_address;
-use crate::parts::write_number;
 use crate::request::Request;
 use crate::request::Served;
 use numbers::Forwarded;
 use numbers::address_good;
+use numbers::address_size;
 use numbers::number_good;
+use numbers::number_size;
+use numbers::put_address;
+use numbers::put_number;
+use numbers::service_code;
 use octets::ident_size;
 use octets::put_enumerated;
 use octets::put_head;
 use octets::put_ident;
 ghost use mathlib.Core.Path.{_≡_};
-ghost use mathlib.Core.Bool.{true};
 ghost use Prim.Native.Nat.{_+_, _≤_};
 ghost use lib.ListN.{length};
 ghost use Rattle.laws.specs.Over.{Wrote};
-ghost use Rattle.coding.specs.Sent.{servedGood, toGood, partsGood, sendable, servedOctets, toOctets, contentsOctets, ToFits, PutRequest};
+ghost use Rattle.coding.specs.Sent.{servedGood, toGood, partsGood, sendable, servedOctets, toOctets, contentsOctets, PutRequest};
 
 fn served_good(served: Served) -> bool
     ensures { λ r. ⌜ r ≡ servedGood served ⌝ }
@@ -86,7 +85,6 @@ fn is_sendable(operation: u8, r: Request) -> bool
 }
 
 fn served_size(served: Served) -> usize
-    requires { ⌜ servedGood served ≡ true ⌝ }
     ensures { λ r. ⌜ (r ≡ length (servedOctets served)) × (r ≤ 27) ⌝ }
 {
     if served.all == 1 {
@@ -97,19 +95,18 @@ fn served_size(served: Served) -> usize
 }
 
 fn write_served(out: &mut [u8], at: usize, served: Served) -> usize
-    requires { ⌜ (at + length (servedOctets served) ≤ length (now out)) × (servedGood served ≡ true) ⌝ }
+    requires { ⌜ at + length (servedOctets served) ≤ length (now out) ⌝ }
     ensures { λ r. ⌜ Wrote (now (out .entry)) at (servedOctets served) r (now (out .exit)) ⌝ }
 {
     if served.all == 1 {
         return put_head(out, at, 0x05, 0);
     }
     let number = served.number;
-    write_number(out, at, number)
+    put_number(out, at, number)
 }
 
 // An activation alone has a forwarded-to address.
 fn to_size(operation: u8, to: Forwarded) -> usize
-    requires { ⌜ ToFits operation to ⌝ }
     ensures { λ r. ⌜ (r ≡ length (toOctets operation to)) × (r ≤ 51) ⌝ }
 {
     if operation == ACTIVATION {
@@ -120,19 +117,18 @@ fn to_size(operation: u8, to: Forwarded) -> usize
 }
 
 fn write_to(out: &mut [u8], at: usize, operation: u8, to: Forwarded) -> usize
-    requires { ⌜ (at + length (toOctets operation to) ≤ length (now out)) × ToFits operation to ⌝ }
+    requires { ⌜ at + length (toOctets operation to) ≤ length (now out) ⌝ }
     ensures { λ r. ⌜ Wrote (now (out .entry)) at (toOctets operation to) r (now (out .exit)) ⌝ }
 {
     if operation == ACTIVATION {
         let address = to.address;
-        return write_address(out, at, address);
+        return put_address(out, at, address);
     }
     at
 }
 
 // How many octets the argument's contents take.
 fn contents_size(operation: u8, r: Request) -> usize
-    requires { ⌜ sendable operation r ≡ true ⌝ }
     ensures { λ n. ⌜ (n ≡ length (contentsOctets operation r)) × (n ≤ 84) ⌝ }
 {
     let to = r.to;
@@ -141,7 +137,7 @@ fn contents_size(operation: u8, r: Request) -> usize
 }
 
 fn write_contents(out: &mut [u8], at: usize, operation: u8, r: Request) -> usize
-    requires { ⌜ (at + length (contentsOctets operation r) ≤ length (now out)) × (sendable operation r ≡ true) ⌝ }
+    requires { ⌜ at + length (contentsOctets operation r) ≤ length (now out) ⌝ }
     ensures { λ p. ⌜ Wrote (now (out .entry)) at (contentsOctets operation r) p (now (out .exit)) ⌝ }
 {
     let to = r.to;

@@ -3,3 +3,4 @@ pub mod Goods
 pub mod Readers
 pub mod Sizes
 pub mod Trips
+pub mod Writers

@@ -1,12 +1,11 @@
 -- Which octets a number and an address are written as, and how many: by the fields of the record, and at most.
 -- Assumes nothing.
-use Prim.Native.Nat.{ℕ, _+_, _≤_}
-use mathlib.Core.Path.{_≡_, refl, _∙_}
+use Prim.Native.Nat.{ℕ, _+_, _≤_, min}
+use mathlib.Core.Path.{_≡_, refl, ap, _∙_}
 use mathlib.Core.Bool.{true}
 use mathlib.Core.List.{List, [], _++_}
 use native.Mathlib.Omega.{arith}
-use lib.ListN.{length, replicate, length-append, length-take}
-use lib.Seq.{length-take-le}
+use lib.ListN.{length, take, replicate, length-append, length-take}
 use lib.Dec.{eqb}
 use borrow.Author.Tests.{eq-eqb, ne-eqb}
 use Rattle.laws.specs.Pick.{pick}
@@ -20,6 +19,12 @@ use Rattle.numbers.specs.Address.{subOctetsOf, addressGood, subOctets, a
 use Rattle.numbers.specs.declared.number.Number.{Number}
 use Rattle.numbers.specs.declared.address.Address.{Address}
 use Rattle.numbers.proofs.Goods.{digits-fair, good-number, good-address}
+
+-- ---- what a record's array holds
+
+-- of `count` octets an array has 20 at most
+pub held-count : (count : ℕ) (ws : List ℕ) → length ws ≡ most → length (take count ws) ≡ min count most
+held-count count ws long = length-take count ws ∙ ap (min count) long
 
 -- ---- numbers
 
@@ -56,21 +61,27 @@ number-long n few =
     pick-map length (eqb (n .form) unknown) (element 0x80 ws) (element 0xA1 vs)
     ∙ rw (length-small 0x80 ws (omega arith), outer)
 
--- the octets of a good number, by its fields
+-- the octets of a number, by its fields
 pub number-size :
-    (n : Number) → numberGood n ≡ true → length (n .digits) ≡ most →
-    length (numberOctets n) ≡ pick (eqb (n .form) unknown) (n .count + 2) (n .count + 7)
-number-size n h long =
-    let g = good-number n h in
-    let count : length (digitsOf n) ≡ n .count = length-take-le (n .count) (n .digits) (omega arith) in
-    rw count at (number-long n (omega arith))
+    (n : Number) → length (n .digits) ≡ most →
+    length (numberOctets n) ≡ pick (eqb (n .form) unknown) (min (n .count) most + 2) (min (n .count) most + 7)
+number-size n long =
+    let count = held-count (n .count) (n .digits) long in
+    rw count at (number-long n (omega (arith, count)))
 
--- a good number has at most 27 octets
-pub number-most : (n : Number) → numberGood n ≡ true → length (numberOctets n) ≤ 27
-number-most n h =
-    let few = digits-fair (digitsOf n) (good-number n h .digits) .1 in
+-- at most 20 digits are at most 27 octets
+number-few : (n : Number) → length (digitsOf n) ≤ most → length (numberOctets n) ≤ 27
+number-few n few =
     rw (number-long n few)
     (pick-ind (λ k. k ≤ 27) (eqb (n .form) unknown) (λ _. omega arith) (λ _. omega arith))
+
+-- so every record has at most 27, good or not
+pub every-number-most : (n : Number) → length (n .digits) ≡ most → length (numberOctets n) ≤ 27
+every-number-most n long = number-few n (omega (arith, held-count (n .count) (n .digits) long))
+
+-- and so has a good number
+pub number-most : (n : Number) → numberGood n ≡ true → length (numberOctets n) ≤ 27
+number-most n h = number-few n (digits-fair (digitsOf n) (good-number n h .digits) .1)
 
 -- ---- addresses
 
@@ -97,46 +108,68 @@ sub-size ws few =
 pub sub-few : (a : Address) → addressGood a ≡ true → length (subOctetsOf a) ≤ most
 sub-few a h = let g = good-address a h in omega (arith, length-take (a .subcount) (a .sub))
 
--- the contents of an address, by its fields
+-- the contents of an address, by its number and its subaddress
 pub contents-size :
-    (a : Address) → addressGood a ≡ true → length (a .sub) ≡ most →
+    (a : Address) → length (a .sub) ≡ most →
     length (numberOctets (a .number) ++ subOctets (subOctetsOf a))
-    ≡ length (numberOctets (a .number)) + pick (eqb (a .subcount) 0) 0 (a .subcount + 2)
-contents-size a h long =
-    let g = good-address a h in
-    let count : length (subOctetsOf a) ≡ a .subcount = length-take-le (a .subcount) (a .sub) (omega arith) in
-    rw (length-append (numberOctets (a .number)) (subOctets (subOctetsOf a)), sub-size (subOctetsOf a) (omega arith), count)
+    ≡ length (numberOctets (a .number)) + pick (eqb (min (a .subcount) most) 0) 0 (min (a .subcount) most + 2)
+contents-size a long =
+    let count = held-count (a .subcount) (a .sub) long in
+    rw (
+      length-append (numberOctets (a .number)) (subOctets (subOctetsOf a)),
+      sub-size (subOctetsOf a) (omega (arith, count)),
+      count,
+    )
 
--- the contents of a good address are at most 49 octets
+-- at most 20 digits and at most 20 octets of subaddress are contents of at most 49 octets
+contents-few :
+    (a : Address) → length (digitsOf (a .number)) ≤ most → length (subOctetsOf a) ≤ most →
+    length (numberOctets (a .number) ++ subOctets (subOctetsOf a)) ≤ 49
+contents-few a digits few =
+    let sub : length (subOctets (subOctetsOf a)) ≤ 22 =
+    rw (sub-size (subOctetsOf a) few)
+    (pick-ind (λ k. k ≤ 22) (eqb (length (subOctetsOf a)) 0) (λ _. omega arith) (λ _. omega arith)) in
+    omega (arith, number-few (a .number) digits, length-append (numberOctets (a .number)) (subOctets (subOctetsOf a)))
+
+-- so are those of every record, good or not
+pub every-contents-most :
+    (a : Address) → length (a .number .digits) ≡ most → length (a .sub) ≡ most →
+    length (numberOctets (a .number) ++ subOctets (subOctetsOf a)) ≤ 49
+every-contents-most a digits sub =
+    contents-few a (omega (arith, held-count (a .number .count) (a .number .digits) digits))
+    (omega (arith, held-count (a .subcount) (a .sub) sub))
+
+-- and those of a good address
 pub contents-most :
     (a : Address) → addressGood a ≡ true →
     length (numberOctets (a .number) ++ subOctets (subOctetsOf a)) ≤ 49
 contents-most a h =
-    let few = sub-few a h in
-    let number = number-most (a .number) (good-address a h .number) in
-    let sub : length (subOctets (subOctetsOf a)) ≤ 22 =
-    rw (sub-size (subOctetsOf a) few)
-    (pick-ind (λ k. k ≤ 22) (eqb (length (subOctetsOf a)) 0) (λ _. omega arith) (λ _. omega arith)) in
-    omega (arith, length-append (numberOctets (a .number)) (subOctets (subOctetsOf a)))
+    let number = good-number (a .number) (good-address a h .number) in
+    contents-few a (digits-fair (digitsOf (a .number)) (number .digits) .1) (sub-few a h)
 
 -- an address is two octets longer than its contents
 pub address-long :
-    (a : Address) → addressGood a ≡ true →
+    (a : Address) → length (numberOctets (a .number) ++ subOctets (subOctetsOf a)) ≤ 49 →
     length (addressOctets a) ≡ length (numberOctets (a .number) ++ subOctets (subOctetsOf a)) + 2
 unfolding addressOctets
-address-long a h =
-    let few = contents-most a h in
-    length-small 0x30 (numberOctets (a .number) ++ subOctets (subOctetsOf a)) (omega arith)
+address-long a few = length-small 0x30 (numberOctets (a .number) ++ subOctets (subOctetsOf a)) (omega arith)
 
--- the octets of an address, by its fields
+-- the octets of an address, by its number and its subaddress
 pub address-size :
-    (a : Address) → addressGood a ≡ true → length (a .sub) ≡ most →
-    length (addressOctets a) ≡ length (numberOctets (a .number)) + pick (eqb (a .subcount) 0) 0 (a .subcount + 2) + 2
-address-size a h long = rw (address-long a h, contents-size a h long)
+    (a : Address) → length (a .number .digits) ≡ most → length (a .sub) ≡ most →
+    length (addressOctets a)
+    ≡ length (numberOctets (a .number)) + pick (eqb (min (a .subcount) most) 0) 0 (min (a .subcount) most + 2) + 2
+address-size a digits sub = rw (address-long a (every-contents-most a digits sub), contents-size a sub)
 
--- a good address has at most 51 octets
+-- every record has at most 51 octets, good or not
+pub every-address-most :
+    (a : Address) → length (a .number .digits) ≡ most → length (a .sub) ≡ most → length (addressOctets a) ≤ 51
+every-address-most a digits sub =
+    let few = every-contents-most a digits sub in omega (arith, few, address-long a few)
+
+-- and so has a good address
 pub address-most : (a : Address) → addressGood a ≡ true → length (addressOctets a) ≤ 51
-address-most a h = omega (arith, address-long a h, contents-most a h)
+address-most a h = let few = contents-most a h in omega (arith, few, address-long a few)
 
 -- ---- both bounds are reached
 
@@ -151,7 +184,7 @@ longest-number = refl
 
 -- and has 27 octets
 pub number-longest : length (numberOctets longestNumber) ≡ 27
-number-longest = number-size longestNumber longest-number refl
+number-longest = number-size longestNumber refl
 
 -- its address with 20 octets of subaddress
 abbrev pub longestAddress : Address
@@ -164,7 +197,7 @@ longest-address = longest-number
 
 -- and has 51 octets
 pub address-longest : length (addressOctets longestAddress) ≡ 51
-address-longest = rw number-longest at (address-size longestAddress longest-address refl)
+address-longest = rw number-longest at (address-size longestAddress refl refl)
 
 -- an address is the sequence of its parts
 pub address-octets :

@@ -8,7 +8,6 @@ use native.Mathlib.Omega.{arith}
 use lib.ListN.{length, getD}
 use lib.Dec.{ltb, eqb}
 use borrow.Author.Tests.{lt-ltb, ltb-true, eqb-true, eq-eqb}
-use Rattle.laws.specs.Pick.{pick}
 use Rattle.laws.proofs.Picks.{pick-ind, pick-then}
 use Rattle.numbers.specs.Codes.{services, trunkReasons, placeOf, ascends, apart, serviceCode, procedureCode}
 
@@ -127,12 +126,7 @@ pub reason-same :
     (i j : ℕ) → i < 4 → j < 4 → getD trunkReasons i 0 ≡ getD trunkReasons j 0 → i ≡ j
 reason-same i j k m e = apart-same trunkReasons reasons-apart i j k m e
 
--- the codes of a request, as tests
-pub service-code :
-    (code : ℕ) → serviceCode code ≡ pick (eqb code 0) true (ltb (placeOf code services) (length services))
-unfolding serviceCode
-service-code code = refl
-
+-- the procedure of a request, as a test
 pub procedure-code : (code : ℕ) → procedureCode code ≡ ltb code 3
 unfolding procedureCode
 procedure-code code = refl

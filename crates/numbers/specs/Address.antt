@@ -9,6 +9,7 @@ use lib.Seq.{slice}
 use lib.Dec.{ltb, eqb}
 use Rattle.laws.specs.Pick.{pick}
 use Rattle.laws.specs.Got.{Got, got, wrong, andThen}
+use Rattle.laws.specs.Over.{Puts}
 use Rattle.octets.specs.Head.{headAt}
 use Rattle.octets.specs.Element.{element}
 use Rattle.octets.specs.declared.head.Head.{Head}
@@ -103,3 +104,11 @@ AddressAt depth s at end r = r ≡ addressRead (addressAt depth s at end)
 -- what `address_good` promises
 abbrev pub AddressGood : Address → Bool → Type 0
 AddressGood a r = r ≡ addressGood a
+
+-- what `address_size` promises
+abbrev pub AddressSize : Address → ℕ → Type 0
+AddressSize a r = r ≡ length (addressOctets a)
+
+-- what `put_address` promises
+abbrev pub PutAddress : List ℕ → ℕ → Address → ℕ → List ℕ → Type 0
+PutAddress xs at a next ys = Puts xs at (addressOctets a) next ys

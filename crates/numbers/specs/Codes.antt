@@ -45,3 +45,7 @@ ServicePlace code r = r ≡ placeOf code services
 -- what `trunkreason` promises: an unlisted reason is unknown
 abbrev pub TrunkReason : ℕ → ℕ → Type 0
 TrunkReason reason r = r ≡ getD trunkReasons reason 0
+
+-- what `service_code` promises
+abbrev pub ServiceCode : ℕ → Bool → Type 0
+ServiceCode code r = r ≡ serviceCode code

@@ -9,6 +9,7 @@ use lib.Seq.{slice}
 use lib.Dec.{ltb, leb, eqb}
 use Rattle.laws.specs.Pick.{pick}
 use Rattle.laws.specs.Got.{Got, got, wrong, andThen}
+use Rattle.laws.specs.Over.{Puts}
 use Rattle.octets.specs.Head.{headAt}
 use Rattle.octets.specs.Element.{element}
 use Rattle.octets.specs.Enumerated.{enumeratedAt, enumeratedOctets}
@@ -135,3 +136,11 @@ NumberAt depth s at end r = r ≡ numberRead (numberAt depth s at end)
 -- what `number_good` promises
 abbrev pub NumberGood : Number → Bool → Type 0
 NumberGood n r = r ≡ numberGood n
+
+-- what `number_size` promises
+abbrev pub NumberSize : Number → ℕ → Type 0
+NumberSize n r = r ≡ length (numberOctets n)
+
+-- what `put_number` promises
+abbrev pub PutNumber : List ℕ → ℕ → Number → ℕ → List ℕ → Type 0
+PutNumber xs at n next ys = Puts xs at (numberOctets n) next ys

@@ -1,6 +1,6 @@
 // The tables of codes (document 01, "Profile and table"; EN 300 207-1, clause 7.1).
 ghost use mathlib.Core.Path.{_≡_};
-ghost use Rattle.numbers.specs.Codes.{ServicePlace, TrunkReason};
+ghost use Rattle.numbers.specs.Codes.{ServicePlace, ServiceCode, TrunkReason};
 
 // How many basic services there are.
 pub const SERVICECOUNT: usize = 16;
@@ -25,6 +25,16 @@ pub fn service_place(code: u8) -> usize
         i += 1;
     }
     i
+}
+
+// Whether a request may name this service.
+pub fn service_code(code: u8) -> bool
+    ensures { λ r. ⌜ ServiceCode code r ⌝ }
+{
+    if code == 0 {
+        return true;
+    }
+    service_place(code) < SERVICECOUNT
 }
 
 // The trunk's code for one of our reasons; unknown for any other number.

@@ -1,7 +1,8 @@
-// Codes, numbers and addresses of document 01: the records that hold them, and the octets they are read from.
+// Codes, numbers and addresses of document 01: the records that hold them, and the octets they are read from and written as.
 mod address;
 mod codes;
 mod number;
+mod write;
 
 pub use address::Address;
 pub use address::AddressRead;
@@ -9,9 +10,14 @@ pub use address::Forwarded;
 pub use address::address_at;
 pub use address::address_good;
 pub use codes::SERVICECOUNT;
+pub use codes::service_code;
 pub use codes::service_place;
 pub use codes::trunkreason;
 pub use number::Number;
 pub use number::NumberRead;
 pub use number::number_at;
 pub use number::number_good;
+pub use write::address_size;
+pub use write::number_size;
+pub use write::put_address;
+pub use write::put_number;

@@ -14,7 +14,7 @@ ghost use Rattle.numbers.specs.Number.{allDigits, typeGood, otherTag, pa
 // The most digits of a number, which are also the most octets of a subaddress, and the forms of its record.
 pub(crate) const MOST: usize = 20;
 
-const UNKNOWN: u8 = 0;
+pub(crate) const UNKNOWN: u8 = 0;
 
 const PUBLIC: u8 = 1;
 

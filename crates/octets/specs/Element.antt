@@ -1,6 +1,7 @@
 -- The octets of an element that is written. A length has k octets after its first, and k is as small as can be:
 -- "we always write .. shortest lengths throughout" (document 01, "Reading a component").
 use Prim.Native.Nat.{ℕ, zero, suc, _+_, _^_}
+use mathlib.Core.Path.{_≡_}
 use mathlib.Core.Bool.{Bool}
 use mathlib.Core.List.{List, [], _∷_, _++_}
 use lib.ListN.{length}
@@ -35,6 +36,10 @@ headOctets tag n = headWith (lengthFewest n) tag n
 -- an element, shortest
 abbrev pub element : ℕ → List ℕ → List ℕ
 element tag contents = headOctets tag (length contents) ++ contents
+
+-- what `head_size` promises: how many octets a head takes that says the length n
+abbrev pub HeadSize : ℕ → ℕ → Type 0
+HeadSize n r = r ≡ 2 + lengthFewest n
 
 -- what `put_head` promises
 abbrev pub PutHead : List ℕ → ℕ → ℕ → ℕ → ℕ → List ℕ → Type 0

@@ -23,5 +23,6 @@ pub use ident::ident_size;
 pub use ident::put_ident;
 pub use skip::Skip;
 pub use skip::skip_at;
+pub use write::head_size;
 pub use write::put_all;
 pub use write::put_head;

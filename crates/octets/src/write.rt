@@ -8,7 +8,7 @@ ghost use lib.ListN.{length};
 ghost use Rattle.laws.specs.Over.{Wrote};
 ghost use Rattle.octets.specs.Word.{wordOctets};
 ghost use Rattle.octets.specs.Head.{lengthMost};
-ghost use Rattle.octets.specs.Element.{lengthHolds, lengthFewest, headWith, PutHead, PutAll};
+ghost use Rattle.octets.specs.Element.{lengthHolds, lengthFewest, headWith, HeadSize, PutHead, PutAll};
 
 // One octet.
 pub(crate) fn write_octet(out: &mut [u8], at: usize, octet: u8) -> usize
@@ -42,6 +42,13 @@ fn length_fewest(n: u16) -> usize
         return 0;
     }
     if n < 256 { 1 } else { 2 }
+}
+
+// How many octets a head takes that says the length `n`.
+pub fn head_size(n: u16) -> usize
+    ensures { λ r. ⌜ HeadSize n r ⌝ }
+{
+    2 + length_fewest(n)
 }
 
 // A tag and a length with `k` octets after its first.

@@ -1,12 +1,13 @@
--- Each promise of the crate numbers admits one answer. Assumes nothing.
+-- Each promise of the crate numbers admits one answer, and one lent output afterwards. Assumes nothing.
 use Prim.Native.Nat.{ℕ}
 use mathlib.Core.Path.{_≡_}
 use mathlib.Core.Bool.{Bool}
 use mathlib.Core.List.{List}
 use Rattle.laws.proofs.Picks.{both}
-use Rattle.numbers.specs.Codes.{ServicePlace, TrunkReason}
-use Rattle.numbers.specs.Number.{NumberAt, NumberGood}
-use Rattle.numbers.specs.Address.{AddressAt, AddressGood}
+use Rattle.laws.proofs.Over.{only-puts}
+use Rattle.numbers.specs.Codes.{ServicePlace, TrunkReason, ServiceCode}
+use Rattle.numbers.specs.Number.{NumberAt, NumberGood, NumberSize, PutNumber}
+use Rattle.numbers.specs.Address.{AddressAt, AddressGood, AddressSize, PutAddress}
 use Rattle.numbers.specs.declared.number.Number.{Number}
 use Rattle.numbers.specs.declared.number.NumberRead.{NumberRead}
 use Rattle.numbers.specs.declared.address.Address.{Address}
@@ -14,6 +15,9 @@ use Rattle.numbers.specs.declared.address.AddressRead.{AddressRead}
 
 pub only-service-place : (code : ℕ) {a b : ℕ} → ServicePlace code a → ServicePlace code b → a ≡ b
 only-service-place code = both
+
+pub only-service-code : (code : ℕ) {a b : Bool} → ServiceCode code a → ServiceCode code b → a ≡ b
+only-service-code code = both
 
 pub only-trunkreason : (reason : ℕ) {a b : ℕ} → TrunkReason reason a → TrunkReason reason b → a ≡ b
 only-trunkreason reason = both
@@ -24,6 +28,12 @@ only-number-good n = both
 pub only-address-good : (a : Address) {x y : Bool} → AddressGood a x → AddressGood a y → x ≡ y
 only-address-good a = both
 
+pub only-number-size : (n : Number) {a b : ℕ} → NumberSize n a → NumberSize n b → a ≡ b
+only-number-size n = both
+
+pub only-address-size : (a : Address) {x y : ℕ} → AddressSize a x → AddressSize a y → x ≡ y
+only-address-size a = both
+
 module _ (depth : ℕ) (s : List ℕ) (at end : ℕ) where
   pub only-number-at : {a b : NumberRead} → NumberAt depth s at end a → NumberAt depth s at end b → a ≡ b
   only-number-at = both
@@ -31,3 +41,10 @@ module _ (depth : ℕ) (s : List ℕ) (at end : ℕ) where
   pub only-address-at :
       {a b : AddressRead} → AddressAt depth s at end a → AddressAt depth s at end b → a ≡ b
   only-address-at = both
+
+module _ (xs : List ℕ) (at : ℕ) {p q : ℕ} {ys zs : List ℕ} where
+  pub only-put-number : (n : Number) → PutNumber xs at n p ys → PutNumber xs at n q zs → (p ≡ q) × (ys ≡ zs)
+  only-put-number n = only-puts
+
+  pub only-put-address : (a : Address) → PutAddress xs at a p ys → PutAddress xs at a q zs → (p ≡ q) × (ys ≡ zs)
+  only-put-address a = only-puts

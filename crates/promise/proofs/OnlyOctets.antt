@@ -6,7 +6,7 @@ use lib.IntN.{ℤ}
 use Rattle.laws.proofs.Picks.{both}
 use Rattle.laws.proofs.Over.{only-puts}
 use Rattle.octets.specs.Head.{HeadAt}
-use Rattle.octets.specs.Element.{PutHead, PutAll}
+use Rattle.octets.specs.Element.{HeadSize, PutHead, PutAll}
 use Rattle.octets.specs.Enumerated.{EnumeratedAt, PutEnumerated}
 use Rattle.octets.specs.Ident.{IdentAt, IdentSize, PutIdent}
 use Rattle.octets.specs.Skip.{SkipAt}
@@ -29,6 +29,9 @@ module _ (depth : ℕ) (s : List ℕ) (at end : ℕ) where
 
   pub only-ident-at : {a b : Ident} → IdentAt depth s at end a → IdentAt depth s at end b → a ≡ b
   only-ident-at = both
+
+pub only-head-size : (n : ℕ) {a b : ℕ} → HeadSize n a → HeadSize n b → a ≡ b
+only-head-size n = both
 
 pub only-ident-size : (z : ℤ) {a b : ℕ} → IdentSize z a → IdentSize z b → a ≡ b
 only-ident-size z = both

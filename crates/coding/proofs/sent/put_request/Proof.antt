@@ -20,7 +20,7 @@ returns : tie.Need-returns
 returns c = not-sendable _ _ _ _ (sym (c .before .is-sendable .ensures) ∙ not-true _ (c .if1 .taken))
 
 contents-size-requires : tie.Need-contents-size-requires
-contents-size-requires c κs = sym (c .before .is-sendable .ensures) ∙ not-false _ (c .if1 .left)
+contents-size-requires c κs = search needs
 
 ident-size-requires : tie.Need-ident-size-requires
 ident-size-requires c κs = search needs
@@ -104,7 +104,7 @@ write-contents-requires c κs = let a = c .before .before .before .before .befor
     let fits : length (requestOctets (a .identifier) (a .operation) (a .r)) ≤ length (a .out .now) =
     omega (arith, count, size .0, three, request-size (a .identifier) (a .operation) (a .r) range good, c .before .before .before .before .before .before .before .before .before .before .before .before .before .before .before .before .before .if2 .left) in
     let is-operation = toZ-pos w16 {n = a .operation} (omega (arith, c .before .before .before .before .before .before .before .before .before .before .before .before .before .before .before .before .before .before .before .before .before .before .before .fits .operation)) in
-    (room-contents (a .identifier) (a .operation) (a .r) fits (omega (arith, count, size .0, three, inside-size (a .identifier) (a .operation) (a .r) good)) (size .0) (c .before .before .before .before .before .before .before .before .before .before .before .before .before .before .before .put-head .ensures) (rw same at (c .before .before .before .before .before .before .before .before .before .before .before .put-ident .ensures)) (rw is-operation at (c .before .before .before .before .before .before .before .put-ident2 .ensures)) (c .before .before .before .put-head2 .ensures), good)
+    room-contents (a .identifier) (a .operation) (a .r) fits (omega (arith, count, size .0, three, inside-size (a .identifier) (a .operation) (a .r) good)) (size .0) (c .before .before .before .before .before .before .before .before .before .before .before .before .before .before .before .put-head .ensures) (rw same at (c .before .before .before .before .before .before .before .before .before .before .before .put-ident .ensures)) (rw is-operation at (c .before .before .before .before .before .before .before .put-ident2 .ensures)) (c .before .before .before .put-head2 .ensures)
 
 same-length : tie.Need-same-length
 same-length c = search needs

@@ -1,10 +1,12 @@
 use Rattle.coding.proofs.Sizes.{all-octets, one-octets}
-use Rattle.coding.proofs.Goods.{one-served}
 use Rattle.octets.proofs.Elements.{length-small}
+use Rattle.numbers.proofs.Sizes.{every-number-most}
+use Rattle.numbers.specs.Number.{most}
 use lib.ListN.{length}
 use mathlib.Core.List.{[]}
-use mathlib.Core.Path.{sym, ap, _∙_}
+use mathlib.Core.Path.{_≡_, sym, ap, _∙_}
 use native.Mathlib.Omega.{arith}
+use borrow.Author.Needs.{needs}
 use Rattle.coding.proofs.sent.served_size.Statement.{statement}
 use Rattle.coding.proofs.sent.served_size.Tie as tie
 
@@ -13,12 +15,12 @@ returns c = let size = ap length (all-octets (c .before .before .args .served) (
     (sym size, omega arith)
 
 number-size-requires : tie.Need-number-size-requires
-number-size-requires c κs = one-served (c .before .before .before .args .served) (c .before .before .before .pre) (c .before .if1 .left) .1
+number-size-requires c κs = search needs
 
 returns-2 : tie.Need-returns-2
 returns-2 c = let v = c .before .before .before .before .args .served in
-    let one = one-served v (c .before .before .before .before .pre) (c .before .before .if1 .left) in
-    (c .number-size .ensures .0 ∙ sym (ap length (one-octets v (one .0))), c .number-size .ensures .1)
+    let long : length (v .number .digits) ≡ most = search (needs, c .before .before .before .before .good) in
+    (c .number-size .ensures ∙ sym (ap length (one-octets v (c .before .before .if1 .left))), omega (arith, c .number-size .ensures, every-number-most (v .number) long))
 
 pub served-size-spec : {M : Type 1} → statement M
 served-size-spec = tie.close (tie.spec returns number-size-requires returns-2)

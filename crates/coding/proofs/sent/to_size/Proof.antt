@@ -1,16 +1,21 @@
 use Rattle.coding.proofs.Sizes.{to-octets, to-none}
-use Rattle.coding.proofs.Goods.{good-to}
+use Rattle.numbers.proofs.Sizes.{every-address-most}
+use Rattle.numbers.specs.Number.{most}
 use lib.ListN.{length}
-use mathlib.Core.Path.{sym, ap, _∙_}
+use mathlib.Core.Path.{_≡_, sym, ap, _∙_}
 use native.Mathlib.Omega.{arith}
+use borrow.Author.Needs.{needs}
 use Rattle.coding.proofs.sent.to_size.Statement.{statement}
 use Rattle.coding.proofs.sent.to_size.Tie as tie
 
 address-size-requires : tie.Need-address-size-requires
-address-size-requires c κs = good-to (c .before .before .args .to) (c .before .before .pre (c .before .if1 .taken)) .address
+address-size-requires c κs = search needs
 
 returns : tie.Need-returns
-returns c = (c .address-size .ensures .0 ∙ sym (ap length (to-octets _ (c .before .before .before .args .to) (c .before .before .if1 .taken))), c .address-size .ensures .1)
+returns c = let to = c .before .before .before .args .to in
+    let digits : length (to .address .number .digits) ≡ most = search (needs, c .before .before .before .good) in
+    let sub : length (to .address .sub) ≡ most = search (needs, c .before .before .before .good) in
+    (c .address-size .ensures ∙ sym (ap length (to-octets _ to (c .before .before .if1 .taken))), omega (arith, c .address-size .ensures, every-address-most (to .address) digits sub))
 
 returns-2 : tie.Need-returns-2
 returns-2 c = (sym (ap length (to-none _ (c .before .args .to) (c .if1 .left))), omega arith)

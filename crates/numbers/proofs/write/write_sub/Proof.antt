@@ -1,19 +1,18 @@
-use Rattle.coding.proofs.Writers.{sub-unwritten}
-use Rattle.coding.proofs.Writers.{sub-counted, sub-wrote}
-use Rattle.numbers.proofs.Goods.{good-address}
+use Rattle.numbers.proofs.Writers.{held-within, held-taken, sub-wrote, sub-unwritten}
 use Rattle.numbers.specs.Number.{most}
 use lib.ListN.{length}
-use mathlib.Core.Path.{_≡_, sym}
-use native.Mathlib.Omega.{arith}
+use mathlib.Core.Path.{_≡_}
 use borrow.Author.Needs.{needs}
-use Rattle.coding.proofs.parts.write_sub.Statement.{statement}
-use Rattle.coding.proofs.parts.write_sub.Tie as tie
+use Rattle.numbers.proofs.write.write_sub.Statement.{statement}
+use Rattle.numbers.proofs.write.write_sub.Tie as tie
 
-cast-count : tie.Need-cast-count
-cast-count c = search needs
+fewer-requires : tie.Need-fewer-requires
+fewer-requires c κs = search needs
 
 returns : tie.Need-returns
-returns c = sub-unwritten (c .before .before .before .before .args .a) (c .if1 .taken)
+returns c = let a = c .before .before .before .args .a in
+    let long : length (a .sub) ≡ most = search (needs, c .before .before .before .good) in
+    sub-unwritten a long (c .before .fewer .ensures) (c .if1 .taken)
 
 cast-put-head : tie.Need-cast-put-head
 cast-put-head c = search needs
@@ -23,15 +22,13 @@ put-head-requires c κs = search needs
 
 array-share-prefix-sub : tie.Need-array-share-prefix-sub
 array-share-prefix-sub c = let a = c .before .before .before .before .before .before .before .before .before .args .a in
-    let good = c .before .before .before .before .before .before .before .before .before .pre .1 in
     let long : length (a .sub) ≡ most = search (needs, c .before .before .before .before .before .before .before .before .before .good) in
-    omega (arith, long, good-address a good .few)
+    held-within (a .subcount) (a .sub) long (c .before .before .before .before .before .before .before .fewer .ensures)
 
 slice-aggregate-put-all : tie.Need-slice-aggregate-put-all
 slice-aggregate-put-all c = let a = c .before .before .before .before .before .before .before .before .before .before .args .a in
-    let good = c .before .before .before .before .before .before .before .before .before .before .pre .1 in
     let long : length (a .sub) ≡ most = search (needs, c .before .before .before .before .before .before .before .before .before .before .good) in
-    sym (sub-counted a good long)
+    held-taken (a .subcount) (a .sub) long (c .before .before .before .before .before .before .before .before .fewer .ensures)
 
 put-all-requires : tie.Need-put-all-requires
 put-all-requires c κs = search needs
@@ -41,15 +38,14 @@ same-length c = search needs
 
 returns-2 : tie.Need-returns-2
 returns-2 c = let a = c .before .before .before .before .before .before .before .before .before .before .before .before .before .args .a in
-    let good = c .before .before .before .before .before .before .before .before .before .before .before .before .before .pre .1 in
     let long : length (a .sub) ≡ most = search (needs, c .before .before .before .before .before .before .before .before .before .before .before .before .before .good) in
-    sub-wrote a good long (c .before .before .before .before .before .before .before .before .before .if1 .left) (c .before .before .before .before .before .before .before .before .before .before .before .before .before .pre .0) (c .before .before .before .before .before .before .before .put-head .ensures) (c .before .before .put-all .ensures)
+    sub-wrote a long (c .before .before .before .before .before .before .before .before .before .before .before .fewer .ensures) (c .before .before .before .before .before .before .before .before .before .before .if1 .left) (c .before .before .before .before .before .before .before .before .before .before .before .before .before .pre) (c .before .before .before .before .before .before .before .put-head .ensures) (c .before .before .put-all .ensures)
 
 pub write-sub-spec : {M : Type 1} → statement M
 write-sub-spec =
     tie.close
     (tie.spec
-    cast-count
+    fewer-requires
     returns
     cast-put-head
     put-head-requires

@@ -1,15 +1,13 @@
-use Rattle.coding.proofs.Writers.{digits-counted, unknown-wrote, public-wrote}
-use Rattle.numbers.proofs.Goods.{good-number}
+use Rattle.numbers.proofs.Writers.{held-within, held-taken, unknown-wrote, public-wrote}
 use Rattle.numbers.specs.Number.{most}
 use lib.ListN.{length}
-use mathlib.Core.Path.{_≡_, sym}
-use native.Mathlib.Omega.{arith}
+use mathlib.Core.Path.{_≡_}
 use borrow.Author.Needs.{needs}
-use Rattle.coding.proofs.parts.write_number.Statement.{statement}
-use Rattle.coding.proofs.parts.write_number.Tie as tie
+use Rattle.numbers.proofs.write.write_number.Statement.{statement}
+use Rattle.numbers.proofs.write.write_number.Tie as tie
 
-cast-count : tie.Need-cast-count
-cast-count c = search needs
+fewer-requires : tie.Need-fewer-requires
+fewer-requires c κs = search needs
 
 cast-put-head : tie.Need-cast-put-head
 cast-put-head c = search needs
@@ -19,15 +17,13 @@ put-head-requires c κs = search needs
 
 array-share-prefix-digits : tie.Need-array-share-prefix-digits
 array-share-prefix-digits c = let n = c .before .before .before .before .before .before .before .before .before .before .args .n in
-    let good = c .before .before .before .before .before .before .before .before .before .before .pre .1 in
     let long : length (n .digits) ≡ most = search (needs, c .before .before .before .before .before .before .before .before .before .before .good) in
-    let few = good-number n good .few in omega (arith, few, long)
+    held-within (n .count) (n .digits) long (c .before .before .before .before .before .before .before .before .fewer .ensures)
 
 slice-aggregate-put-all : tie.Need-slice-aggregate-put-all
 slice-aggregate-put-all c = let n = c .before .before .before .before .before .before .before .before .before .before .before .args .n in
-    let good = c .before .before .before .before .before .before .before .before .before .before .before .pre .1 in
     let long : length (n .digits) ≡ most = search (needs, c .before .before .before .before .before .before .before .before .before .before .before .good) in
-    sym (digits-counted n good long)
+    held-taken (n .count) (n .digits) long (c .before .before .before .before .before .before .before .before .before .fewer .ensures)
 
 put-all-requires : tie.Need-put-all-requires
 put-all-requires c κs = search needs
@@ -37,9 +33,8 @@ same-length c = search needs
 
 returns : tie.Need-returns
 returns c = let n = c .before .before .before .before .before .before .before .before .before .before .before .before .before .before .args .n in
-    let good = c .before .before .before .before .before .before .before .before .before .before .before .before .before .before .pre .1 in
     let long : length (n .digits) ≡ most = search (needs, c .before .before .before .before .before .before .before .before .before .before .before .before .before .before .good) in
-    unknown-wrote n good long (c .before .before .before .before .before .before .before .before .before .if1 .taken) (c .before .before .before .before .before .before .before .before .before .before .before .before .before .before .pre .0) (c .before .before .before .before .before .before .before .put-head .ensures) (c .before .before .put-all .ensures)
+    unknown-wrote n long (c .before .before .before .before .before .before .before .before .before .before .before .before .fewer .ensures) (c .before .before .before .before .before .before .before .before .before .if1 .taken) (c .before .before .before .before .before .before .before .before .before .before .before .before .before .before .pre) (c .before .before .before .before .before .before .before .put-head .ensures) (c .before .before .put-all .ensures)
 
 add-put-head : tie.Need-add-put-head
 add-put-head c = search needs
@@ -61,15 +56,13 @@ put-head-requires-3 c κs = search needs
 
 array-share-prefix-digits-2 : tie.Need-array-share-prefix-digits-2
 array-share-prefix-digits-2 c = let n = c .before .before .before .before .before .before .before .before .before .before .before .before .before .before .before .before .before .before .args .n in
-    let good = c .before .before .before .before .before .before .before .before .before .before .before .before .before .before .before .before .before .before .pre .1 in
     let long : length (n .digits) ≡ most = search (needs, c .before .before .before .before .before .before .before .before .before .before .before .before .before .before .before .before .before .before .good) in
-    let few = good-number n good .few in omega (arith, few, long)
+    held-within (n .count) (n .digits) long (c .before .before .before .before .before .before .before .before .before .before .before .before .before .before .before .before .fewer .ensures)
 
 slice-aggregate-put-all-2 : tie.Need-slice-aggregate-put-all-2
 slice-aggregate-put-all-2 c = let n = c .before .before .before .before .before .before .before .before .before .before .before .before .before .before .before .before .before .before .before .args .n in
-    let good = c .before .before .before .before .before .before .before .before .before .before .before .before .before .before .before .before .before .before .before .pre .1 in
     let long : length (n .digits) ≡ most = search (needs, c .before .before .before .before .before .before .before .before .before .before .before .before .before .before .before .before .before .before .before .good) in
-    sym (digits-counted n good long)
+    held-taken (n .count) (n .digits) long (c .before .before .before .before .before .before .before .before .before .before .before .before .before .before .before .before .before .fewer .ensures)
 
 put-all-requires-2 : tie.Need-put-all-requires-2
 put-all-requires-2 c κs = search needs
@@ -79,15 +72,14 @@ same-length-2 c = search needs
 
 returns-2 : tie.Need-returns-2
 returns-2 c = let n = c .before .before .before .before .before .before .before .before .before .before .before .before .before .before .before .before .before .before .before .before .before .before .args .n in
-    let good = c .before .before .before .before .before .before .before .before .before .before .before .before .before .before .before .before .before .before .before .before .before .before .pre .1 in
     let long : length (n .digits) ≡ most = search (needs, c .before .before .before .before .before .before .before .before .before .before .before .before .before .before .before .before .before .before .before .before .before .before .good) in
-    public-wrote n good long (c .before .before .before .before .before .before .before .before .before .before .before .before .before .before .before .before .before .if1 .left) (c .before .before .before .before .before .before .before .before .before .before .before .before .before .before .before .before .before .before .before .before .before .before .pre .0) (c .before .before .before .before .before .before .before .before .before .before .before .before .before .before .before .put-head2 .ensures) (c .before .before .before .before .before .before .before .before .before .before .before .put-enumerated .ensures) (c .before .before .before .before .before .before .before .put-head3 .ensures) (c .before .before .put-all2 .ensures)
+    public-wrote n long (c .before .before .before .before .before .before .before .before .before .before .before .before .before .before .before .before .before .before .before .before .fewer .ensures) (c .before .before .before .before .before .before .before .before .before .before .before .before .before .before .before .before .before .if1 .left) (c .before .before .before .before .before .before .before .before .before .before .before .before .before .before .before .before .before .before .before .before .before .before .pre) (c .before .before .before .before .before .before .before .before .before .before .before .before .before .before .before .put-head2 .ensures) (c .before .before .before .before .before .before .before .before .before .before .before .put-enumerated .ensures) (c .before .before .before .before .before .before .before .put-head3 .ensures) (c .before .before .put-all2 .ensures)
 
 pub write-number-spec : {M : Type 1} → statement M
 write-number-spec =
     tie.close
     (tie.spec
-    cast-count
+    fewer-requires
     cast-put-head
     put-head-requires
     array-share-prefix-digits
