@@ -1,0 +1,104 @@
+//! The exchange: each arriving component turns a table into the next table and a reply.
+
+use crate::answer::{Answer, Problem};
+use crate::codes::OPERATIONS;
+use crate::profile::Profile;
+use crate::refusal::{require, write_into, Refusal, COMPONENT_OUTPUT, LONGEST_COMPONENT};
+use crate::request::{hear, read_argument, Heard, Invoke};
+use crate::rules::{judge, Outcome};
+use crate::table::Table;
+
+#[derive(Clone, Debug, PartialEq, Eq)]
+pub struct Arrived {
+    pub next: Table,
+    pub answer: Answer,
+    /// How many octets of the lent output the reply took; 0 for silence.
+    pub length: usize,
+}
+
+const DUPLICATE: u8 = 0;
+const UNKNOWN_OPERATION: u8 = 1;
+const MISTYPED_ARGUMENT: u8 = 2;
+
+/// Refusals 1, 2, 3, 4, lowest first, before any row of the reply table (A39); 707 octets of
+/// output are asked for even where the answer is silence (A37).
+pub fn arrive(
+    output: &mut [u8],
+    component: &[u8],
+    profile: &Profile,
+    table: &Table,
+) -> Result<Arrived, Refusal> {
+    require(output.len() >= COMPONENT_OUTPUT, Refusal::OutputTooSmall)?;
+    require(
+        component.len() <= LONGEST_COMPONENT,
+        Refusal::ComponentTooLong,
+    )?;
+    profile.check()?;
+    table.check(profile)?;
+    let (next, answer) = turn(component, profile, table);
+    let length = write_into(output, &answer.written());
+    Ok(Arrived {
+        next,
+        answer,
+        length,
+    })
+}
+
+/// The rows of the reply table in their order.
+fn turn(component: &[u8], profile: &Profile, table: &Table) -> (Table, Answer) {
+    match hear(component) {
+        Heard::Silence => (table.clone(), Answer::Silence),
+        Heard::Unreadable {
+            identifier,
+            problem,
+        } => (
+            table.clone(),
+            Answer::Reject {
+                identifier,
+                problem,
+            },
+        ),
+        Heard::Invoke(invoke) => match judged(&invoke, profile, table) {
+            Err(problem) => (
+                table.clone(),
+                Answer::Reject {
+                    identifier: Some(invoke.identifier),
+                    problem: Problem::Invoke(problem),
+                },
+            ),
+            Ok(outcome) => handled(invoke.identifier, outcome, profile, table),
+        },
+    }
+}
+
+/// Duplicate, then operation, then argument (A28); otherwise what the rules make of it.
+fn judged(invoke: &Invoke<'_>, profile: &Profile, table: &Table) -> Result<Outcome, u8> {
+    if profile.counted == 1 && invoke.identifier <= table.last {
+        return Err(DUPLICATE);
+    }
+    if !OPERATIONS.contains(&invoke.operation) {
+        return Err(UNKNOWN_OPERATION);
+    }
+    let request = read_argument(invoke.operation, invoke.after).ok_or(MISTYPED_ARGUMENT)?;
+    Ok(judge(profile, &table.instances, &request))
+}
+
+fn handled(identifier: i32, outcome: Outcome, profile: &Profile, table: &Table) -> (Table, Answer) {
+    let mut next = table.clone();
+    // A36: every result and every error moves it, on a counted end alone (A4).
+    if profile.counted == 1 {
+        next.last = identifier;
+    }
+    let answer = match outcome {
+        Outcome::Error(code) => Answer::Error { identifier, code },
+        Outcome::List(entries) => Answer::List {
+            identifier,
+            entries,
+        },
+        Outcome::Done(instances) => {
+            next.instances = instances;
+            Answer::Result { identifier }
+        }
+    };
+    (next, answer)
+}

@@ -1,0 +1,31 @@
+//! Call forwarding as document 01 has it: the coding layer, the exchange, calls, the customer
+//! end, night sheets and the listing. Written from document 01, EN 300 207-1 (000), Q.732.2-5
+//! (001) and the list of open points (A1 to A78) alone.
+//!
+//! Records (profile, table, call, end) are plain integers and vectors that can hold nonsense:
+//! every function judges the records it is lent and refuses bad ones by their number.
+#![forbid(unsafe_code)]
+
+pub mod answer;
+pub mod calls;
+pub mod codes;
+pub mod elements;
+pub mod end;
+pub mod exchange;
+pub mod expected;
+pub mod listing;
+pub mod loose;
+pub mod loose_parts;
+pub mod made;
+pub mod numbers;
+pub mod path;
+pub mod profile;
+pub mod random;
+pub mod refusal;
+pub mod request;
+pub mod rules;
+pub mod sheet;
+pub mod soak;
+pub mod spoiled;
+pub mod table;
+pub mod tally;
