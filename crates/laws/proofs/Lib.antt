@@ -4,3 +4,5 @@ pub mod Fewest
 pub mod Over
 pub mod Parts
 pub mod Stands
+pub mod Places
+pub mod Each

@@ -2,4 +2,5 @@ pub mod Pick
 pub mod Fewest
 pub mod Got
 pub mod Over
+pub mod Places
 pub mod Stands

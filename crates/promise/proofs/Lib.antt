@@ -1,4 +1,5 @@
 pub mod Samples
+pub mod OnlyAccess
 pub mod OnlyAnswers
 pub mod OnlyCard
 pub mod OnlyCoding
