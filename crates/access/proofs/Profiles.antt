@@ -12,7 +12,7 @@ use borrow.Author.Tests.{eq-eqb, le-ltb, ltb-false, eqb-true}
 use Rattle.laws.specs.Pick.{pick}
 use Rattle.laws.specs.Places.{everyTo}
 use Rattle.laws.proofs.Picks.{pick-then, pick-else}
-use Rattle.laws.proofs.Places.{every-each}
+use Rattle.laws.proofs.Walks.{every-at}
 use Rattle.numbers.specs.Codes.{serviceCode}
 use Rattle.numbers.specs.Number.{most, digitsOf, numberGood, tidyNumber}
 use Rattle.numbers.specs.declared.number.Number.{Number}
@@ -235,7 +235,7 @@ good-profile p h =
       numbers = λ k lt. pick-then
           (numberGood (getD (p .numbers) k noNumber))
           (eqb (placeIn p (getD (p .numbers) k noNumber) (servedNumbers p)) k)
-          (every-each (numberFits p) (p .numbercount) k (n .2) lt) .0;
+          (every-at (numberFits p) (p .numbercount) k lt (n .2)) .0;
       services-some = s .0;
       services-few = s .1;
       rises = s .2;

@@ -1,4 +1,4 @@
--- What the exchange writes for an answer without a list is read by the end as that answer. Assumes nothing.
+-- What the exchange writes for an answer is read by the end as that answer. Assumes nothing.
 use Prim.Native.Nat.{ℕ, _+_, _<_, _≤_}
 use mathlib.Core.Path.{_≡_, refl, _∙_}
 use mathlib.Core.Bool.{true}
@@ -13,16 +13,17 @@ use Rattle.laws.proofs.Stands.{stands-whole, stands-left, stands-right}
 use Rattle.octets.specs.Element.{element}
 use Rattle.octets.specs.Ident.{identOctets}
 use Rattle.octets.proofs.Elements.{Inside, inside, length-small}
-use Rattle.octets.proofs.Idents.{ident-back, ident-most}
+use Rattle.octets.proofs.Idents.{ident-back, ident-most, ident-other}
 use Rattle.answers.specs.Answer.{problemNo, problemValue, problemOctets, answerOctets}
 use Rattle.coding.specs.Heard.{insideDepth, componentDepth, replyTag}
 use Rattle.coding.specs.Request.{interrogation}
+use Rattle.lists.specs.declared.entry.Entry.{Entry}
 use Rattle.coding.proofs.Tags.{result-tag, error-tag, reject-tag}
 use Rattle.answers.specs.Reply.{failedAt, resultAt, afterOwn, ownAt, reply}
 use Rattle.answers.specs.declared.answer.Answer.the-variants as answer
 use Rattle.answers.specs.declared.answer.Problem.{Problem}
 use Rattle.answers.specs.declared.answer.Whose.the-variants as whose
-use Rattle.answers.specs.declared.reply.Reply.the-variants.{Rejected, Failed, Done}
+use Rattle.answers.specs.declared.reply.Reply.the-variants.{Dropped, Rejected, Failed, Done}
 use Rattle.answers.proofs.Replies.{same-self}
 
 -- a component of tag A2, A3 or A4 that begins with the request's own identifier
@@ -47,10 +48,10 @@ own-in identifier operation tag ws s range is-reply i fit st short =
 module _ (identifier : ℤ) (operation : ℕ) (range : mag identifier < 32768) where
   -- a reject closes the request
   pub reject-back :
-      (problem : Problem) →
-      reply identifier operation (answerOctets (answer.Reject (whose.Own identifier) problem)) ≡ Rejected
+      (problem : Problem) (es : List Entry) →
+      reply identifier operation (answerOctets (answer.Reject (whose.Own identifier) problem) es) ≡ Rejected
   unfolding answerOctets afterOwn
-  reject-back problem =
+  reject-back problem es =
       let a : List ℕ = identOctets identifier in
       let ws : List ℕ = a ++ problemOctets problem in
       let s : List ℕ = element 0xA4 ws in
@@ -64,10 +65,10 @@ module _ (identifier : ℤ) (operation : ℕ) (range : mag identifier < 32768) w
 
   -- an error is told with its value
   pub error-back :
-      (value : ℕ) → value < 256 →
-      reply identifier operation (answerOctets (answer.Error identifier value)) ≡ Failed (pos value)
+      (value : ℕ) (es : List Entry) → value < 256 →
+      reply identifier operation (answerOctets (answer.Error identifier value) es) ≡ Failed (pos value)
   unfolding answerOctets afterOwn failedAt
-  error-back value small =
+  error-back value es small =
       let a : List ℕ = identOctets identifier in
       let b : List ℕ = identOctets (pos value) in
       let ws : List ℕ = a ++ b in
@@ -88,9 +89,10 @@ module _ (identifier : ℤ) (operation : ℕ) (range : mag identifier < 32768) w
 
   -- a result without contents, of an activation or a deactivation
   pub result-back :
-      (operation ≡ interrogation → ⊥) → reply identifier operation (answerOctets (answer.Result identifier)) ≡ Done
+      (es : List Entry) → (operation ≡ interrogation → ⊥) →
+      reply identifier operation (answerOctets (answer.Result identifier) es) ≡ Done
   unfolding answerOctets afterOwn resultAt
-  result-back other =
+  result-back es other =
       let a : List ℕ = identOctets identifier in
       let s : List ℕ = element 0xA2 a in
       let few = ident-most identifier range in
@@ -99,3 +101,23 @@ module _ (identifier : ℤ) (operation : ℕ) (range : mag identifier < 32768) w
       let last : i .start + length a ≡ length s = omega (arith, i .stop) in
       own-in identifier operation 0xA2 a s range result-tag i refl (i .stands) (omega arith)
       ∙ rw (ne-eqb operation interrogation other, eq-eqb (i .start + length a) (length s) last)
+
+-- a reject without an identifier is nobody's: "So a reject with NULL never closes a request" (A55)
+pub null-back :
+    (identifier : ℤ) (operation : ℕ) (problem : Problem) (es : List Entry) →
+    reply identifier operation (answerOctets (answer.Reject whose.Null problem) es) ≡ Dropped
+unfolding answerOctets reply ownAt
+null-back identifier operation problem es =
+    let a : List ℕ = element 0x05 [] in
+    let b : List ℕ = problemOctets problem in
+    let ws : List ℕ = a ++ b in
+    let s : List ℕ = element 0xA4 ws in
+    let three = length-small (problemNo problem) (problemValue problem ∷ []) (omega arith) in
+    let two = length-small 0x05 [] (omega arith) in
+    let both = length-append a b in
+    let i = inside componentDepth s 0 (length s) 0xA4 ws (λ e. omega arith) (λ e. omega arith) (omega arith)
+    (stands-whole s) (omega arith) (omega arith) in
+    let stop : i .start + length ws ≡ length s = omega (arith, i .stop) in
+    let j = inside insideDepth s (i .start) (length s) 0x05 [] (λ e. omega arith) (λ e. omega arith) (omega arith)
+    (stands-left s (i .start) a b (i .stands)) (omega arith) (omega arith) in
+    rw (i .is, stop, eq-eqb (length s) (length s) refl, reject-tag, ident-other insideDepth s (i .start) (length s) (j .is) (λ e. omega arith))

@@ -23,6 +23,8 @@ use Rattle.lists.specs.Listed.{sequenceOctets, listOctets}
 use Rattle.lists.specs.declared.entry.Entry.{Entry}
 use Rattle.lists.proofs.Sizes.{list-octets, list-most}
 use Rattle.lists.proofs.Trips.{entries-back}
+use Rattle.answers.specs.Answer.{answerOctets}
+use Rattle.answers.specs.declared.answer.Answer.the-variants as answer
 use Rattle.answers.specs.Reply.{setAt, sequenceAt, listAt, resultAt, afterOwn, reply}
 use Rattle.answers.specs.declared.reply.Reply.the-variants.{Listed}
 use Rattle.answers.proofs.Replies.{same-self}
@@ -109,3 +111,8 @@ module _ (identifier : ℤ) (left : ℕ) (es : List Entry) (range : mag identifi
 
   pub list-back : ListBack identifier (listOctets identifier es) left (tidyEntries es)
   list-back = rw (list-octets identifier es) whole-back
+
+  -- and so what is written as the answer
+  pub listing-back : ListBack identifier (answerOctets (answer.Listing identifier) es) left (tidyEntries es)
+  unfolding answerOctets
+  listing-back = list-back

@@ -1,4 +1,6 @@
-// What the exchange answers is written, but for a list (document 01, "Replies, in the order checked").
+// What the exchange answers is written (document 01, "Replies, in the order checked").
+use lists::Entries;
+use lists::put_list;
 use octets::ident_size;
 use octets::put_all;
 use octets::put_head;
@@ -24,12 +26,13 @@ pub enum Problem {
     Invoke(u8),
 }
 
-// What the exchange answers.
+// What the exchange answers. The entries of a listing stand beside it.
 pub enum Answer {
     Silence,
     Reject { whose: Whose, problem: Problem },
     Error { identifier: i16, value: u8 },
     Result { identifier: i16 },
+    Listing { identifier: i16 },
 }
 
 fn whose_size(whose: Whose) -> usize
@@ -103,13 +106,14 @@ fn put_result(out: &mut [u8], identifier: i16) -> usize
 }
 
 // The component of an answer at the start of the output, and how many octets it takes; nothing where there is no room.
-pub fn put_answer(out: &mut [u8], answer: Answer) -> usize
-    ensures { λ n. ⌜ PutAnswer (now (out .entry)) answer n (now (out .exit)) ⌝ }
+pub fn put_answer(out: &mut [u8], answer: Answer, list: Entries) -> usize
+    ensures { λ n. ⌜ PutAnswer (now (out .entry)) answer list n (now (out .exit)) ⌝ }
 {
     match answer {
         Answer::Silence => 0,
         Answer::Reject { whose, problem } => put_reject(out, whose, problem),
         Answer::Error { identifier, value } => put_error(out, identifier, value),
         Answer::Result { identifier } => put_result(out, identifier),
+        Answer::Listing { identifier } => put_list(out, identifier, list),
     }
 }

@@ -7,6 +7,7 @@ use answers::Answer;
 use answers::Problem;
 use answers::Whose;
 use answers::put_answer;
+use lists::no_entries;
 
 // Room for what is written, and what its octets hold beforehand.
 const SIZE: usize = 16;
@@ -56,7 +57,8 @@ fn answer_of(word: &[u8], text: &[u8]) -> Answer {
 pub(crate) fn written(word: &[u8], text: &[u8]) {
     let answer = answer_of(word, text);
     let mut out = [BEFORE; 16];
-    let n = put_answer(&mut out, answer);
+    let list = no_entries();
+    let n = put_answer(&mut out, answer, list);
     if SIZE < n {
         return;
     }
@@ -78,7 +80,8 @@ fn smaller(answer: Answer, size: usize) {
     if SIZE < size {
         return;
     }
-    let n = put_answer(&mut out[..size], answer);
+    let list = no_entries();
+    let n = put_answer(&mut out[..size], answer, list);
     if n != 0 {
         say::text(b"!");
         return;

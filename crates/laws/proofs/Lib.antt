@@ -4,5 +4,5 @@ pub mod Fewest
 pub mod Over
 pub mod Parts
 pub mod Stands
-pub mod Places
+pub mod Walks
 pub mod Each

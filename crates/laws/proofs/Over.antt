@@ -98,6 +98,16 @@ wrote {xs} {at} {ws} h p =
     let fits : room xs at ws ≡ true = le-leb (at + length ws) (length xs) h in
     record { moved = rw fits at (p .moved); holds = rw fits at (p .holds) }
 
+-- what was written from the start of a list on can be taken from it again
+module _ {xs ws : List ℕ} {n : ℕ} {ys : List ℕ} (w : Wrote xs 0 ws n ys) (fits : n ≤ length xs) where
+  pub wrote-taken : take n ys ≡ ws
+  wrote-taken =
+      let count : n ≡ length ws = omega (arith, w .moved) in
+      rw (w .holds, count) (take-over xs ws (omega (arith, count)))
+
+  pub wrote-count : n ≡ length (take n ys)
+  wrote-count = rw wrote-taken (omega (arith, w .moved))
+
 -- nothing is written
 pub wrote-none : {xs : List ℕ} {at : ℕ} → Wrote xs at [] at xs
 wrote-none {xs} {at} = record { moved = omega arith; holds = sym (over-nil xs at) }

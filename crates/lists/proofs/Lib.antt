@@ -1,3 +1,5 @@
+pub mod Goods
 pub mod Readers
 pub mod Sizes
 pub mod Trips
+pub mod Writers

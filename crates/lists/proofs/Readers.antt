@@ -8,6 +8,7 @@ use native.Mathlib.Omega.{arith}
 use lib.ListN.{length, set, replicate, length-append}
 use borrow.Author.Tests.{eq-eqb, ne-eqb}
 use Rattle.laws.specs.Got.{Got, got, wrong, andThen}
+use Rattle.laws.proofs.Walks.{store-next}
 use Rattle.lists.specs.Entry.{noEntry, entryAt, entryRead}
 use Rattle.lists.specs.Entries.{limit, before, entriesFrom, entriesRead}
 use Rattle.lists.specs.declared.entry.Entry.{Entry}
@@ -41,15 +42,6 @@ before-one :
     (es : List Entry) (e : Entry) (g : Got (List Entry)) → beforeAll es (before e g) ≡ beforeAll (es ++ (e ∷ [])) g
 before-one es e (got fs next) = rw (append-assoc es (e ∷ []) fs)
 before-one es e wrong = refl
-
--- ---- entries that were stored, and the places past them
-
--- the next one is stored at the first place past them
-store-next :
-    {A : Type 0} (es : List A) (e a : A) (left : ℕ) →
-    set (es ++ replicate (suc left) a) (length es) e ≡ (es ++ (e ∷ [])) ++ replicate left a
-store-next [] e a left = refl
-store-next (f ∷ es) e a left = ap (λ (l : List _). f ∷ l) (store-next es e a left)
 
 -- ---- the entries, one after the other
 

@@ -15,12 +15,12 @@ use Rattle.octets.specs.Ident.{identOctets}
 use Rattle.octets.proofs.Elements.{length-element, length-small, length-most}
 use Rattle.octets.proofs.Enumerateds.{length-enumerated}
 use Rattle.octets.proofs.Idents.{ident-most, ident-one}
-use Rattle.numbers.specs.Number.{numberGood, numberOctets}
+use Rattle.numbers.specs.Number.{most, numberGood, numberOctets}
 use Rattle.numbers.specs.Address.{addressGood, addressOctets}
-use Rattle.numbers.proofs.Sizes.{number-most, address-most}
+use Rattle.numbers.proofs.Sizes.{every-number-most, number-most, every-address-most, address-most}
 use Rattle.coding.specs.Request.{interrogation}
 use Rattle.lists.specs.Entry.{fieldsOctets, entryOctets, entryGood}
-use Rattle.lists.specs.Entries.{limit, entriesOctets, allGood}
+use Rattle.lists.specs.Entries.{limit, entrySize, entriesOctets, allGood}
 use Rattle.lists.specs.Listed.{sequenceOctets, listOctets}
 use Rattle.lists.specs.declared.entry.Entry.{Entry}
 
@@ -56,13 +56,24 @@ pub entry-size :
 unfolding entryOctets
 entry-size e number address = length-small 0x30 (fieldsOctets e) (omega (arith, fields-size e))
 
--- an entry is at most 86 octets
-pub entry-most : (e : Entry) → entryGood e ≡ true → length (entryOctets e) ≤ 86
+-- and so the entry is at most 86
+entry-few :
+    (e : Entry) → length (numberOctets (e .served)) ≤ 27 → length (addressOctets (e .address)) ≤ 51 →
+    length (entryOctets e) ≤ entrySize
+entry-few e number address = omega (arith, entry-size e number address, fields-size e)
+
+-- so is every record, good or not
+pub every-entry-most :
+    (e : Entry) → length (e .served .digits) ≡ most → length (e .address .number .digits) ≡ most →
+    length (e .address .sub) ≡ most → length (entryOctets e) ≤ entrySize
+every-entry-most e own digits sub =
+    entry-few e (every-number-most (e .served) own) (every-address-most (e .address) digits sub)
+
+-- and so is a good entry
+pub entry-most : (e : Entry) → entryGood e ≡ true → length (entryOctets e) ≤ entrySize
 entry-most e h =
     let good = good-entry e h in
-    let number = number-most (e .served) (good .0) in
-    let address = address-most (e .address) (good .1) in
-    omega (arith, entry-size e number address, fields-size e)
+    entry-few e (number-most (e .served) (good .0)) (address-most (e .address) (good .1))
 
 -- and never none
 pub entry-some : (e : Entry) → 1 ≤ length (entryOctets e)
@@ -85,7 +96,7 @@ unfolding entriesOctets
 octets-more e es = refl
 
 -- n entries are at most 86 n octets
-pub entries-most : (es : List Entry) → allGood es ≡ true → length (entriesOctets es) ≤ 86 * length es
+pub entries-most : (es : List Entry) → allGood es ≡ true → length (entriesOctets es) ≤ entrySize * length es
 entries-most [] h = rw octets-none (omega arith)
 entries-most (e ∷ es) h =
     let good = good-entries e es h in
@@ -129,7 +140,7 @@ list-size identifier es range =
 -- a list of at most L entries takes at most 86 L + 19 octets
 pub list-most :
     (L : ℕ) (identifier : ℤ) (es : List Entry) → mag identifier < 32768 → allGood es ≡ true → length es ≤ L →
-    length (listOctets identifier es) ≤ 86 * L + 19
+    length (listOctets identifier es) ≤ entrySize * L + 19
 list-most L identifier es range good few =
     omega (arith, list-size identifier es range, entries-most es good)
 

@@ -16,6 +16,10 @@ use Rattle.lists.specs.declared.entries.EntriesRead.{EntriesRead}
 abbrev pub limit : ℕ
 limit = 8
 
+-- the most octets of an entry
+abbrev pub entrySize : ℕ
+entrySize = 86
+
 -- the entries that a record counts
 abbrev pub listed : Entries → List Entry
 listed list = take (list .count) (list .entries)
@@ -57,3 +61,7 @@ entriesRead wrong = record { ok = false; list = entriesOf [] }
 -- what `entries_at` promises
 abbrev pub EntriesAt : List ℕ → ℕ → ℕ → EntriesRead → Type 0
 EntriesAt s at end r = r ≡ entriesRead (entriesFrom limit s at end)
+
+-- what `no_entries` promises
+abbrev pub NoEntries : Entries → Type 0
+NoEntries r = r ≡ entriesOf []

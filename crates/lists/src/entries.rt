@@ -4,10 +4,10 @@ use crate::entry::entry_at;
 use crate::entry::no_entry;
 ghost use mathlib.Core.Path.{_≡_};
 ghost use Rattle.laws.specs.Got.{wrong};
-ghost use Rattle.lists.specs.Entries.{entriesRead, EntriesAt};
+ghost use Rattle.lists.specs.Entries.{entriesRead, EntriesAt, NoEntries};
 
 // The most instances of a procedure, and so the most entries of a list.
-pub(crate) const LIMIT: usize = 8;
+pub const LIMIT: usize = 8;
 
 // `count` entries. Places past the count carry no meaning.
 #[repr(C)]
@@ -22,17 +22,22 @@ pub struct EntriesRead {
     pub list: Entries,
 }
 
+// A list of no entries.
+pub fn no_entries() -> Entries
+    ensures { λ r. ⌜ NoEntries r ⌝ }
+{
+    let none = no_entry();
+    Entries {
+        count: 0,
+        entries: [none; LIMIT],
+    }
+}
+
 fn not_entries() -> EntriesRead
     ensures { λ r. ⌜ r ≡ entriesRead wrong ⌝ }
 {
-    let none = no_entry();
-    EntriesRead {
-        ok: false,
-        list: Entries {
-            count: 0,
-            entries: [none; LIMIT],
-        },
-    }
+    let list = no_entries();
+    EntriesRead { ok: false, list }
 }
 
 // The entries from `at` up to `end`, where `reply_to` found them; a ninth is seen, and then there is no list.

@@ -11,7 +11,7 @@ use Rattle.laws.specs.Stands.{Stands}
 use Rattle.laws.proofs.Over.{wrote, room-then, puts-then}
 use Rattle.laws.proofs.Stands.{stands-first, stands-left, stands-right}
 use Rattle.octets.specs.Head.{lengthMost, headAt}
-use Rattle.octets.specs.Element.{lengthHolds, lengthWith, lengthFewest, headWith, headOctets, element, PutHead}
+use Rattle.octets.specs.Element.{lengthHolds, lengthWith, lengthFewest, headWith, headOctets, element, HeadSize, PutHead}
 use Rattle.octets.specs.declared.head.Head.the-variants.{Is}
 use Rattle.octets.proofs.Lengths.{length-length, length-back, fewest-short, shortest-holds, shortest-most}
 
@@ -42,7 +42,16 @@ pub length-element :
     length (element tag contents) ≡ suc (suc (lengthFewest (length contents))) + length contents
 length-element tag contents = rw (length-append (headOctets tag (length contents)) contents, length-head tag (length contents))
 
+-- what the code works out for the two: how many octets a head takes, and with its contents
+pub element-size :
+    (tag : ℕ) (contents : List ℕ) {n r : ℕ} → n ≡ length contents → HeadSize n r →
+    r + n ≡ length (element tag contents)
+element-size tag contents e h = omega (arith, e, rw e at h, length-element tag contents)
+
 -- a head has at most four octets
+pub head-most : (n : ℕ) {r : ℕ} → HeadSize n r → r ≤ 4
+head-most n h = omega (arith, h, shortest-most n)
+
 pub length-most : (tag : ℕ) (contents : List ℕ) → length (element tag contents) ≤ length contents + 4
 length-most tag contents = omega (arith, length-element tag contents, shortest-most (length contents))
 

@@ -14,8 +14,10 @@ use Rattle.laws.specs.Fewest.{fewestFrom}
 use Rattle.laws.specs.Stands.{Stands}
 use Rattle.laws.proofs.Fewest.{fewest-step, fewest-will, fewest-most, fewest-least}
 use Rattle.octets.specs.Word.{wordAt}
+use Rattle.octets.specs.Head.{headAt}
 use Rattle.octets.specs.Element.{headOctets, element}
 use Rattle.octets.specs.Ident.{identTag, identMost, half, twos, bits, identHolds, identIn, identAt, identFewest, identWith, identOctets}
+use Rattle.octets.specs.declared.head.Head.the-variants as head
 use Rattle.octets.specs.declared.ident.Ident.the-variants.{Is, Unreadable}
 use Rattle.octets.proofs.Words.{length-word, word-back}
 use Rattle.octets.proofs.Elements.{length-head, length-element, element-small, element-back, element-contents}
@@ -152,3 +154,11 @@ module _ (w : ℕ) (s : List ℕ) (at next u h m fewer : ℕ) (some : w ≡ 0 �
   unfolding identIn identHolds
   ident-read le =
       rw (ne-eqb w 0 some, le-ltb identMost w most, same-mag, ← is-fewer, le-ltb m fewer le, ← word, ← is-half)
+
+-- an element of another tag is no identifier
+pub ident-other :
+    (depth : ℕ) (s : List ℕ) (at end : ℕ) {tag start stop next : ℕ} → headAt depth s at end ≡ head.Is tag start stop next →
+    (tag ≡ identTag → ⊥) →
+    identAt depth s at end ≡ Unreadable
+unfolding identAt
+ident-other depth s at end {tag} h other = rw (h, ne-eqb tag identTag other)

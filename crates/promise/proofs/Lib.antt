@@ -6,3 +6,4 @@ pub mod OnlyCoding
 pub mod OnlyLists
 pub mod OnlyNumbers
 pub mod OnlyOctets
+pub mod OnlyStore

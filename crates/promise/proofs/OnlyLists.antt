@@ -2,10 +2,23 @@
 use Prim.Native.Nat.{ℕ}
 use mathlib.Core.Path.{_≡_}
 use mathlib.Core.List.{List}
+use lib.IntN.{ℤ}
 use Rattle.laws.proofs.Picks.{both}
-use Rattle.lists.specs.Entries.{EntriesAt}
+use Rattle.laws.proofs.Over.{only-puts}
+use Rattle.lists.specs.Entries.{EntriesAt, NoEntries}
+use Rattle.lists.specs.Listed.{PutList}
+use Rattle.lists.specs.declared.entries.Entries.{Entries}
 use Rattle.lists.specs.declared.entries.EntriesRead.{EntriesRead}
 
 pub only-entries-at :
     (s : List ℕ) (at end : ℕ) {a b : EntriesRead} → EntriesAt s at end a → EntriesAt s at end b → a ≡ b
 only-entries-at s at end = both
+
+pub only-put-list :
+    (xs : List ℕ) (identifier : ℤ) (list : Entries) {m n : ℕ} {ys zs : List ℕ} → PutList xs identifier list m ys →
+    PutList xs identifier list n zs →
+    (m ≡ n) × (ys ≡ zs)
+only-put-list xs identifier list = only-puts
+
+pub only-no-entries : {a b : Entries} → NoEntries a → NoEntries b → a ≡ b
+only-no-entries = both

@@ -11,13 +11,16 @@ use Rattle.octets.specs.Groups.{groupsIn, groupsAt, groupsWith, groups}
 use Rattle.numbers.specs.Codes.{placeOf, serviceCode, procedureCode}
 use Rattle.numbers.specs.Number.{allDigits, fair, digitsGood, digitsIn, numberAt, numberOctets}
 use Rattle.numbers.specs.Address.{subAt, addressAt, subOctets, addressOctets}
+use Rattle.lists.specs.Entries.{entriesOctets, entriesFrom}
+use Rattle.lists.specs.Listed.{listOctets}
 use Rattle.answers.specs.Answer.{answerOctets}
+use Rattle.answers.specs.Reply.{sameIdent, failedAt, setAt, sequenceAt, listAt, resultAt, afterOwn, ownAt, reply}
 use Rattle.coding.specs.Heard.{replyTag, operationAt, identifierAt, heard}
 use Rattle.coding.specs.Request.{codeAt, serviceAt, servedAt, privates, lastIn, activationIn, interrogationIn, contentsIn, argumentAt}
 use Rattle.coding.specs.Sent.{servedOctets, toOctets, requestOctets}
 use Rattle.promise.specs.Samples.{Each, samples}
 
 pub each-sample : Each samples
-unfolding fewestFrom wordAt wordOctets spanOf lengthBy lengthAt headAt lengthHolds lengthWith lengthFewest enumeratedAt half twos bits identHolds identIn identAt identFewest fills groupsIn groupsAt groupsWith groups placeOf serviceCode procedureCode allDigits fair digitsGood digitsIn numberAt numberOctets subAt addressAt subOctets addressOctets replyTag operationAt identifierAt heard codeAt serviceAt servedAt privates lastIn activationIn interrogationIn contentsIn argumentAt servedOctets toOctets requestOctets answerOctets
+unfolding fewestFrom wordAt wordOctets spanOf lengthBy lengthAt headAt lengthHolds lengthWith lengthFewest enumeratedAt half twos bits identHolds identIn identAt identFewest fills groupsIn groupsAt groupsWith groups placeOf serviceCode procedureCode allDigits fair digitsGood digitsIn numberAt numberOctets subAt addressAt subOctets addressOctets replyTag operationAt identifierAt heard codeAt serviceAt servedAt privates lastIn activationIn interrogationIn contentsIn argumentAt servedOctets toOctets requestOctets answerOctets entriesOctets entriesFrom listOctets sameIdent failedAt setAt sequenceAt listAt resultAt afterOwn ownAt reply
 each-sample =
-    (refl, (refl, (refl, (refl, (refl, (refl, (refl, (refl, (refl, (refl, (refl, (refl, (refl, (refl, (refl, (refl, (refl, (refl, (refl, tt)))))))))))))))))))
+    (refl, (refl, (refl, (refl, (refl, (refl, (refl, (refl, (refl, (refl, (refl, (refl, (refl, (refl, (refl, (refl, (refl, (refl, (refl, (refl, (refl, (refl, (refl, (refl, (refl, (refl, tt))))))))))))))))))))))))))

@@ -13,7 +13,12 @@ use Rattle.octets.specs.declared.groups.Groups.{Groups}
 use Rattle.octets.specs.declared.groups.Groups.the-variants as groups
 use Rattle.numbers.specs.Number.{unknown, numberOf}
 use Rattle.numbers.specs.Address.{subOf, forwardedOf}
+use Rattle.lists.specs.Entries.{limit, entriesFrom}
+use Rattle.lists.specs.declared.entry.Entry.{Entry}
 use Rattle.answers.specs.Answer.{answerOctets}
+use Rattle.answers.specs.Reply.{reply}
+use Rattle.answers.specs.declared.reply.Reply.{Reply}
+use Rattle.answers.specs.declared.reply.Reply.the-variants as reply
 use Rattle.coding.specs.Heard.{local, heard}
 use Rattle.coding.specs.Request.{activation, interrogation, allNumbers, nowhere, requestOf, argumentAt}
 use Rattle.coding.specs.Sent.{requestOctets}
@@ -33,7 +38,9 @@ pub data Sample : Type 0 where
   hears : List ℕ → Heard → Sample
   asks : (operation : ℕ) → List ℕ → (at : ℕ) → Request → Sample
   sends : (identifier : ℤ) (operation : ℕ) → Request → List ℕ → Sample
-  answers : Answer → List ℕ → Sample
+  answers : Answer → List Entry → List ℕ → Sample
+  told : (identifier : ℤ) (operation : ℕ) → List ℕ → Reply → Sample
+  lists-entries : List ℕ → (at end : ℕ) → List Entry → Sample
 
 -- what a sample says: octets are read from the first to the end
 abbrev pub Says : Sample → Type 0
@@ -44,7 +51,9 @@ Says (writes-groups n s) = groups n ≡ s
 Says (hears s r) = heard s ≡ r
 Says (asks operation s at r) = argumentAt (local (pos operation)) s at (length s) ≡ got r (length s)
 Says (sends identifier operation r s) = requestOctets identifier operation r ≡ s
-Says (answers a s) = answerOctets a ≡ s
+Says (answers a es s) = answerOctets a es ≡ s
+Says (told identifier operation s r) = reply identifier operation s ≡ r
+Says (lists-entries s at end es) = entriesFrom limit s at end ≡ got es end
 
 abbrev pub Each : List Sample → Type 0
 Each [] = Unit {0}
@@ -58,6 +67,11 @@ interrogationOctets =
 abbrev pub activationOctets : List ℕ
 activationOctets =
     0xA1 ∷ 0x19 ∷ 0x02 ∷ 0x01 ∷ 0x02 ∷ 0x02 ∷ 0x01 ∷ 0x07 ∷ 0x30 ∷ 0x11 ∷ 0x0A ∷ 0x01 ∷ 0x01 ∷ 0x0A ∷ 0x01 ∷ 0x01 ∷ 0x30 ∷ 0x07 ∷ 0x80 ∷ 0x05 ∷ 0x32 ∷ 0x34 ∷ 0x36 ∷ 0x38 ∷ 0x30 ∷ 0x05 ∷ 0x00 ∷ []
+
+-- "fresh reply"
+abbrev pub freshOctets : List ℕ
+freshOctets =
+    0xA2 ∷ 0x0A ∷ 0x02 ∷ 0x01 ∷ 0x01 ∷ 0x30 ∷ 0x05 ∷ 0x02 ∷ 0x01 ∷ 0x0B ∷ 0x31 ∷ 0x00 ∷ []
 
 abbrev pub interrogationOfCfb : Request
 interrogationOfCfb = requestOf 1 0 nowhere allNumbers
@@ -88,9 +102,18 @@ samples =
     -- "empty input" is not one element
     ∷ hears [] heard.NotOne
     -- the replies: "`A2 03 02 01 02`", the duplicate, "not subscribed, identifier 1", and that to the empty input
-    ∷ answers (answer.Result (pos 2)) (0xA2 ∷ 0x03 ∷ 0x02 ∷ 0x01 ∷ 0x02 ∷ [])
-    ∷ answers (answer.Reject (whose.Own (pos 2)) (problem.Invoke 0))
+    ∷ answers (answer.Result (pos 2)) [] (0xA2 ∷ 0x03 ∷ 0x02 ∷ 0x01 ∷ 0x02 ∷ [])
+    ∷ answers (answer.Reject (whose.Own (pos 2)) (problem.Invoke 0)) []
     (0xA4 ∷ 0x06 ∷ 0x02 ∷ 0x01 ∷ 0x02 ∷ 0x81 ∷ 0x01 ∷ 0x00 ∷ [])
-    ∷ answers (answer.Error (pos 1) 0) (0xA3 ∷ 0x06 ∷ 0x02 ∷ 0x01 ∷ 0x01 ∷ 0x02 ∷ 0x01 ∷ 0x00 ∷ [])
-    ∷ answers (answer.Reject whose.Null (problem.General 2)) (0xA4 ∷ 0x05 ∷ 0x05 ∷ 0x00 ∷ 0x80 ∷ 0x01 ∷ 0x02 ∷ [])
+    ∷ answers (answer.Error (pos 1) 0) [] (0xA3 ∷ 0x06 ∷ 0x02 ∷ 0x01 ∷ 0x01 ∷ 0x02 ∷ 0x01 ∷ 0x00 ∷ [])
+    ∷ answers (answer.Reject whose.Null (problem.General 2)) [] (0xA4 ∷ 0x05 ∷ 0x05 ∷ 0x00 ∷ 0x80 ∷ 0x01 ∷ 0x02 ∷ [])
+    -- "fresh reply", written, and read by the end
+    ∷ answers (answer.Listing (pos 1)) [] freshOctets
+    ∷ told (pos 1) interrogation freshOctets (reply.Listed 12 12)
+    ∷ lists-entries freshOctets 12 12 []
+    -- the other replies, read by the end
+    ∷ told (pos 2) activation (0xA2 ∷ 0x03 ∷ 0x02 ∷ 0x01 ∷ 0x02 ∷ []) reply.Done
+    ∷ told (pos 2) activation (0xA4 ∷ 0x06 ∷ 0x02 ∷ 0x01 ∷ 0x02 ∷ 0x81 ∷ 0x01 ∷ 0x00 ∷ []) reply.Rejected
+    ∷ told (pos 1) interrogation (0xA3 ∷ 0x06 ∷ 0x02 ∷ 0x01 ∷ 0x01 ∷ 0x02 ∷ 0x01 ∷ 0x00 ∷ []) (reply.Failed (pos 0))
+    ∷ told (pos 1) interrogation (0xA4 ∷ 0x05 ∷ 0x05 ∷ 0x00 ∷ 0x80 ∷ 0x01 ∷ 0x02 ∷ []) reply.Dropped
     ∷ []

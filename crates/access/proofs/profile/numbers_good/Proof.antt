@@ -1,7 +1,7 @@
 use Rattle.access.proofs.Profiles.{numberFits, numbers-fair}
 use Rattle.access.specs.Profile.{numbersGood}
 use Rattle.laws.specs.Places.{everyTo}
-use Rattle.laws.proofs.Places.{every-none, every-more, every-fails}
+use Rattle.laws.proofs.Walks.{every-none, every-more, every-fails}
 use borrow.Author.Tests.{lt-ltb, le-ltb, eq-eqb, ne-eqb, not-true, not-false}
 use borrow.Author.Needs.{needs}
 use native.Mathlib.Omega.{arith}

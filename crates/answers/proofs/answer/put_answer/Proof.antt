@@ -29,6 +29,12 @@ enum-known-answer-3 c = search needs
 put-result-requires : tie.Need-put-result-requires
 put-result-requires c κs = search needs
 
+enum-known-answer-4 : tie.Need-enum-known-answer-4
+enum-known-answer-4 c = search needs
+
+put-list-requires : tie.Need-put-list-requires
+put-list-requires c κs = search needs
+
 returns : tie.Need-returns
 unfolding answerOctets
 returns c = rw (c .enum-told .given .1) (puts-all (omega arith) wrote-none)
@@ -56,6 +62,14 @@ unfolding answerOctets
 returns-4 c = let id : SFits w16 (c .before .before .before .before .before .answer3 .given .0 .0) = search needs in
     rw (c .before .before .before .before .before .answer3 .given .1) (rw (toZ-ofZ id) at (c .before .before .put-result .ensures))
 
+same-length-4 : tie.Need-same-length-4
+same-length-4 c = search needs
+
+returns-5 : tie.Need-returns-5
+unfolding answerOctets
+returns-5 c = let id : SFits w16 (c .before .before .before .before .before .answer4 .given .0 .0) = search needs in
+    rw (c .before .before .before .before .before .answer4 .given .1) (rw (toZ-ofZ id) at (c .before .before .put-list .ensures))
+
 pub put-answer-spec : {M : Type 1} → statement M
 put-answer-spec =
     tie.close
@@ -67,10 +81,14 @@ put-answer-spec =
     put-error-requires
     enum-known-answer-3
     put-result-requires
+    enum-known-answer-4
+    put-list-requires
     returns
     same-length
     returns-2
     same-length-2
     returns-3
     same-length-3
-    returns-4)
+    returns-4
+    same-length-4
+    returns-5)

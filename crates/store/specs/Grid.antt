@@ -1,0 +1,44 @@
+-- What a table or a picture holds: a row for each procedure (document 01, "Profile and table").
+use Prim.Native.Nat.{ℕ}
+use mathlib.Core.Path.{_≡_}
+use mathlib.Core.Bool.{Bool}
+use mathlib.Core.List.{List, []}
+use lib.ListN.{getD, replicate, take}
+use Rattle.laws.specs.Places.{everyTo}
+use Rattle.access.specs.declared.profile.Profile.{Profile}
+use Rattle.lists.specs.Entries.{limit, entriesOf}
+use Rattle.lists.specs.declared.entries.Entries.{Entries}
+use Rattle.store.specs.Row.{places, noCell, entriesIn, rowGood}
+use Rattle.store.specs.declared.row.Places.{Places}
+use Rattle.store.specs.declared.row.Row.{Row}
+use Rattle.store.specs.declared.grid.Grid.{Grid}
+
+-- cfu, cfb, cfnr
+abbrev pub procedures : ℕ
+procedures = 3
+
+-- a row that holds nothing, and a grid of such rows
+abbrev pub noRow : Row
+noRow = record { cells = replicate places noCell }
+
+abbrev pub noGrid : Grid
+noGrid = record { rows = replicate procedures noRow }
+
+-- the row of a procedure
+abbrev pub rowAt : Grid → ℕ → Row
+rowAt grid procedure = getD (grid .rows) procedure (record { cells = [] })
+
+-- every procedure's row breaks no rule
+unfoldable pub gridGood : ℕ → Profile → Grid → Bool
+gridGood most p grid = everyTo (λ procedure. rowGood most p procedure (rowAt grid procedure)) procedures
+
+-- what the functions of a grid promise
+abbrev pub FreshGrid : Grid → Type 0
+FreshGrid r = r ≡ noGrid
+
+abbrev pub GridGood : Profile → Grid → Bool → Type 0
+GridGood p grid r = r ≡ gridGood limit p grid
+
+-- what `entries` promises: a row that breaks no rule has no more than 8
+abbrev pub EntriesIn : Profile → ℕ → Places → Row → Entries → Type 0
+EntriesIn p procedure w row r = r ≡ entriesOf (take limit (entriesIn p procedure w row))

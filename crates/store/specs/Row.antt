@@ -1,0 +1,130 @@
+-- What a procedure holds: a row of cells, one for each number and each service of the profile (document 01, "Profile and table").
+-- A place is a number and a service: the places of the first number come first, each number's by service code.
+use Prim.Native.Nat.{ℕ, _*_, _/_, _%_}
+use mathlib.Core.Path.{_≡_}
+use mathlib.Core.Bool.{Bool, true, false}
+use mathlib.Core.List.{List, [], _∷_}
+use mathlib.Core.Option.{Option, none, some}
+use lib.ListN.{getD, replicate}
+use lib.Dec.{ltb, leb, eqb}
+use Rattle.laws.specs.Pick.{pick}
+use Rattle.laws.specs.Places.{everyTo, countTo, changedFrom, gathered}
+use Rattle.numbers.specs.Number.{numberOf}
+use Rattle.numbers.specs.Address.{tidyAddress, subOf, forwardedOf, addressGood}
+use Rattle.numbers.specs.declared.number.Number.{Number}
+use Rattle.numbers.specs.declared.address.Address.{Address}
+use Rattle.access.specs.Profile.{numbersMost, servicesMost}
+use Rattle.access.specs.declared.profile.Profile.{Profile}
+use Rattle.lists.specs.Entry.{entryOf}
+use Rattle.lists.specs.declared.entry.Entry.{Entry}
+use Rattle.store.specs.declared.row.Cell.{Cell}
+use Rattle.store.specs.declared.row.Row.{Row}
+use Rattle.store.specs.declared.row.Places.{Places}
+
+-- the number and the service of a place, by their places in the profile
+abbrev pub places : ℕ
+places = numbersMost * servicesMost
+
+abbrev pub numberOfPlace : ℕ → ℕ
+numberOfPlace j = j / servicesMost
+
+abbrev pub serviceOfPlace : ℕ → ℕ
+serviceOfPlace j = j % servicesMost
+
+-- ---- cells
+
+-- an instance of the service `code`; a cell whose code is 0 holds none, and its address carries no meaning
+abbrev pub cellOf : ℕ → Address → Cell
+cellOf code address = record { service = code; address = address }
+
+abbrev pub noCell : Cell
+noCell = cellOf 0 (forwardedOf (numberOf 0 0 []) (subOf []) .address)
+
+-- the cell of a place, and what stands for one past the array
+abbrev pub outside : Cell
+outside = cellOf 0 (record { number = record { form = 0; kind = 0; count = 0; digits = [] }; subcount = 0; sub = [] })
+
+abbrev pub cellAt : Row → ℕ → Cell
+cellAt row j = getD (row .cells) j outside
+
+-- whether an instance is active at the place
+unfoldable pub active : Row → ℕ → Bool
+active row j = pick (eqb (cellAt row j .service) 0) false true
+
+-- what a row holds at each place, whatever its layout: perhaps an address
+abbrev pub View : Type 0
+View = ℕ → Option Address
+
+unfoldable pub held : Row → View
+held row j = pick (active row j) (some (tidyAddress (cellAt row j .address))) none
+
+-- ---- places that are selected
+
+-- the code of the service at a place that is selected, 0 at any other
+abbrev pub codeAt : Places → ℕ → ℕ
+codeAt w j = getD (w .codes) j 0
+
+unfoldable pub selected : Places → ℕ → Bool
+selected w j = pick (eqb (codeAt w j) 0) false true
+
+-- how many instances there are with one at every selected place
+unfoldable pub countWith : Places → Row → ℕ
+countWith w row = countTo (λ j. pick (active row j) true (selected w j)) places
+
+-- how many selected instances are active
+unfoldable pub activeOf : Places → Row → ℕ
+activeOf w row = countTo (λ j. pick (selected w j) (active row j) false) places
+
+-- "every selected number and service gets the address, replacing an older one, all together"
+unfoldable pub putIn : Places → Address → Row → Row
+putIn w address row = record {
+  cells = changedFrom (λ j x. pick (selected w j) (cellOf (codeAt w j) address) x) 0 (row .cells);
+}
+
+-- "removes every active selected instance"
+unfoldable pub clearIn : Places → Row → Row
+clearIn w row = record { cells = changedFrom (λ j x. pick (selected w j) noCell x) 0 (row .cells) }
+
+-- "every active selected instance, by profile number, then service code. Each carries the profile's own number."
+unfoldable pub entryOfPlace : Profile → ℕ → Row → ℕ → Entry
+entryOfPlace p procedure row j =
+    entryOf (getD (p .numbers) (numberOfPlace j) (record { form = 0; kind = 0; count = 0; digits = [] }))
+    (cellAt row j .service)
+    procedure
+    (cellAt row j .address)
+
+unfoldable pub entriesIn : Profile → ℕ → Places → Row → List Entry
+entriesIn p procedure w row =
+    gathered (λ j. pick (selected w j) (pick (active row j) (entryOfPlace p procedure row j ∷ []) []) []) places
+
+-- ---- rows that break no rule
+
+-- "hold only subscribed procedures and services and profile numbers", and addresses by the rules for numbers
+unfoldable pub cellGood : Profile → ℕ → ℕ → Cell → Bool
+cellGood p procedure j x =
+    pick (eqb (x .service) 0) true
+    (pick (eqb (getD (p .subscribed) procedure 0) 1)
+    (pick (ltb (numberOfPlace j) (p .numbercount))
+    (pick (ltb (serviceOfPlace j) (p .servicecount))
+    (pick (eqb (x .service) (getD (p .services) (serviceOfPlace j) 0)) (addressGood (x .address)) false)
+    false)
+    false)
+    false)
+
+-- "at most 8 for each procedure", over the limit
+unfoldable pub rowGood : ℕ → Profile → ℕ → Row → Bool
+rowGood limit p procedure row =
+    pick (everyTo (λ j. cellGood p procedure j (cellAt row j)) places) (leb (countTo (active row) places) limit) false
+
+-- what the methods of a row promise
+abbrev pub CountWith : Places → Row → ℕ → Type 0
+CountWith w row r = r ≡ countWith w row
+
+abbrev pub ActiveOf : Places → Row → ℕ → Type 0
+ActiveOf w row r = r ≡ activeOf w row
+
+abbrev pub PutIn : Places → Address → Row → Row → Type 0
+PutIn w address row r = r ≡ putIn w address row
+
+abbrev pub ClearIn : Places → Row → Row → Type 0
+ClearIn w row r = r ≡ clearIn w row
