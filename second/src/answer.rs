@@ -101,7 +101,7 @@ fn write_list(identifier: i32, entries: &[Entry]) -> Vec<u8> {
     element(TAG_RESULT, &contents)
 }
 
-fn write_entry(entry: &Entry) -> Vec<u8> {
+pub fn write_entry(entry: &Entry) -> Vec<u8> {
     let contents = [
         write_number(&entry.number),
         enumerated(entry.service),

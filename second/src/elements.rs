@@ -10,7 +10,7 @@ pub const TAG_SEQUENCE: u8 = 0x30;
 pub const TAG_SET: u8 = 0x31;
 
 const LOW_FIVE_BITS: u8 = 0x1F;
-const CONSTRUCTED: u8 = 0x20;
+pub const CONSTRUCTED: u8 = 0x20;
 const CLASS: u8 = 0xC0;
 const PRIVATE: u8 = 0xC0;
 

@@ -1,8 +1,11 @@
-//! The program: lists a night sheet, or soaks the end against the exchange.
+//! The program: lists a night sheet, soaks the end against the exchange, or writes list cases.
 
+use std::fs;
 use std::io::{self, Read, Write};
+use std::path::Path;
 use std::process::ExitCode;
 
+use second::list_cases::list_cases;
 use second::listing::printed;
 use second::soak::soak;
 
@@ -11,6 +14,8 @@ second list < SHEET        list a night sheet, or print: refused 9
 second soak SEEDS STEPS    run the end against the exchange over a bad path and print how often
                            each kind of event came about; a fault, or a kind that never came
                            about, ends with exit code 1
+second list-cases DIR      write cases of lists, one a line: DIR/stdin, and DIR/stdout with the
+                           output expected
 second help                this text
 ";
 
@@ -26,6 +31,7 @@ fn main() -> ExitCode {
             (Ok(seeds), Ok(steps)) => run_soak(seeds, steps),
             _ => misused(),
         },
+        ["list-cases", directory] => write_list_cases(Path::new(directory)),
         ["help"] => print(HELP).map(|()| ExitCode::SUCCESS),
         _ => misused(),
     };
@@ -51,6 +57,14 @@ fn list() -> io::Result<ExitCode> {
     let mut sheet = Vec::new();
     io::stdin().lock().read_to_end(&mut sheet)?;
     print(&printed(&sheet))?;
+    Ok(ExitCode::SUCCESS)
+}
+
+fn write_list_cases(directory: &Path) -> io::Result<ExitCode> {
+    let (input, output): (Vec<String>, Vec<String>) = list_cases().into_iter().unzip();
+    fs::create_dir_all(directory)?;
+    fs::write(directory.join("stdin"), input.join("\n") + "\n")?;
+    fs::write(directory.join("stdout"), output.join("\n") + "\n")?;
     Ok(ExitCode::SUCCESS)
 }
 
