@@ -49,4 +49,34 @@ struct sconcetoad_said {
 /* Reads any octets; alters nothing. */
 struct sconcetoad_said sconcetoad_said(const uint8_t *component, size_t length);
 
+/* An active instance as a list tells it. */
+struct sconcetoad_entry {
+    struct sconcetoad_number served;
+    uint8_t service;
+    uint8_t procedure;
+    struct sconcetoad_address address;
+};
+
+/* The most entries of a list: the instances of a procedure. */
+#define SCONCETOAD_ENTRIES 8
+
+/* `count` entries; those past the count carry no meaning. */
+struct sconcetoad_entries {
+    uint8_t count;
+    struct sconcetoad_entry entries[SCONCETOAD_ENTRIES];
+};
+
+/* What a reply lists: `lists` is 1 where it is a list, and then `list` holds its entries. */
+struct sconcetoad_told {
+    uint8_t lists;
+    struct sconcetoad_entries list;
+};
+
+/* What a component lists to the end whose interrogation has this identifier. Reads any octets; alters nothing. */
+struct sconcetoad_told sconcetoad_list(const uint8_t *component, size_t length, int16_t identifier);
+
+/* Writes the result of an interrogation at the start of `out` and answers how many octets it takes, at most 707; where there is
+   no room it writes nothing and answers 0. Octets after the result are not altered. */
+size_t sconcetoad_put_list(uint8_t *out, size_t length, int16_t identifier, struct sconcetoad_entries list);
+
 #endif

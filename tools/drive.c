@@ -12,8 +12,46 @@ static const uint8_t activation[] = {
 /* Kept out of sight of the compiler, so that no turn is left out. */
 static volatile uint8_t seen;
 
+/* A list of eight unknown five-digit numbers: 207 octets. */
+static struct sconcetoad_entries eight(void)
+{
+    struct sconcetoad_entries list;
+    memset(&list, 0, sizeof list);
+    list.count = SCONCETOAD_ENTRIES;
+    for (int i = 0; i < SCONCETOAD_ENTRIES; i++) {
+        struct sconcetoad_entry *e = &list.entries[i];
+        e->served.count = 5;
+        memcpy(e->served.digits, "13579", 5);
+        e->service = (uint8_t)(32 + i);
+        e->procedure = 1;
+        e->address.number.count = 5;
+        memcpy(e->address.number.digits, "24680", 5);
+    }
+    return list;
+}
+
+static int bench_list(const char *what, long turns)
+{
+    struct sconcetoad_entries list = eight();
+    uint8_t out[707];
+    size_t length = sconcetoad_put_list(out, sizeof out, 1, list);
+    if (length != 207) {
+        fprintf(stderr, "drive: the list has %zu octets\n", length);
+        return 1;
+    }
+    for (long i = 0; i < turns; i++) {
+        if (strcmp(what, "write-list") == 0)
+            seen = (uint8_t)sconcetoad_put_list(out, sizeof out, 1, list);
+        else
+            seen = sconcetoad_list(out, length, 1).list.entries[7].address.number.digits[4];
+    }
+    return 0;
+}
+
 static int bench(const char *what, long turns)
 {
+    if (strcmp(what, "write-list") == 0 || strcmp(what, "read-list") == 0)
+        return bench_list(what, turns);
     if (strcmp(what, "read-activation") == 0) {
         for (long i = 0; i < turns; i++) {
             struct sconcetoad_said said = sconcetoad_said(activation, sizeof activation);

@@ -1,1 +1,2 @@
 pub mod Saids
+pub mod Tolds
