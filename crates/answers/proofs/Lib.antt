@@ -2,3 +2,4 @@ pub mod Replies
 pub mod Answers
 pub mod Lists
 pub mod Numbers
+pub mod Rest

@@ -7,10 +7,11 @@ use answers::Answer;
 use answers::Problem;
 use answers::Whose;
 use answers::put_answer;
+use lists::Entries;
 use lists::no_entries;
 
-// Room for what is written, and what its octets hold beforehand.
-const SIZE: usize = 16;
+// Room for more than the longest answer, and what its octets hold beforehand.
+const SIZE: usize = 720;
 
 const BEFORE: u8 = 0xAA;
 
@@ -56,31 +57,36 @@ fn answer_of(word: &[u8], text: &[u8]) -> Answer {
 // Prints what is written for the line, and a mark for each smaller room: whether nothing was altered.
 pub(crate) fn written(word: &[u8], text: &[u8]) {
     let answer = answer_of(word, text);
-    let mut out = [BEFORE; 16];
     let list = no_entries();
+    let n = whole(answer, list);
+    let mut size = 0;
+    while size < n {
+        smaller(answer, list, size);
+        size += 1;
+    }
+}
+
+// Prints what is written where there is room for more, and answers how many octets that is.
+pub(crate) fn whole(answer: Answer, list: Entries) -> usize {
+    let mut out = [BEFORE; SIZE];
     let n = put_answer(&mut out, answer, list);
     if SIZE < n {
-        return;
+        return 0;
     }
     say::octets(&out[..n]);
     if !untouched(&out, 0, n) {
         say::text(b"!");
     }
     say::text(b" room ");
-    let mut size = 0;
-    while size < n {
-        smaller(answer, size);
-        size += 1;
-    }
+    n
 }
 
 // A room of `size` octets is too small: nothing is written.
-fn smaller(answer: Answer, size: usize) {
-    let mut out = [BEFORE; 16];
+pub(crate) fn smaller(answer: Answer, list: Entries, size: usize) {
+    let mut out = [BEFORE; SIZE];
     if SIZE < size {
         return;
     }
-    let list = no_entries();
     let n = put_answer(&mut out[..size], answer, list);
     if n != 0 {
         say::text(b"!");

@@ -83,6 +83,11 @@ pub(crate) fn number(s: &[u8]) -> u32 {
     n as u32
 }
 
+// The number that stands `n` places below -1.
+pub(crate) fn below_zero(n: u32) -> i16 {
+    -1 - ((n % 32768) as i16)
+}
+
 // The number of the last word as an identifier, which it is negative for after " -".
 pub(crate) fn identifier(s: &[u8]) -> i16 {
     let at = find(s, 0, b' ');
@@ -96,5 +101,5 @@ pub(crate) fn identifier(s: &[u8]) -> i16 {
     if n == 0 {
         return 0;
     }
-    -1 - (((n - 1) % 32768) as i16)
+    below_zero(n - 1)
 }

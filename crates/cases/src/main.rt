@@ -1,9 +1,11 @@
 // Reads cases from standard input, one to a line, and prints what the library answers to each. What it must answer stands in
-// the file stdout, written by hand from document 01; docs/ARCHITECTURE.md says how a line is built.
+// the file stdout, worked out from document 01 without this library; docs/ARCHITECTURE.md says how a line is built.
 mod answered;
 mod components;
 mod line;
+mod listed;
 mod readers;
+mod records;
 mod replies;
 mod say;
 mod writers;
@@ -54,6 +56,10 @@ fn case(text: &[u8]) {
     }
     if answered::begins(&text[..end], b"answer-") {
         answered::written(&text[..end], text);
+        return;
+    }
+    if answered::begins(&text[..end], b"list-") {
+        listed::case_of(&text[..end], text);
         return;
     }
     let by = readers::reader_of(&text[..end]);

@@ -4,11 +4,23 @@ use crate::line;
 use crate::say;
 use answers::Reply;
 
-const IDENTIFIER: i16 = 5;
+pub(crate) const IDENTIFIER: i16 = 5;
 
 pub(crate) fn replied(word: &[u8], s: &[u8]) {
     let operation = (line::number(word) % 256) as u8;
-    match answers::reply_to(s, IDENTIFIER, operation) {
+    let reply = answers::reply_to(s, IDENTIFIER, operation);
+    match reply {
+        Reply::Listed { at, end } => {
+            say::place(b"listed ", at);
+            say::place(b" ", end);
+        }
+        _ => said(reply),
+    }
+}
+
+// Prints what a reply says that is no list.
+pub(crate) fn said(reply: Reply) {
+    match reply {
         Reply::Dropped => say::text(b"dropped"),
         Reply::Rejected => say::text(b"rejected"),
         Reply::Failed { value } => {
@@ -16,10 +28,6 @@ pub(crate) fn replied(word: &[u8], s: &[u8]) {
             say::signed(value);
         }
         Reply::Done => say::text(b"done"),
-        Reply::Listed { at, end } => {
-            say::place(b"listed ", at);
-            say::place(b" ", end);
-        }
-        Reply::Wrong => say::text(b"wrong"),
+        _ => say::text(b"wrong"),
     }
 }

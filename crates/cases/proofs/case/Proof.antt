@@ -52,6 +52,24 @@ written-requires c κs = search needs
 returns-2 : tie.Need-returns-2
 returns-2 c = search needs
 
+slice-aggregate-begins-5 : tie.Need-slice-aggregate-begins-5
+slice-aggregate-begins-5 c = simp length-take (omega arith)
+
+slice-aggregate-begins-6 : tie.Need-slice-aggregate-begins-6
+slice-aggregate-begins-6 c = search needs
+
+begins-requires-3 : tie.Need-begins-requires-3
+begins-requires-3 c κs = search needs
+
+slice-aggregate-case-of : tie.Need-slice-aggregate-case-of
+slice-aggregate-case-of c = simp length-take (omega arith)
+
+case-of-requires : tie.Need-case-of-requires
+case-of-requires c κs = search needs
+
+returns-3 : tie.Need-returns-3
+returns-3 c = search needs
+
 slice-aggregate-reader-of : tie.Need-slice-aggregate-reader-of
 slice-aggregate-reader-of c = simp length-take (omega arith)
 
@@ -85,11 +103,11 @@ slice-aggregate-whole-and-cut c = simp length-take (omega arith)
 whole-and-cut-requires : tie.Need-whole-and-cut-requires
 whole-and-cut-requires c κs = search needs
 
-returns-3 : tie.Need-returns-3
-returns-3 c = search needs
-
 returns-4 : tie.Need-returns-4
 returns-4 c = search needs
+
+returns-5 : tie.Need-returns-5
+returns-5 c = search needs
 
 pub case-spec : {M : Type 1} → statement M
 case-spec =
@@ -111,6 +129,12 @@ case-spec =
     slice-aggregate-written
     written-requires
     returns-2
+    slice-aggregate-begins-5
+    slice-aggregate-begins-6
+    begins-requires-3
+    slice-aggregate-case-of
+    case-of-requires
+    returns-3
     slice-aggregate-reader-of
     reader-of-requires
     enum-told
@@ -122,5 +146,5 @@ case-spec =
     array-share-prefix-octets
     slice-aggregate-whole-and-cut
     whole-and-cut-requires
-    returns-3
-    returns-4)
+    returns-4
+    returns-5)

@@ -1,5 +1,4 @@
 use lib.ListN.{length-take, length-append, length-drop}
-use Prim.Native.Nat.{_-_}
 use native.Mathlib.Omega.{arith}
 use borrow.Author.Needs.{needs}
 use Rattle.cases.proofs.answered.smaller.Statement.{statement}

@@ -1,0 +1,20 @@
+use native.Mathlib.Omega.{arith}
+use Prim.Native.Nat.{_%_}
+use mir.Syntax.{w16}
+use mir.Facts.{toZ-pos}
+use Rattle.octets.proofs.Signs.{minus}
+use borrow.Author.Needs.{needs}
+use Rattle.cases.proofs.line.below_zero.Statement.{statement}
+use Rattle.cases.proofs.line.below_zero.Tie as tie
+
+cast-result : tie.Need-cast-result
+cast-result c = search needs
+
+sub-result : tie.Need-sub-result
+sub-result c = let n = c .args .n % 32768 in rw (toZ-pos w16 {n = n} (omega arith), minus n) (record { sfits = omega arith })
+
+returns : tie.Need-returns
+returns c = search needs
+
+pub below-zero-spec : {M : Type 1} → statement M
+below-zero-spec = tie.close (tie.spec cast-result sub-result returns)
