@@ -1,5 +1,5 @@
 -- Laws of profiles, over plain values: what the loops over one need, and what a good one gives. Assumes nothing.
-use Prim.Native.Nat.{ℕ, suc, min, _+_, _≤_, _<_}
+use Prim.Native.Nat.{ℕ, zero, suc, min, _+_, _≤_, _<_}
 use mathlib.Core.Path.{_≡_, refl}
 use mathlib.Core.Bool.{Bool, true, false, false≢true}
 use mathlib.Core.List.{List, [], _∷_}
@@ -8,10 +8,10 @@ use native.Mathlib.Omega.{arith}
 use lib.ListN.{length, take, drop, getD, length-take, drop-of-length-le}
 use lib.Seq.{drop-cons, getD-take, slice, slice-cons, slice-empty, take-all}
 use lib.Dec.{ltb, eqb}
-use borrow.Author.Tests.{eq-eqb, le-ltb, ltb-false, eqb-true}
+use borrow.Author.Tests.{eq-eqb, le-ltb, ltb-true, ltb-false, eqb-true}
 use Rattle.laws.specs.Pick.{pick}
 use Rattle.laws.specs.Places.{everyTo}
-use Rattle.laws.proofs.Picks.{pick-then, pick-else}
+use Rattle.laws.proofs.Picks.{pick-ind, pick-then, pick-else}
 use Rattle.laws.proofs.Walks.{every-at}
 use Rattle.numbers.specs.Codes.{serviceCode}
 use Rattle.numbers.specs.Number.{most, digitsOf, numberGood, tidyNumber}
@@ -96,7 +96,19 @@ same-tidy a b h =
       digits-same (digitsOf a) (digitsOf b) (r .1),
     )
 
+-- an access takes for the same what is the same
+pub same-plain : (p : Profile) (a b : Number) → same p a b ≡ sameNumber a b
+unfolding same
+same-plain p a b = refl
+
 -- ---- the place of a number
+
+-- a place is no further than there are numbers
+pub place-most : (p : Profile) (n : Number) (ns : List Number) → placeIn p n ns ≤ length ns
+unfolding placeIn
+place-most p n [] = omega arith
+place-most p n (x ∷ xs) =
+    pick-ind (λ k. k ≤ length (x ∷ xs)) (same p x n) (λ _. omega arith) (λ _. omega (arith, place-most p n xs))
 
 module _ (p : Profile) (n : Number) (count : ℕ) (numbers : List Number) where
   -- a search that has come to k
@@ -187,6 +199,18 @@ rising-step below l n k h long = rw (slice-cons k n l 0 h long, add-one)
 pub rising-end : (below : ℕ) (l : List ℕ) (n : ℕ) → rising below (slice n n l) ≡ true
 unfolding rising
 rising-end below l n = rw (slice-empty n l)
+
+-- each service is above `below`
+pub rising-above :
+    (below : ℕ) (cs : List ℕ) (k : ℕ) → rising below cs ≡ true → k < length cs → below < getD cs k 0
+unfolding rising
+rising-above below [] k h lt = absurd (omega arith)
+rising-above below (c ∷ cs) zero h lt =
+    ltb-true below c (pick-then (ltb below c) (pick (serviceCode c) (rising c cs) false) h .0)
+rising-above below (c ∷ cs) (suc k) h lt =
+    let p = pick-then (ltb below c) (pick (serviceCode c) (rising c cs) false) h in
+    let rest = pick-then (serviceCode c) (rising c cs) (p .1) .1 in
+    omega (arith, ltb-true below c (p .0), rising-above c cs k rest (omega arith))
 
 -- ---- what a good profile gives
 

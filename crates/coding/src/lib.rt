@@ -6,10 +6,13 @@ mod request;
 mod sent;
 
 pub use argument::argument_at;
+pub use codes::ACTIVATION;
 pub use codes::ARGUMENTDEPTH;
 pub use codes::COMPONENTDEPTH;
+pub use codes::DEACTIVATION;
 pub use codes::INSIDEDEPTH;
 pub use codes::INTERROGATION;
+pub use codes::PROCEDURES;
 pub use heard::Heard;
 pub use heard::Operation;
 pub use heard::hear;

@@ -6,4 +6,5 @@ pub mod OnlyCoding
 pub mod OnlyLists
 pub mod OnlyNumbers
 pub mod OnlyOctets
+pub mod OnlyRules
 pub mod OnlyStore

@@ -1,0 +1,49 @@
+-- Which numbers and services a request selects (document 01, "Replies": "Served number").
+use Prim.Native.Nat.{ℕ, _<_}
+use mathlib.Core.Path.{_≡_}
+use mathlib.Core.Bool.{Bool, true, false}
+use lib.ListN.{getD}
+use lib.Dec.{ltb, eqb}
+use Rattle.laws.specs.Pick.{pick}
+use Rattle.laws.specs.Places.{eachFrom}
+use Rattle.access.specs.Profile.{servedNumbers, placeIn}
+use Rattle.access.specs.declared.profile.Profile.{Profile}
+use Rattle.coding.specs.declared.request.Served.{Served}
+use Rattle.coding.specs.declared.request.Request.{Request}
+use Rattle.store.specs.Row.{places, numberOfPlace, serviceOfPlace}
+use Rattle.store.specs.declared.row.Places.{Places}
+
+-- "without MSN it's read but ignored": a number of the profile, by its place, is selected by all, or by its own name
+unfoldable pub numberChosen : Profile → Served → ℕ → Bool
+numberChosen p served k =
+    pick (eqb (p .msn) 0) true
+    (pick (eqb (served .all) 1) true (eqb (placeIn p (served .number) (servedNumbers p)) k))
+
+-- `asked` tells which numbers are chosen: all where it is 255, else the one at that place
+abbrev pub Asks : Profile → Served → ℕ → Type 0
+Asks p served asked = (k : ℕ) → k < 255 → numberChosen p served k ≡ pick (eqb asked 255) true (eqb asked k)
+
+-- "code 0: all subscribed"
+unfoldable pub serviceChosen : ℕ → ℕ → Bool
+serviceChosen service code = pick (eqb service 0) true (eqb service code)
+
+-- a place is selected if its number and its service are, and the profile has them
+unfoldable pub selects : Profile → Request → ℕ → Bool
+selects p r j =
+    pick (ltb (numberOfPlace j) (p .numbercount))
+    (pick (ltb (serviceOfPlace j) (p .servicecount))
+    (pick (numberChosen p (r .served) (numberOfPlace j))
+    (serviceChosen (r .service) (getD (p .services) (serviceOfPlace j) 0))
+    false)
+    false)
+    false
+
+-- the places that a request selects, each by the code of its service
+unfoldable pub placesOf : Profile → Request → Places
+placesOf p r = record {
+  codes = eachFrom (λ j. pick (selects p r j) (getD (p .services) (serviceOfPlace j) 0) 0) places 0;
+}
+
+-- what `places_of` promises
+abbrev pub PlacesOf : Profile → Request → Places → Type 0
+PlacesOf p r w = w ≡ placesOf p r

@@ -1,0 +1,10 @@
+// The rules of registration, for the exchange and for the end's picture alike (document 01, "Replies, in the order checked").
+mod judge;
+mod selection;
+mod tests;
+mod verdict;
+
+pub use judge::apply_request;
+pub use judge::judge_request;
+pub use selection::places_of;
+pub use verdict::Verdict;
