@@ -16,7 +16,7 @@ use Rattle.laws.proofs.Walks.{every-at}
 use Rattle.numbers.specs.Codes.{serviceCode}
 use Rattle.numbers.specs.Number.{most, digitsOf, numberGood, tidyNumber}
 use Rattle.numbers.specs.declared.number.Number.{Number}
-use Rattle.access.specs.Profile.{numbersMost, servicesMost, prefixesMost, servedNumbers, offered, sameDigits, sameNumber, same, placeIn, noNumber, numbersGood, noPrefix, prefixGood, rising, servicesGood, subscriptionsGood, usesGood, diversionGood, prefixesGood, profileGood}
+use Rattle.access.specs.Profile.{numbersMost, servicesMost, prefixesMost, servedNumbers, offered, sameDigits, sameNumber, same, placeIn, noNumber, numbersGood, noPrefix, prefixGood, rising, servicesGood, flag, subscriptionsGood, usesGood, diversionGood, prefixesGood, profileGood}
 use Rattle.access.specs.declared.profile.Prefix.{Prefix}
 use Rattle.access.specs.declared.profile.Profile.{Profile}
 
@@ -236,7 +236,25 @@ services-rise p h =
     let b = pick-else (ltb servicesMost n) rises (a .1) in
     (ltb-false n 1 (a .0), ltb-false servicesMost n (b .0), b .1)
 
--- a good profile: its numbers and its services
+-- what holds of cfu, cfb and cfnr holds of every procedure
+three : (P : ℕ → Type 0) → P 0 → P 1 → P 2 → (k : ℕ) → k < 3 → P k
+three P a b c zero h = a
+three P a b c (suc zero) h = b
+three P a b c (suc (suc zero)) h = c
+three P a b c (suc (suc (suc k))) h = absurd (omega arith)
+
+subscriptions-each :
+    (p : Profile) → subscriptionsGood p ≡ true → (k : ℕ) → k < 3 → getD (p .subscribed) k 0 < 2
+unfolding subscriptionsGood
+subscriptions-each p h =
+    let cfu : ℕ = getD (p .subscribed) 0 0 in
+    let cfb : ℕ = getD (p .subscribed) 1 0 in
+    let cfnr : ℕ = getD (p .subscribed) 2 0 in
+    let a = pick-then (flag cfu) (pick (flag cfb) (flag cfnr) false) h in
+    let b = pick-then (flag cfb) (flag cfnr) (a .1) in
+    three (λ k. getD (p .subscribed) k 0 < 2) (ltb-true cfu 2 (a .0)) (ltb-true cfb 2 (b .0)) (ltb-true cfnr 2 (b .1))
+
+-- a good profile: its numbers, its services and its subscriptions
 pub record GoodProfile (p : Profile) : Type 0 where
   pub some : 1 ≤ p .numbercount
   pub few : p .numbercount ≤ numbersMost
@@ -244,15 +262,18 @@ pub record GoodProfile (p : Profile) : Type 0 where
   pub services-some : 1 ≤ p .servicecount
   pub services-few : p .servicecount ≤ servicesMost
   pub rises : rising 0 (offered p) ≡ true
+  pub flags : (k : ℕ) → k < 3 → getD (p .subscribed) k 0 < 2
 
 pub good-profile : (p : Profile) → profileGood p ≡ true → GoodProfile p
 unfolding profileGood
 good-profile p h =
     let diversions : Bool = pick (diversionGood p) (prefixesGood p) false in
-    let rest : Bool = pick (subscriptionsGood p) (pick (usesGood p) diversions false) false in
+    let uses : Bool = pick (usesGood p) diversions false in
+    let rest : Bool = pick (subscriptionsGood p) uses false in
     let q = pick-then (numbersGood p) (pick (servicesGood p) rest false) h in
+    let o = pick-then (servicesGood p) rest (q .1) in
     let n = numbers-each p (q .0) in
-    let s = services-rise p (pick-then (servicesGood p) rest (q .1) .0) in
+    let s = services-rise p (o .0) in
     record {
       some = n .0;
       few = n .1;
@@ -263,4 +284,5 @@ good-profile p h =
       services-some = s .0;
       services-few = s .1;
       rises = s .2;
+      flags = subscriptions-each p (pick-then (subscriptionsGood p) uses (o .1) .0);
     }

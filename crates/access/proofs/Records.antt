@@ -1,22 +1,26 @@
 -- Laws of the access record's reader, over plain values. Assumes nothing.
 use Prim.Native.Nat.{ℕ, _+_, _*_, _-_, _≤_, _<_}
 use mathlib.Core.Path.{_≡_, refl, sym, _∙_}
+use mathlib.Core.Bool.{true, false≢true}
 use mathlib.Core.List.{List, [], _∷_}
 use native.Mathlib.Nat.{add-assoc}
 use native.Mathlib.Omega.{arith}
 use lib.ListN.{length, take, drop, getD, set, replicate, length-set}
+use lib.Dec.{eqb}
 use lib.Seq.{take-length, slice, length-slice}
 use Rattle.laws.specs.Over.{Puts, over}
 use Rattle.laws.specs.Places.{eachFrom}
 use Rattle.laws.proofs.Each.{spelled, each-spelled, each-set, each-done, slice-each}
+use Rattle.laws.proofs.Picks.{pick-ind}
 use Rattle.laws.proofs.Over.{wrote, take-over, length-over}
 use Rattle.laws.proofs.Parts.{part-slice}
 use Rattle.numbers.specs.Number.{most}
 use Rattle.numbers.specs.declared.number.Number.{Number}
-use Rattle.access.specs.Profile.{servicesMost, prefixesMost}
-use Rattle.access.specs.Access.{numbersAt, numberSize, servicesAt, subscribedAt, flagsAt, prefixesAt, prefixSize, accessSize, numberFrom, prefixFrom, prefixesFrom, profileFrom}
+use Rattle.access.specs.Profile.{servicesMost, prefixesMost, profileGood}
+use Rattle.access.specs.Access.{numbersAt, numberSize, servicesAt, subscribedAt, flagsAt, prefixesAt, prefixSize, accessSize, numberFrom, prefixFrom, prefixesFrom, profileFrom, accessRead}
 use Rattle.access.specs.declared.profile.Prefix.{Prefix}
 use Rattle.access.specs.declared.profile.Profile.{Profile}
+use Rattle.access.specs.declared.access.AccessRead.{AccessRead}
 
 -- ---- digits
 
@@ -114,3 +118,14 @@ profile-made s a b c d prefixes long first second third fourth rest =
       fourth,
       rest,
     )
+
+-- ---- what is read
+
+-- a profile that was read breaks no rule
+pub access-good : (s : List ℕ) → accessRead s .ok ≡ true → profileGood (accessRead s .profile) ≡ true
+unfolding accessRead
+access-good s =
+    let P : AccessRead → Type 0 = λ r. r .ok ≡ true → profileGood (r .profile) ≡ true in
+    pick-ind P (eqb (length s) accessSize)
+    (λ _. pick-ind P (profileGood (profileFrom s)) (λ good _. good) (λ _ h. absurd (false≢true h)))
+    (λ _ h. absurd (false≢true h))

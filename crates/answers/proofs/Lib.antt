@@ -3,3 +3,4 @@ pub mod Answers
 pub mod Lists
 pub mod Numbers
 pub mod Rest
+pub mod Fits

@@ -5,3 +5,5 @@ pub mod Arguments
 pub mod Trips
 pub mod Senders
 pub mod Tags
+pub mod Ranges
+pub mod Requests

@@ -6,3 +6,4 @@ pub mod Parts
 pub mod Stands
 pub mod Walks
 pub mod Each
+pub mod Gots

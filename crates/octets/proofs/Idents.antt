@@ -9,25 +9,36 @@ use native.Mathlib.Omega.{arith}
 use lib.IntN.{ℤ}
 use lib.Signed.{mag}
 use lib.ListN.{length}
-use borrow.Author.Tests.{lt-ltb, le-ltb, ne-eqb, ltb-true}
+use lib.Dec.{ltb, eqb}
+use borrow.Author.Tests.{lt-ltb, le-ltb, ne-eqb, ltb-true, ltb-false, eqb-false}
 use Rattle.laws.specs.Fewest.{fewestFrom}
 use Rattle.laws.specs.Stands.{Stands}
+use Rattle.laws.proofs.Picks.{pick-ind}
 use Rattle.laws.proofs.Fewest.{fewest-step, fewest-will, fewest-most, fewest-least}
 use Rattle.octets.specs.Word.{wordAt}
 use Rattle.octets.specs.Head.{headAt}
 use Rattle.octets.specs.Element.{headOctets, element}
-use Rattle.octets.specs.Ident.{identTag, identMost, half, twos, bits, identHolds, identIn, identAt, identFewest, identWith, identOctets}
+use Rattle.octets.specs.Ident.{identTag, identMost, half, twos, bits, identHolds, identIn, identOf, identAt, identFewest, identWith, identOctets}
+use Rattle.octets.specs.declared.head.Head.{Head}
 use Rattle.octets.specs.declared.head.Head.the-variants as head
+use Rattle.octets.specs.declared.ident.Ident.{Ident}
 use Rattle.octets.specs.declared.ident.Ident.the-variants.{Is, Unreadable}
 use Rattle.octets.proofs.Words.{length-word, word-back}
 use Rattle.octets.proofs.Elements.{length-head, length-element, element-small, element-back, element-contents}
-use Rattle.octets.proofs.Signs.{twos-bits, bits-small}
+use Rattle.octets.proofs.Signs.{twos-range, twos-bits, bits-small}
 
 -- half of the numbers of w octets, twice, is all of them
 pub half-twice : (w : ℕ) → (w ≡ 0 → ⊥) → half w + half w ≡ 256 ^ w
 unfolding half
 half-twice zero h = absurd (h refl)
 half-twice (suc w) h = omega arith
+
+-- and there is a half, unless there are no octets
+half-some : (w : ℕ) → (w ≡ 0 → ⊥) → half w ≡ 0 → ⊥
+half-some w some e =
+    let least : 0 ≤ w = omega arith in
+    let p : 256 ^ 0 ≤ 256 ^ w = pow-le-pow-right (omega arith) least in
+    omega (arith, half-twice w some)
 
 pub half-most : (w : ℕ) → w ≤ identMost → half w ≤ 32768
 unfolding half
@@ -162,3 +173,34 @@ pub ident-other :
     identAt depth s at end ≡ Unreadable
 unfolding identAt
 ident-other depth s at end {tag} h other = rw (h, ne-eqb tag identTag other)
+
+-- ---- the range of what is read
+
+-- an identifier that was read has 16 bits
+abbrev pub Ranges : Ident → Type 0
+Ranges (Is z next) = mag z < 32768
+Ranges Unreadable = Unit {0}
+
+-- of w octets
+in-range : (w : ℕ) (s : List ℕ) (start next : ℕ) → Ranges (identIn w s start next)
+unfolding identIn
+in-range w s start next =
+    pick-ind Ranges (eqb w 0) (λ _. tt)
+    (λ some. pick-ind Ranges (ltb identMost w) (λ _. tt)
+    (λ most. let z : ℤ = twos (half w) (wordAt w s start) in
+    pick-ind Ranges (identHolds z (w - 1)) (λ _. tt)
+    (λ _. omega (
+      arith,
+      half-most w (ltb-false identMost w most),
+      twos-range (half w) (wordAt w s start) (half-some w (eqb-false w 0 some)),
+    ))))
+
+head-range : (s : List ℕ) (h : Head) → Ranges (identOf s h)
+head-range s (head.Is tag start stop next) =
+    pick-ind Ranges (eqb tag identTag) (λ _. in-range (stop - start) s start next) (λ _. tt)
+head-range s head.Bad = tt
+
+-- of the element at `at`
+pub ident-range : (depth : ℕ) (s : List ℕ) (at end : ℕ) → Ranges (identAt depth s at end)
+unfolding identAt
+ident-range depth s at end = head-range s (headAt depth s at end)

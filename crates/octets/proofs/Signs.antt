@@ -5,10 +5,12 @@ use mathlib.Core.Bool.{true, false}
 use native.Mathlib.Omega.{arith}
 use lib.IntN.{ℤ, pos, negsuc, _-ℤ_}
 use lib.Signed.{mag, ltZ}
+use lib.Dec.{ltb}
 use mir.Syntax.{w16}
 use mir.Val.{SFits, toZ, ofZ}
 use mir.Facts.{toZ-ofZ}
-use borrow.Author.Tests.{lt-ltb, le-ltb, ltb-true}
+use borrow.Author.Tests.{lt-ltb, le-ltb, ltb-true, ltb-false}
+use Rattle.laws.proofs.Picks.{pick-ind}
 use Rattle.octets.specs.Ident.{twos, bits}
 
 -- what is taken from -1 gives the negative number of that magnitude
@@ -34,6 +36,13 @@ twos-low half u h = rw (lt-ltb u half h)
 pub twos-high : (half u : ℕ) → half ≤ u → twos half u ≡ negsuc (half + half - 1 - u)
 unfolding twos
 twos-high half u h = rw (le-ltb u half h)
+
+-- either way for one whose magnitude is below half, however large the number is
+pub twos-range : (half u : ℕ) → (half ≡ 0 → ⊥) → mag (twos half u) < half
+unfolding twos
+twos-range half u some =
+    pick-ind (λ z. mag z < half) (ltb u half) (λ e. ltb-true u half e)
+    (λ e. omega (arith, some, ltb-false u half e))
 
 -- and back
 pub bits-negative : (half : ℕ) (z : ℤ) → ltZ z (pos 0) ≡ true → bits half z ≡ half + half - 1 - mag z

@@ -3,6 +3,7 @@ pub mod OnlyAccess
 pub mod OnlyAnswers
 pub mod OnlyCard
 pub mod OnlyCoding
+pub mod OnlyExchange
 pub mod OnlyLists
 pub mod OnlyNumbers
 pub mod OnlyOctets

@@ -9,7 +9,8 @@ use lib.Dec.{ltb, eqb}
 use borrow.Author.Tests.{eq-eqb, ne-eqb, eqb-true, eqb-false, le-leb, lt-leb, leb-true, ltb-true}
 use Rattle.laws.specs.Pick.{pick}
 use Rattle.laws.proofs.Picks.{pick-ind, pick-then, pick-else, pick-map, pick-first}
-use Rattle.numbers.specs.Number.{digitsOf}
+use Rattle.numbers.specs.Number.{other, digitsOf}
+use Rattle.numbers.specs.declared.number.Number.{Number}
 use Rattle.access.specs.Profile.{servedNumbers, barred}
 use Rattle.access.specs.declared.profile.Profile.{Profile}
 use Rattle.coding.specs.Request.{activation, deactivation}
@@ -90,6 +91,11 @@ module _ (p : Profile) (procedure : ℕ) where
   unfolding isSubscribed
   subscribed-past h = rw (List·getD-eq-default (p .subscribed) 0 h)
 
+-- a number that is not of another kind, as the test says
+pub kind-known : (n : Number) → otherKind n ≡ false → n .form ≡ other → ⊥
+unfolding otherKind
+kind-known n h e = false≢true (sym h ∙ rw (eq-eqb _ _ e))
+
 module _ (most : ℕ) (p : Profile) (w : Places) (row : Row) where
   pub no-room : most < countWith w row → noRoom most p w row ≡ true
   unfolding noRoom fits
@@ -109,14 +115,6 @@ pub record EveryPasses (p : Profile) (r : Request) : Type 0 where
   pub used : notInUse p ≡ false
   pub subscribed : isSubscribed p (r .procedure) ≡ true
   pub served : servedInvalid p r ≡ false
-
-pub record ActivationPasses (most : ℕ) (p : Profile) (r : Request) (w : Places) (row : Row) : Type 0 where
-  pub provided : notProvided p r ≡ false
-  pub user : userSpecified r ≡ false
-  pub kind : otherKind (r .to .address .number) ≡ false
-  pub prefix : beginsAny (barred p) (digitsOf (r .to .address .number)) ≡ false
-  pub own : selectedSame p r 0 (servedNumbers p) ≡ false
-  pub room : countWith w row ≤ most
 
 module _ (most : ℕ) (p : Profile) (operation : ℕ) (r : Request) (w : Places) (row : Row) where
   both-tests : judge most p operation r w row ≡ orElse (first (everyTests p r)) (first (testsOf most p operation r w row))
@@ -156,7 +154,15 @@ module _ (most : ℕ) (p : Profile) (operation : ℕ) (r : Request) (w : Places)
       (λ _. pick-ind (λ ts. small ts ≡ true) (eqb operation deactivation) (λ _. refl) (λ _. refl))))
 
 module _ (most : ℕ) (p : Profile) (r : Request) (w : Places) (row : Row) where
-  pub judge-activation : judge most p activation r w row ≡ Passes → ActivationPasses most p r w row
+  pub record ActivationPasses : Type 0 where
+    pub provided : notProvided p r ≡ false
+    pub user : userSpecified r ≡ false
+    pub kind : otherKind (r .to .address .number) ≡ false
+    pub prefix : beginsAny (barred p) (digitsOf (r .to .address .number)) ≡ false
+    pub own : selectedSame p r 0 (servedNumbers p) ≡ false
+    pub room : countWith w row ≤ most
+
+  pub judge-activation : judge most p activation r w row ≡ Passes → ActivationPasses
   unfolding judge
   judge-activation h =
       let t = passed (everyTests p r ++ activationTests most p r w row) h .1 .1 .1 in
@@ -202,3 +208,15 @@ module _ (r : Request) (w : Places) (row : Row) where
       applied operation r w row ≡ row
   unfolding applied
   applied-other operation activates deactivates = rw (ne-eqb _ _ activates, ne-eqb _ _ deactivates)
+
+  -- what holds of the row that is put, of the row that is cleared and of the row as it was holds of what the row becomes
+  pub applied-ind :
+      (P : Row → Type 0) (operation : ℕ) →
+      (operation ≡ activation → P (putIn w (r .to .address) row)) →
+      (operation ≡ deactivation → P (clearIn w row)) →
+      P row →
+      P (applied operation r w row)
+  unfolding applied
+  applied-ind P operation puts clears stays =
+      pick-ind P (eqb operation activation) (λ e. puts (eqb-true operation activation e)) (λ _.
+      pick-ind P (eqb operation deactivation) (λ e. clears (eqb-true operation deactivation e)) (λ _. stays))

@@ -1,0 +1,159 @@
+-- What arrives: its refusals, lowest first, and its step, whose reply fits the least output. Assumes nothing.
+use Prim.Native.Nat.{ℕ, _≤_, _<_}
+use mathlib.Core.Path.{_≡_, refl, sym, ap, _∙_}
+use mathlib.Core.Bool.{true, false}
+use mathlib.Core.List.{List, []}
+use native.Mathlib.Nat.{zero-add}
+use native.Mathlib.Omega.{arith}
+use lib.IntN.{ℤ}
+use lib.Signed.{mag}
+use lib.ListN.{length, take}
+use lib.Seq.{take-all, take-append-seam}
+use lib.Dec.{eqb}
+use borrow.Author.Tests.{lt-ltb, le-ltb}
+use Rattle.laws.specs.Over.{over}
+use Rattle.laws.proofs.Over.{over-nil, wrote}
+use Rattle.laws.proofs.Picks.{pick-ind}
+use Rattle.access.specs.Access.{accessRead}
+use Rattle.access.specs.Profile.{profileGood}
+use Rattle.access.specs.declared.profile.Profile.{Profile}
+use Rattle.access.proofs.Profiles.{good-profile}
+use Rattle.coding.specs.Request.{interrogation}
+use Rattle.coding.specs.declared.request.Request.{Request}
+use Rattle.lists.specs.Entries.{limit, listed, entriesOf, allGood}
+use Rattle.lists.specs.declared.entry.Entry.{Entry}
+use Rattle.lists.proofs.Goods.{all-none}
+use Rattle.store.specs.Grid.{rowAt}
+use Rattle.store.proofs.Rows.{good-few, entries-few, entries-good}
+use Rattle.store.proofs.Grids.{grid-row}
+use Rattle.rules.specs.Selection.{placesOf}
+use Rattle.rules.specs.Judge.{judge}
+use Rattle.rules.specs.declared.verdict.Verdict.{Verdict}
+use Rattle.rules.specs.declared.verdict.Verdict.the-variants.{Passes, Fails}
+use Rattle.rules.proofs.Judges.{judge-errors}
+use Rattle.answers.specs.Answer.{answerOctets, PutAnswer}
+use Rattle.answers.proofs.Fits.{Fits, answer-most}
+use Rattle.exchange.specs.Table.{tableGood}
+use Rattle.exchange.specs.Question.{question}
+use Rattle.exchange.specs.Step.{Step, resultOf, verdictOf, handled, stepOf, step, Stepping}
+use Rattle.exchange.specs.Arrive.{outputLeast, componentMost, Done, refused, answered, done, refusedBy, Arrives}
+use Rattle.exchange.specs.declared.table.Table.{Table}
+use Rattle.exchange.specs.declared.step.Stepped.{Stepped}
+use Rattle.exchange.specs.declared.arrive.Refusal.{Refusal}
+use Rattle.exchange.specs.declared.arrive.Refusal.the-variants.{ShortOutput, LongComponent, BadProfile, BadTable}
+use Rattle.exchange.specs.declared.arrive.Outcome.the-variants.{Answers}
+use Rattle.exchange.specs.declared.arrive.Arrived.{Arrived}
+use Rattle.exchange.proofs.Questions.{question-asks, question-range}
+use Rattle.exchange.proofs.Tables.{table-good}
+use Rattle.exchange.proofs.Fitting.{question-fits}
+
+-- ---- the refusals, lowest first
+
+module _ (access : List ℕ) (t : Table) (s : List ℕ) (size : ℕ) where
+  pub done-short : size < outputLeast → done access t s size ≡ refused t ShortOutput
+  unfolding done
+  done-short short = rw (lt-ltb size outputLeast short)
+
+  module _ (room : outputLeast ≤ size) where
+    pub done-long : componentMost < length s → done access t s size ≡ refused t LongComponent
+    unfolding done
+    done-long long = rw (le-ltb size outputLeast room, lt-ltb componentMost (length s) long)
+
+    module _ (fair : length s ≤ componentMost) where
+      pub done-profile : accessRead access .ok ≡ false → done access t s size ≡ refused t BadProfile
+      unfolding done
+      done-profile bad = rw (le-ltb size outputLeast room, le-ltb componentMost (length s) fair, bad)
+
+      module _ (ok : accessRead access .ok ≡ true) where
+        pub done-table :
+            tableGood limit (accessRead access .profile) t ≡ false → done access t s size ≡ refused t BadTable
+        unfolding done
+        done-table bad = rw (le-ltb size outputLeast room, le-ltb componentMost (length s) fair, ok, bad)
+
+        pub done-answers :
+            tableGood limit (accessRead access .profile) t ≡ true →
+            done access t s size ≡ answered (step (accessRead access .profile) t s)
+        unfolding done
+        done-answers good = rw (le-ltb size outputLeast room, le-ltb componentMost (length s) fair, ok, good)
+
+-- what is refused is handed back, and nothing is written
+pub refused-arrives :
+    (access : List ℕ) (t : Table) (s xs : List ℕ) (refusal : Refusal) (r : Arrived) →
+    done access t s (length xs) ≡ refused t refusal → r ≡ refusedBy t refusal →
+    Arrives access t s xs r xs
+refused-arrives access t s xs refusal r is e = record {
+  table = rw (is, e);
+  outcome = rw (is, e);
+  count = rw (is, e);
+  lent = rw is (sym (over-nil xs 0));
+}
+
+-- ---- the reply fits
+
+-- a step whose answer fits, with good entries, at most 8
+pub record StepFits (x : Step) : Type 0 where
+  pub answer : Fits (x .answer)
+  pub good : allGood (x .entries) ≡ true
+  pub few : length (x .entries) ≤ limit
+
+module _ (p : Profile) (t : Table) (profile : profileGood p ≡ true) (table : tableGood limit p t ≡ true) where
+  module _ (identifier : ℤ) (operation : ℕ) (r : Request) (range : mag identifier < 32768) (code : r .procedure < 3) where
+    result-fits : StepFits (resultOf p t identifier operation r)
+    unfolding resultOf
+    result-fits =
+        let row = rowAt (t .grid) (r .procedure) in
+        let good = grid-row limit p (t .grid) (r .procedure) code (table-good limit p t table .1) in
+        pick-ind StepFits (eqb operation interrogation)
+        (λ _. record {
+          answer = range;
+          good = entries-good limit p (r .procedure) (placesOf p r) row good (good-profile p profile .numbers);
+          few =
+              omega
+              (arith, entries-few p (r .procedure) (placesOf p r) row, good-few limit p (r .procedure) row good);
+        })
+        (λ _. record { answer = range; good = all-none; few = omega arith })
+
+    verdict-fits :
+        (v : Verdict) → judge limit p operation r (placesOf p r) (rowAt (t .grid) (r .procedure)) ≡ v →
+        StepFits (verdictOf p t identifier operation r v)
+    verdict-fits Passes h = result-fits
+    verdict-fits (Fails e) h = record {
+      answer = (range, judge-errors limit p operation r (placesOf p r) (rowAt (t .grid) (r .procedure)) e h);
+      good = all-none;
+      few = omega arith;
+    }
+
+    handled-fits : StepFits (handled p t identifier operation r)
+    unfolding handled
+    handled-fits = verdict-fits (judge limit p operation r (placesOf p r) (rowAt (t .grid) (r .procedure))) refl
+
+  pub step-fits : (s : List ℕ) → StepFits (step p t s)
+  unfolding step stepOf
+  step-fits s =
+      pick-ind StepFits (question p (t .last) s .asked)
+      (λ asks.
+      handled-fits (question p (t .last) s .identifier) (question p (t .last) s .operation) (question p (t .last) s .request)
+      (question-range p (t .last) s) (question-asks p (t .last) s asks .procedure))
+      (λ _. record { answer = question-fits p (t .last) s; good = all-none; few = omega arith })
+
+-- the entries of a record of at most 8 are those it was made of
+listed-all : (es : List Entry) → length es ≤ limit → listed (entriesOf (take limit es)) ≡ es
+listed-all es few = rw (take-all limit es few) (take-append-seam es _)
+
+-- what is answered is written whole
+pub answered-arrives :
+    (access : List ℕ) (t : Table) (s xs : List ℕ) (x : Step) (d : Stepped) (n : ℕ) (ys : List ℕ) →
+    done access t s (length xs) ≡ answered x → StepFits x → Stepping x d → outputLeast ≤ length xs →
+    PutAnswer xs (d .answer) (d .list) n ys →
+    Arrives access t s xs (record { table = d .table; outcome = Answers (d .answer); count = n }) ys
+answered-arrives access t s xs x d n ys is fits so room put =
+    let octets = answer-most (x .answer) (x .entries) (fits .answer) (fits .good) (fits .few) in
+    let same : answerOctets (d .answer) (listed (d .list)) ≡ answerOctets (x .answer) (x .entries) =
+    rw (so .answer, so .list, listed-all (x .entries) (fits .few)) in
+    let w = wrote (rw (same, zero-add) (omega arith)) put in
+    record {
+      table = rw is (so .table);
+      outcome = rw is (ap Answers (so .answer));
+      count = rw is (w .moved ∙ zero-add _ ∙ ap length same);
+      lent = rw is (w .holds ∙ ap (over xs 0) same);
+    }

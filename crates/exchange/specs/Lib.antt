@@ -1,0 +1,4 @@
+pub mod Table
+pub mod Question
+pub mod Step
+pub mod Arrive

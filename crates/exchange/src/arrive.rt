@@ -1,0 +1,76 @@
+// Each arriving component turns a table into the next table and a reply (document 01, "Replies", "Local refusals").
+use crate::step::step_of;
+use crate::table::Table;
+use access::read_access;
+use answers::Answer;
+use answers::put_answer;
+ghost use mathlib.Core.Path.{_≡_};
+ghost use Rattle.exchange.specs.declared.arrive.Outcome.the-variants.{Refuses};
+ghost use Rattle.exchange.specs.Arrive.{refusedBy, Arrives};
+
+// The least output, and the longest component.
+const OUTPUTLEAST: usize = 707;
+
+const COMPONENTMOST: usize = 1024;
+
+// Why a component is not looked at.
+pub enum Refusal {
+    ShortOutput,
+    LongComponent,
+    BadProfile,
+    BadTable,
+}
+
+pub enum Outcome {
+    Refuses { refusal: Refusal },
+    Answers { answer: Answer },
+}
+
+// The next table, the answer or the refusal, and how many octets the reply has.
+pub struct Arrived {
+    pub table: Table,
+    pub outcome: Outcome,
+    pub count: usize,
+}
+
+fn refuses(table: Table, refusal: Refusal) -> Arrived
+    ensures { λ r. ⌜ r ≡ refusedBy table refusal ⌝ }
+{
+    Arrived {
+        table,
+        outcome: Outcome::Refuses { refusal },
+        count: 0,
+    }
+}
+
+impl Table {
+    // The next table and the reply to a component, which is written at the start of the output.
+    pub fn arrive(self, access: &[u8], component: &[u8], out: &mut [u8]) -> Arrived
+        ensures { λ r. ⌜ Arrives (now (access .entry)) self (now (component .entry)) (now (out .entry)) r (now (out .exit)) ⌝ }
+    {
+        if out.len() < OUTPUTLEAST {
+            return refuses(self, Refusal::ShortOutput);
+        }
+        if COMPONENTMOST < component.len() {
+            return refuses(self, Refusal::LongComponent);
+        }
+        let read = read_access(access);
+        if !read.ok {
+            return refuses(self, Refusal::BadProfile);
+        }
+        let p = read.profile;
+        if !self.good(p) {
+            return refuses(self, Refusal::BadTable);
+        }
+        let done = step_of(p, self, component);
+        let answer = done.answer;
+        let list = done.list;
+        let table = done.table;
+        let count = put_answer(out, answer, list);
+        Arrived {
+            table,
+            outcome: Outcome::Answers { answer },
+            count,
+        }
+    }
+}

@@ -1,0 +1,11 @@
+// The exchange: a table, and what it does with each arriving component (document 01, "Replies", "Local refusals").
+mod arrive;
+mod question;
+mod step;
+mod table;
+
+pub use arrive::Arrived;
+pub use arrive::Outcome;
+pub use arrive::Refusal;
+pub use table::Table;
+pub use table::fresh_table;

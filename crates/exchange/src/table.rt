@@ -1,0 +1,36 @@
+// A table: the instances and the last handled identifier.
+use access::Profile;
+use store::Grid;
+use store::fresh_grid;
+ghost use mathlib.Core.Path.{_≡_};
+ghost use Rattle.lists.specs.Entries.{limit};
+ghost use Rattle.exchange.specs.Table.{tableGood, FreshTable};
+
+const LASTMOST: u16 = 32767;
+
+#[repr(C)]
+pub struct Table {
+    pub last: u16,
+    pub grid: Grid,
+}
+
+// The table of a new access.
+pub fn fresh_table() -> Table
+    ensures { λ r. ⌜ FreshTable r ⌝ }
+{
+    let grid = fresh_grid();
+    Table { last: 0, grid }
+}
+
+impl Table {
+    // Whether a table breaks no rule of the profile.
+    pub(crate) fn good(self, p: Profile) -> bool
+        ensures { λ r. ⌜ r ≡ tableGood limit p self ⌝ }
+    {
+        if LASTMOST < self.last {
+            return false;
+        }
+        let grid = self.grid;
+        grid.good(p)
+    }
+}

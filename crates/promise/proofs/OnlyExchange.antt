@@ -1,0 +1,32 @@
+-- Each promise of the crate exchange admits one answer, and one lent output afterwards. Assumes nothing.
+use Prim.Native.Nat.{ℕ}
+use mathlib.Core.Path.{_≡_, ap, _∙_}
+use mathlib.Core.List.{List}
+use Rattle.laws.proofs.Picks.{both}
+use Rattle.exchange.specs.Table.{FreshTable}
+use Rattle.exchange.specs.Arrive.{Arrives}
+use Rattle.exchange.specs.declared.table.Table.{Table}
+use Rattle.exchange.specs.declared.arrive.Outcome.{Outcome}
+use Rattle.exchange.specs.declared.arrive.Arrived.{Arrived}
+
+pub only-fresh-table : {a b : Table} → FreshTable a → FreshTable b → a ≡ b
+only-fresh-table = both
+
+abbrev arrivedOf : Table → Outcome → ℕ → Arrived
+arrivedOf table outcome count = record { table = table; outcome = outcome; count = count }
+
+-- an answer is its parts
+arrived-same : (r q : Arrived) → r .table ≡ q .table → r .outcome ≡ q .outcome → r .count ≡ q .count → r ≡ q
+arrived-same r q table outcome count =
+    ap (λ (t : Table). arrivedOf t (r .outcome) (r .count)) table
+    ∙ ap (λ (o : Outcome). arrivedOf (q .table) o (r .count)) outcome
+    ∙ ap (λ (n : ℕ). arrivedOf (q .table) (q .outcome) n) count
+
+pub only-arrive :
+    (access : List ℕ) (t : Table) (s xs : List ℕ) {r q : Arrived} {ys zs : List ℕ} → Arrives access t s xs r ys →
+    Arrives access t s xs q zs →
+    (r ≡ q) × (ys ≡ zs)
+only-arrive access t s xs {r} {q} a b = (
+  arrived-same r q (both (a .table) (b .table)) (both (a .outcome) (b .outcome)) (both (a .count) (b .count)),
+  both (a .lent) (b .lent),
+)
