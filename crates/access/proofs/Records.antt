@@ -8,6 +8,7 @@ use native.Mathlib.Omega.{arith}
 use lib.ListN.{length, take, drop, getD, set, replicate, length-set}
 use lib.Dec.{eqb}
 use lib.Seq.{take-length, slice, length-slice}
+use borrow.Author.Tests.{eqb-true}
 use Rattle.laws.specs.Over.{Puts, over}
 use Rattle.laws.specs.Places.{eachFrom}
 use Rattle.laws.proofs.Each.{spelled, each-spelled, each-set, each-done, slice-each}
@@ -129,3 +130,16 @@ access-good s =
     pick-ind P (eqb (length s) accessSize)
     (λ _. pick-ind P (profileGood (profileFrom s)) (λ good _. good) (λ _ h. absurd (false≢true h)))
     (λ _ h. absurd (false≢true h))
+
+-- its array of services has all its places
+pub access-services : (s : List ℕ) → length (accessRead s .profile .services) ≡ servicesMost
+unfolding accessRead profileFrom
+access-services s =
+    let P : AccessRead → Type 0 = λ r. length (r .profile .services) ≡ servicesMost in
+    pick-ind P (eqb (length s) accessSize)
+    (λ e.
+    let long : length s ≡ accessSize = eqb-true (length s) accessSize e in
+    pick-ind P (profileGood (profileFrom s))
+    (λ _. omega (arith, length-slice servicesAt (servicesAt + servicesMost) s (omega arith)))
+    (λ _. refl))
+    (λ _. refl)

@@ -15,7 +15,7 @@ use borrow.Author.Tests.{ltb-true, leb-false, eq-eqb, ne-eqb, eqb-true}
 use Rattle.laws.specs.Got.{Got, got, wrong}
 use Rattle.laws.proofs.Picks.{pick-ind}
 use Rattle.numbers.specs.Codes.{serviceCode}
-use Rattle.numbers.proofs.Tables.{procedure-code}
+use Rattle.numbers.proofs.Goods.{ToUnless}
 use Rattle.access.specs.declared.profile.Profile.{Profile}
 use Rattle.coding.specs.Heard.{heard}
 use Rattle.coding.specs.Request.{activation, deactivation, interrogation, requestRead, argumentAt}
@@ -24,7 +24,8 @@ use Rattle.coding.specs.declared.heard.Heard.the-variants as heard
 use Rattle.coding.specs.declared.heard.Operation.{Operation}
 use Rattle.coding.specs.declared.request.Request.{Request}
 use Rattle.coding.specs.declared.request.RequestRead.{RequestRead}
-use Rattle.coding.proofs.Ranges.{HeardRanges, heard-range, argument-code, argument-service}
+use Rattle.coding.proofs.Ranges.{HeardRanges, heard-range}
+use Rattle.coding.proofs.Requests.{argument-read}
 use Rattle.answers.specs.declared.answer.Answer.{Answer}
 use Rattle.answers.specs.declared.answer.Answer.the-variants as answer
 use Rattle.answers.specs.declared.answer.Problem.{Problem}
@@ -162,11 +163,13 @@ duplicate-false : (p : Profile) (last : ℕ) (z : ℤ) → duplicate p last z �
 unfolding duplicate
 duplicate-false p last z e counted = not-above-false z last (rw (eq-eqb (p .counted) 1 counted) at e)
 
--- a request that must be judged: its codes are those of the tables, its operation is known, and for a counted end it is new
+-- a request that must be judged: its codes are those of the tables, its operation is known, an activation's address is one that a
+-- table holds unless its number is of another kind, and for a counted end the identifier is new
 pub record Asked (p : Profile) (last : ℕ) (q : Question) : Type 0 where
   pub procedure : q .request .procedure < 3
   pub service : serviceCode (q .request .service) ≡ true
   pub operation : Known (q .operation)
+  pub to : q .operation ≡ activation → ToUnless (q .request .to)
   pub above : p .counted ≡ 1 → Above last (q .identifier)
 
 argued-asks :
@@ -174,12 +177,16 @@ argued-asks :
     duplicate p last identifier ≡ false → known (operation .value) ≡ true →
     (g : Got Request) → argumentAt operation s at end ≡ g → argued identifier operation g .asked ≡ true →
     Asked p last (argued identifier operation g)
-argued-asks p last identifier operation s at end new is-known (got r next) read e = record {
-  procedure = ltb-true (r .procedure) 3 (sym (procedure-code (r .procedure)) ∙ argument-code operation s at end read);
-  service = argument-service operation s at end read;
-  operation = known-code (operation .value) is-known .1;
-  above = duplicate-false p last identifier new;
-}
+argued-asks p last identifier operation s at end new is-known (got r next) read e =
+    let known = known-code (operation .value) is-known in
+    let is = argument-read operation s at end r next read in
+    record {
+      procedure = is .procedure;
+      service = is .service;
+      operation = known .1;
+      to = λ activates. is .to (known .0 ∙ ap pos activates);
+      above = duplicate-false p last identifier new;
+    }
 argued-asks p last identifier operation s at end new is-known wrong read e = absurd (false≢true e)
 
 asks-of :
