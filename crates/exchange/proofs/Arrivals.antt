@@ -32,11 +32,12 @@ use Rattle.rules.specs.declared.verdict.Verdict.{Verdict}
 use Rattle.rules.specs.declared.verdict.Verdict.the-variants.{Passes, Fails}
 use Rattle.rules.proofs.Judges.{judge-errors}
 use Rattle.answers.specs.Answer.{answerOctets, PutAnswer}
+use Rattle.answers.specs.declared.answer.Answer.{Answer}
 use Rattle.answers.proofs.Fits.{Fits, answer-most}
 use Rattle.exchange.specs.Table.{tableGood}
 use Rattle.exchange.specs.Question.{question}
 use Rattle.exchange.specs.Step.{Step, resultOf, verdictOf, handled, stepOf, step, Stepping}
-use Rattle.exchange.specs.Arrive.{outputLeast, componentMost, Done, refused, answered, done, refusedBy, Arrives}
+use Rattle.exchange.specs.Arrive.{toldBy, outputLeast, componentMost, Done, refused, answered, done, refusedBy, Arrives}
 use Rattle.exchange.specs.declared.table.Table.{Table}
 use Rattle.exchange.specs.declared.step.Stepped.{Stepped}
 use Rattle.exchange.specs.declared.arrive.Refusal.{Refusal}
@@ -83,7 +84,7 @@ pub refused-arrives :
     Arrives access t s xs r xs
 refused-arrives access t s xs refusal r is e = record {
   table = rw (is, e);
-  outcome = rw (is, e);
+  told = rw (is, e);
   count = rw (is, e);
   lent = rw is (sym (over-nil xs 0));
 }
@@ -153,7 +154,7 @@ answered-arrives access t s xs x d n ys is fits so room put =
     let w = wrote (rw (same, zero-add) (omega arith)) put in
     record {
       table = rw is (so .table);
-      outcome = rw is (ap Answers (so .answer));
+      told = rw is (ap (λ (a : Answer). toldBy (Answers a)) (so .answer));
       count = rw is (w .moved ∙ zero-add _ ∙ ap length same);
       lent = rw is (w .holds ∙ ap (over xs 0) same);
     }

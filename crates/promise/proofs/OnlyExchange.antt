@@ -8,6 +8,7 @@ use Rattle.exchange.specs.Arrive.{Arrives}
 use Rattle.exchange.specs.declared.table.Table.{Table}
 use Rattle.exchange.specs.declared.arrive.Outcome.{Outcome}
 use Rattle.exchange.specs.declared.arrive.Arrived.{Arrived}
+use Rattle.exchange.proofs.Outcomes.{told-same}
 
 pub only-fresh-table : {a b : Table} → FreshTable a → FreshTable b → a ≡ b
 only-fresh-table = both
@@ -27,6 +28,6 @@ pub only-arrive :
     Arrives access t s xs q zs →
     (r ≡ q) × (ys ≡ zs)
 only-arrive access t s xs {r} {q} a b = (
-  arrived-same r q (both (a .table) (b .table)) (both (a .outcome) (b .outcome)) (both (a .count) (b .count)),
+  arrived-same r q (both (a .table) (b .table)) (told-same (r .outcome) (q .outcome) (both (a .told) (b .told))) (both (a .count) (b .count)),
   both (a .lent) (b .lent),
 )
