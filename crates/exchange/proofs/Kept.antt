@@ -7,8 +7,7 @@ use mathlib.Core.List.{List}
 use native.Mathlib.Omega.{arith}
 use lib.IntN.{ℤ}
 use lib.Signed.{mag}
-use lib.ListN.{length, getD, set}
-use lib.Seq.{getD-set-same, getD-set-other}
+use lib.ListN.{length, getD}
 use lib.Dec.{leb, eqb}
 use borrow.Author.Tests.{le-leb, leb-true, eqb-true, eqb-false}
 use Rattle.laws.specs.Pick.{pick}
@@ -36,21 +35,9 @@ use Rattle.rules.proofs.Judges.{subscribed-flag, kind-known, judge-subscribed, 
 use Rattle.exchange.specs.Table.{lastMost, tableGood, withRow, withLast}
 use Rattle.exchange.specs.Step.{Step, moved, resultOf, verdictOf, handled}
 use Rattle.exchange.specs.declared.table.Table.{Table}
-
--- a table as the machine owns it: a row for each procedure, a cell for each place
-pub record Shaped (t : Table) : Type 0 where
-  pub rows : length (t .grid .rows) ≡ procedures
-  pub cells : (k : ℕ) → k < procedures → length (rowAt (t .grid) k .cells) ≡ places
+use Rattle.exchange.proofs.Shapes.{Shaped, row-set}
 
 -- ---- tables that break no rule, over any limit of instances
-
-row-set :
-    (rows : List Row) (i k : ℕ) (row none : Row) → i < length rows →
-    getD (set rows i row) k none ≡ pick (eqb k i) row (getD rows k none)
-row-set rows i k row none h =
-    pick-ind (λ x. getD (set rows i row) k none ≡ x) (eqb k i)
-    (λ e. rw (eqb-true k i e) (getD-set-same rows i row none h))
-    (λ e. getD-set-other rows i k row none (eqb-false k i e))
 
 module _ (most : ℕ) (p : Profile) where
   pub good-last : (t : Table) → tableGood most p t ≡ true → t .last ≤ lastMost
@@ -132,24 +119,24 @@ module _ (most : ℕ) (p : Profile) (operation : ℕ) (r : Request) (row : Row) 
 -- ---- what is handled
 
 module _ (p : Profile) (t : Table) (identifier : ℤ) where
-  moved-last : (u : Table) → moved p identifier u .last ≡ pick (eqb (p .counted) 1) (mag identifier) (u .last)
+  pub moved-last : (u : Table) → moved p identifier u .last ≡ pick (eqb (p .counted) 1) (mag identifier) (u .last)
   unfolding moved
   moved-last u = pick-map (λ (x : Table). x .last) (eqb (p .counted) 1) (withLast (mag identifier) u) u
 
-  moved-grid : (u : Table) → moved p identifier u .grid ≡ u .grid
+  pub moved-grid : (u : Table) → moved p identifier u .grid ≡ u .grid
   unfolding moved
   moved-grid u = pick-ind (λ (x : Table). x .grid ≡ u .grid) (eqb (p .counted) 1) (λ _. refl) (λ _. refl)
 
   module _ (operation : ℕ) (r : Request) where
-    abbrev row : Row
+    abbrev pub row : Row
     row = rowAt (t .grid) (r .procedure)
 
     -- the table with the registrations changed
-    abbrev changed : Table
+    abbrev pub changed : Table
     changed = withRow (r .procedure) (applied operation r (placesOf p r) row) t
 
     -- the next table has other registrations only where the request passes
-    verdict-next :
+    pub verdict-next :
         (P : Table → Type 0) (v : Verdict) → P (moved p identifier t) →
         (v ≡ Passes → P (moved p identifier changed)) →
         P (verdictOf p t identifier operation r v .next)

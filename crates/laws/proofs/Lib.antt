@@ -7,3 +7,4 @@ pub mod Stands
 pub mod Walks
 pub mod Each
 pub mod Gots
+pub mod Chosen

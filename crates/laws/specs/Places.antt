@@ -28,3 +28,7 @@ changedFrom f from (x ∷ xs) = f from x ∷ changedFrom f (suc from) xs
 unfoldable pub gathered : {A : Type 0} → (ℕ → List A) → ℕ → List A
 gathered f zero = []
 gathered f (suc n) = gathered f n ++ f n
+
+-- the places below n that pass the test, ascending
+abbrev pub placesWhere : (ℕ → Bool) → ℕ → List ℕ
+placesWhere f = gathered (λ j. pick (f j) (j ∷ []) [])

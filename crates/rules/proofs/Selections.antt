@@ -1,6 +1,6 @@
 -- Laws of the places that a request selects, over plain values: what their loop needs, and what they give. Assumes nothing.
 use Prim.Native.Nat.{ℕ, _+_, _/_, _%_, _≤_, _<_}
-use mathlib.Core.Path.{_≡_, refl, ap, _∙_}
+use mathlib.Core.Path.{_≡_, refl, sym, ap, _∙_}
 use mathlib.Core.Bool.{Bool, true, false}
 use mathlib.Core.List.{List}
 use native.Mathlib.Nat.{zero-add}
@@ -12,14 +12,15 @@ use borrow.Author.Tests.{eq-eqb, ne-eqb, ltb-true}
 use Rattle.laws.specs.Pick.{pick}
 use Rattle.laws.specs.Places.{eachFrom}
 use Rattle.laws.proofs.Each.{each-spelled, getD-each, each-all, each-set, each-done}
-use Rattle.laws.proofs.Picks.{pick-then, pick-first}
+use Rattle.laws.proofs.Picks.{pick-ind, pick-then, pick-first}
 use Rattle.access.specs.Profile.{numbersMost, servicesMost, servedNumbers, offered, placeIn, rising}
 use Rattle.access.specs.declared.profile.Profile.{Profile}
 use Rattle.access.proofs.Profiles.{place-most, rising-above}
 use Rattle.coding.specs.declared.request.Served.{Served}
 use Rattle.coding.specs.declared.request.Request.{Request}
-use Rattle.store.specs.Row.{places, numberOfPlace, serviceOfPlace}
+use Rattle.store.specs.Row.{places, numberOfPlace, serviceOfPlace, selected}
 use Rattle.store.specs.declared.row.Places.{Places}
+use Rattle.store.proofs.Turns.{is-selected, not-selected}
 use Rattle.rules.specs.Selection.{numberChosen, Asks, serviceChosen, selects, placesOf}
 
 -- ---- the number that is asked for
@@ -166,3 +167,12 @@ module _ (p : Profile) (r : Request) where
   pub places-only : (j : ℕ) → j < places → (getD (placesOf p r .codes) j 0 ≡ 0 → ⊥) → selects p r j ≡ true
   places-only j h some =
       pick-first (selects p r j) (getD (p .services) (j % servicesMost) 0) 0 (λ none. some (code-places j h ∙ none))
+
+  -- so a place is marked exactly if it is selected
+  pub selected-selects :
+      rising 0 (offered p) ≡ true → length (p .services) ≡ servicesMost →
+      (j : ℕ) → j < places → selected (placesOf p r) j ≡ selects p r j
+  selected-selects rises long j h =
+      pick-ind (λ (_ : Bool). selected (placesOf p r) j ≡ selects p r j) (selects p r j) {x = true} {y = true}
+      (λ chosen. is-selected (placesOf p r) j (places-good rises long j h chosen .some) ∙ sym chosen)
+      (λ left. not-selected (placesOf p r) j (rw left at (code-places j h)) ∙ sym left)
