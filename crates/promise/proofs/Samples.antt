@@ -18,9 +18,22 @@ use Rattle.answers.specs.Reply.{sameIdent, failedAt, setAt, sequenceAt, listAt,
 use Rattle.coding.specs.Heard.{replyTag, operationAt, identifierAt, heard}
 use Rattle.coding.specs.Request.{codeAt, serviceAt, servedAt, privates, lastIn, activationIn, interrogationIn, contentsIn, argumentAt}
 use Rattle.coding.specs.Sent.{servedOctets, toOctets, requestOctets}
+use Rattle.laws.specs.Places.{everyTo, countTo, eachFrom, changedFrom, gathered}
+use Rattle.numbers.specs.Number.{numberGood}
+use Rattle.numbers.specs.Address.{addressGood}
+use Rattle.access.specs.Access.{numberFrom, prefixFrom, prefixesFrom, profileFrom, accessRead}
+use Rattle.access.specs.Profile.{sameDigits, sameNumber, same, placeIn, numbersGood, rising, servicesGood, prefixGood, prefixesGood, subscriptionsGood, usesGood, diversionGood, profileGood}
+use Rattle.store.specs.Row.{active, selected, countWith, activeOf, putIn, clearIn, entryOfPlace, entriesIn, cellGood, rowGood}
+use Rattle.store.specs.Grid.{gridGood}
+use Rattle.rules.specs.Judge.{isSubscribed, servedInvalid, notProvided, otherKind, begins, beginsAny, selectedSame, fits, noRoom, judge, applied}
+use Rattle.rules.specs.Selection.{numberChosen, serviceChosen, selects, placesOf}
+use Rattle.exchange.specs.Table.{tableGood}
+use Rattle.exchange.specs.Question.{notAbove, duplicate, known, invoked, question}
+use Rattle.exchange.specs.Step.{moved, resultOf, handled, stepOf, step}
+use Rattle.exchange.specs.Arrive.{done}
 use Rattle.promise.specs.Samples.{Each, samples}
 
 pub each-sample : Each samples
-unfolding fewestFrom wordAt wordOctets spanOf lengthBy lengthAt headAt lengthHolds lengthWith lengthFewest enumeratedAt half twos bits identHolds identIn identAt identFewest fills groupsIn groupsAt groupsWith groups placeOf serviceCode procedureCode allDigits fair digitsGood digitsIn numberAt numberOctets subAt addressAt subOctets addressOctets replyTag operationAt identifierAt heard codeAt serviceAt servedAt privates lastIn activationIn interrogationIn contentsIn argumentAt servedOctets toOctets requestOctets answerOctets entriesOctets entriesFrom listOctets sameIdent failedAt setAt sequenceAt listAt resultAt afterOwn ownAt reply
+unfolding fewestFrom wordAt wordOctets spanOf lengthBy lengthAt headAt lengthHolds lengthWith lengthFewest enumeratedAt half twos bits identHolds identIn identAt identFewest fills groupsIn groupsAt groupsWith groups placeOf serviceCode procedureCode allDigits fair digitsGood digitsIn numberAt numberOctets subAt addressAt subOctets addressOctets replyTag operationAt identifierAt heard codeAt serviceAt servedAt privates lastIn activationIn interrogationIn contentsIn argumentAt servedOctets toOctets requestOctets answerOctets entriesOctets entriesFrom listOctets sameIdent failedAt setAt sequenceAt listAt resultAt afterOwn ownAt reply everyTo countTo eachFrom changedFrom gathered numberGood addressGood numberFrom prefixFrom prefixesFrom profileFrom accessRead sameDigits sameNumber same placeIn numbersGood rising servicesGood prefixGood prefixesGood subscriptionsGood usesGood diversionGood profileGood active selected countWith activeOf putIn clearIn entryOfPlace entriesIn cellGood rowGood gridGood isSubscribed servedInvalid notProvided otherKind begins beginsAny selectedSame fits noRoom judge applied numberChosen serviceChosen selects placesOf tableGood notAbove duplicate known invoked question moved resultOf handled stepOf step done
 each-sample =
-    (refl, (refl, (refl, (refl, (refl, (refl, (refl, (refl, (refl, (refl, (refl, (refl, (refl, (refl, (refl, (refl, (refl, (refl, (refl, (refl, (refl, (refl, (refl, (refl, (refl, (refl, tt))))))))))))))))))))))))))
+    (refl, (refl, (refl, (refl, (refl, (refl, (refl, (refl, (refl, (refl, (refl, (refl, (refl, (refl, (refl, (refl, (refl, (refl, (refl, (refl, (refl, (refl, (refl, (refl, (refl, (refl, ((refl, refl), ((refl, refl), ((refl, refl), ((refl, refl), ((refl, refl), tt)))))))))))))))))))))))))))))))

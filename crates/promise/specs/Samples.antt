@@ -1,9 +1,9 @@
 -- The samples of document 01 that are marked P, as one table. `Each samples` is the one statement about them.
 use Prim.Native.Nat.{ℕ}
 use mathlib.Core.Path.{_≡_}
-use mathlib.Core.List.{List, [], _∷_}
+use mathlib.Core.List.{List, [], _∷_, _++_}
 use lib.IntN.{ℤ, pos, negsuc}
-use lib.ListN.{length}
+use lib.ListN.{length, set, replicate}
 use Rattle.laws.specs.Got.{got}
 use Rattle.octets.specs.Ident.{identAt, identOctets}
 use Rattle.octets.specs.Groups.{groupsAt, groups}
@@ -19,6 +19,11 @@ use Rattle.answers.specs.Answer.{answerOctets}
 use Rattle.answers.specs.Reply.{reply}
 use Rattle.answers.specs.declared.reply.Reply.{Reply}
 use Rattle.answers.specs.declared.reply.Reply.the-variants as reply
+use Rattle.store.specs.Row.{cellOf}
+use Rattle.store.specs.Grid.{noRow}
+use Rattle.exchange.specs.Table.{freshTable, withRow, withLast}
+use Rattle.exchange.specs.Arrive.{outputLeast, done}
+use Rattle.exchange.specs.declared.table.Table.{Table}
 use Rattle.coding.specs.Heard.{local, heard}
 use Rattle.coding.specs.Request.{activation, interrogation, allNumbers, nowhere, requestOf, argumentAt}
 use Rattle.coding.specs.Sent.{requestOctets}
@@ -41,8 +46,9 @@ pub data Sample : Type 0 where
   answers : Answer → List Entry → List ℕ → Sample
   told : (identifier : ℤ) (operation : ℕ) → List ℕ → Reply → Sample
   lists-entries : List ℕ → (at end : ℕ) → List Entry → Sample
+  arrives : (access : List ℕ) → Table → List ℕ → (reply : List ℕ) → (next : Table) → Sample
 
--- what a sample says: octets are read from the first to the end
+-- what a sample says: octets are read from the first to the end, and the output lent to the exchange is the least there may be
 abbrev pub Says : Sample → Type 0
 Says (reads-identifier s r) = identAt 1 s 0 (length s) ≡ r
 Says (writes-identifier z s) = identOctets z ≡ s
@@ -54,6 +60,8 @@ Says (sends identifier operation r s) = requestOctets identifier operation r ≡
 Says (answers a es s) = answerOctets a es ≡ s
 Says (told identifier operation s r) = reply identifier operation s ≡ r
 Says (lists-entries s at end es) = entriesFrom limit s at end ≡ got es end
+Says (arrives access t s reply next) =
+    (done access t s outputLeast .octets ≡ reply) × (done access t s outputLeast .table ≡ next)
 
 abbrev pub Each : List Sample → Type 0
 Each [] = Unit {0}
@@ -79,6 +87,24 @@ interrogationOfCfb = requestOf 1 0 nowhere allNumbers
 abbrev pub activationOfCfb : Request
 activationOfCfb =
     requestOf 1 1 (forwardedOf (numberOf unknown 0 (0x32 ∷ 0x34 ∷ 0x36 ∷ 0x38 ∷ 0x30 ∷ [])) (subOf [])) allNumbers
+
+-- "Profile: unknown 13579 alone, no MSN, speech, cfb, in use, counted, no prefix": the record as docs/RECORDS.md lays it out
+abbrev pub sampleAccess : List ℕ
+sampleAccess =
+    1 ∷ 0 ∷ 0 ∷ 5 ∷ 0x31 ∷ 0x33 ∷ 0x35 ∷ 0x37 ∷ 0x39 ∷ replicate 84 0
+    ++ (1 ∷ 1 ∷ replicate 5 0)
+    ++ (0 ∷ 1 ∷ 0 ∷ 0 ∷ 0 ∷ 1 ∷ 1 ∷ 0 ∷ 0 ∷ 5 ∷ 0 ∷ replicate 336 0)
+
+-- "not subscribed, identifier 1": an interrogation of cfu
+abbrev pub otherOctets : List ℕ
+otherOctets =
+    0xA1 ∷ 0x10 ∷ 0x02 ∷ 0x01 ∷ 0x01 ∷ 0x02 ∷ 0x01 ∷ 0x0B ∷ 0x30 ∷ 0x08 ∷ 0x0A ∷ 0x01 ∷ 0x00 ∷ 0x0A ∷ 0x01 ∷ 0x00 ∷ 0x05 ∷ 0x00 ∷ []
+
+-- the table that holds the one instance, speech for 13579
+abbrev pub activatedTable : Table
+activatedTable =
+    withLast 2
+    (withRow 1 (record { cells = set (noRow .cells) 0 (cellOf 1 (activationOfCfb .to .address)) }) freshTable)
 
 abbrev pub samples : List Sample
 samples =
@@ -116,4 +142,12 @@ samples =
     ∷ told (pos 2) activation (0xA4 ∷ 0x06 ∷ 0x02 ∷ 0x01 ∷ 0x02 ∷ 0x81 ∷ 0x01 ∷ 0x00 ∷ []) reply.Rejected
     ∷ told (pos 1) interrogation (0xA3 ∷ 0x06 ∷ 0x02 ∷ 0x01 ∷ 0x01 ∷ 0x02 ∷ 0x01 ∷ 0x00 ∷ []) (reply.Failed (pos 0))
     ∷ told (pos 1) interrogation (0xA4 ∷ 0x05 ∷ 0x05 ∷ 0x00 ∷ 0x80 ∷ 0x01 ∷ 0x02 ∷ []) reply.Dropped
+    -- the exchange: the interrogation of a fresh table, the activation, the latter again, what is not subscribed, and no octet
+    ∷ arrives sampleAccess freshTable interrogationOctets freshOctets (withLast 1 freshTable)
+    ∷ arrives sampleAccess freshTable activationOctets (0xA2 ∷ 0x03 ∷ 0x02 ∷ 0x01 ∷ 0x02 ∷ []) activatedTable
+    ∷ arrives sampleAccess activatedTable activationOctets
+    (0xA4 ∷ 0x06 ∷ 0x02 ∷ 0x01 ∷ 0x02 ∷ 0x81 ∷ 0x01 ∷ 0x00 ∷ []) activatedTable
+    ∷ arrives sampleAccess freshTable otherOctets
+    (0xA3 ∷ 0x06 ∷ 0x02 ∷ 0x01 ∷ 0x01 ∷ 0x02 ∷ 0x01 ∷ 0x00 ∷ []) (withLast 1 freshTable)
+    ∷ arrives sampleAccess freshTable [] (0xA4 ∷ 0x05 ∷ 0x05 ∷ 0x00 ∷ 0x80 ∷ 0x01 ∷ 0x02 ∷ []) freshTable
     ∷ []
