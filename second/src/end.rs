@@ -225,8 +225,8 @@ fn take_reply(
 /// A62: all the rules from "not in use" on, on the end's own picture.
 fn apply(profile: &Profile, end: &mut End, request: &Request) -> Event {
     match judge(profile, &end.picture, request) {
-        Outcome::Done(instances) => {
-            end.picture = instances;
+        Outcome::Done(change) => {
+            end.picture = change.instances;
             Event::Applied
         }
         Outcome::Error(_) | Outcome::List(_) => Event::NotApplicable,

@@ -12,6 +12,8 @@ use crate::table::Table;
 pub struct Arrived {
     pub next: Table,
     pub answer: Answer,
+    /// Procedure, number and service of each place that an activation or deactivation selected.
+    pub changed: Vec<(i32, i32, i32)>,
     /// How many octets of the lent output the reply took; 0 for silence.
     pub length: usize,
 }
@@ -20,47 +22,47 @@ const DUPLICATE: u8 = 0;
 const UNKNOWN_OPERATION: u8 = 1;
 const MISTYPED_ARGUMENT: u8 = 2;
 
-/// Refusals 1, 2, 3, 4, lowest first, before any row of the reply table (A39); 707 octets of
-/// output are asked for even where the answer is silence (A37).
+/// Refusals 1, 2, 3, 4, lowest first, before any row of the reply table (A39).
 pub fn arrive(
     output: &mut [u8],
     component: &[u8],
     profile: &Profile,
     table: &Table,
 ) -> Result<Arrived, Refusal> {
+    sizes_fit(output, component)?;
+    profile.check()?;
+    table.check(profile)?;
+    let mut arrived = turn(component, profile, table);
+    arrived.length = write_into(output, &arrived.answer.written());
+    Ok(arrived)
+}
+
+/// Refusals 1 and 2; 707 octets of output are asked for even where the answer is silence (A37).
+pub fn sizes_fit(output: &[u8], component: &[u8]) -> Result<(), Refusal> {
     require(output.len() >= COMPONENT_OUTPUT, Refusal::OutputTooSmall)?;
     require(
         component.len() <= LONGEST_COMPONENT,
         Refusal::ComponentTooLong,
-    )?;
-    profile.check()?;
-    table.check(profile)?;
-    let (next, answer) = turn(component, profile, table);
-    let length = write_into(output, &answer.written());
-    Ok(Arrived {
-        next,
-        answer,
-        length,
-    })
+    )
 }
 
-/// The rows of the reply table in their order.
-fn turn(component: &[u8], profile: &Profile, table: &Table) -> (Table, Answer) {
+/// The rows of the reply table in their order; nothing is written yet.
+fn turn(component: &[u8], profile: &Profile, table: &Table) -> Arrived {
     match hear(component) {
-        Heard::Silence => (table.clone(), Answer::Silence),
+        Heard::Silence => unchanged(table, Answer::Silence),
         Heard::Unreadable {
             identifier,
             problem,
-        } => (
-            table.clone(),
+        } => unchanged(
+            table,
             Answer::Reject {
                 identifier,
                 problem,
             },
         ),
         Heard::Invoke(invoke) => match judged(&invoke, profile, table) {
-            Err(problem) => (
-                table.clone(),
+            Err(problem) => unchanged(
+                table,
                 Answer::Reject {
                     identifier: Some(invoke.identifier),
                     problem: Problem::Invoke(problem),
@@ -68,6 +70,15 @@ fn turn(component: &[u8], profile: &Profile, table: &Table) -> (Table, Answer) {
             ),
             Ok(outcome) => handled(invoke.identifier, outcome, profile, table),
         },
+    }
+}
+
+fn unchanged(table: &Table, answer: Answer) -> Arrived {
+    Arrived {
+        next: table.clone(),
+        answer,
+        changed: Vec::new(),
+        length: 0,
     }
 }
 
@@ -83,22 +94,29 @@ fn judged(invoke: &Invoke<'_>, profile: &Profile, table: &Table) -> Result<Outco
     Ok(judge(profile, &table.instances, &request))
 }
 
-fn handled(identifier: i32, outcome: Outcome, profile: &Profile, table: &Table) -> (Table, Answer) {
-    let mut next = table.clone();
+fn handled(identifier: i32, outcome: Outcome, profile: &Profile, table: &Table) -> Arrived {
+    let mut arrived = match outcome {
+        Outcome::Error(code) => unchanged(table, Answer::Error { identifier, code }),
+        Outcome::List(entries) => unchanged(
+            table,
+            Answer::List {
+                identifier,
+                entries,
+            },
+        ),
+        Outcome::Done(change) => Arrived {
+            next: Table {
+                last: table.last,
+                instances: change.instances,
+            },
+            answer: Answer::Result { identifier },
+            changed: change.keys,
+            length: 0,
+        },
+    };
     // A36: every result and every error moves it, on a counted end alone (A4).
     if profile.counted == 1 {
-        next.last = identifier;
+        arrived.next.last = identifier;
     }
-    let answer = match outcome {
-        Outcome::Error(code) => Answer::Error { identifier, code },
-        Outcome::List(entries) => Answer::List {
-            identifier,
-            entries,
-        },
-        Outcome::Done(instances) => {
-            next.instances = instances;
-            Answer::Result { identifier }
-        }
-    };
-    (next, answer)
+    arrived
 }

@@ -7,8 +7,8 @@ use crate::end::{shown, End, Event, Outstanding, KNOWN};
 use crate::profile::Profile;
 use crate::refusal::Refusal;
 use crate::request::Request;
+use crate::soak_kinds::Kind;
 use crate::table::{of_procedure, sorted, Instance, Table};
-use crate::tally::Kind;
 
 pub fn expect(holds: bool, what: &str) -> Result<(), String> {
     if holds {

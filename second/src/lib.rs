@@ -1,18 +1,25 @@
 //! Call forwarding as document 01 has it: the coding layer, the exchange, calls, the customer
 //! end, night sheets and the listing. Written from document 01, EN 300 207-1 (000), Q.732.2-5
-//! (001) and the list of open points (A1 to A78) alone.
+//! (001) and the list of open points (A1 to A78) alone; the lines of dialogues with an exchange,
+//! and the records in them, from the paper on their format (FORMAT.md).
 //!
 //! Records (profile, table, call, end) are plain integers and vectors that can hold nonsense:
 //! every function judges the records it is lent and refuses bad ones by their number.
 #![forbid(unsafe_code)]
 
+pub mod access_record;
 pub mod answer;
 pub mod calls;
 pub mod codes;
+pub mod damaged;
+pub mod dialogues;
 pub mod elements;
 pub mod end;
 pub mod exchange;
+pub mod exchange_cases;
 pub mod expected;
+pub mod filled;
+pub mod hexadecimal;
 pub mod list_cases;
 pub mod listing;
 pub mod loose;
@@ -22,12 +29,19 @@ pub mod numbers;
 pub mod path;
 pub mod profile;
 pub mod random;
+pub mod recoded;
+pub mod records;
+pub mod records_at_random;
 pub mod refusal;
 pub mod request;
 pub mod rules;
+pub mod samples;
 pub mod sheet;
 pub mod soak;
+pub mod soak_kinds;
 pub mod spoiled;
 pub mod table;
+pub mod table_record;
 pub mod tally;
+pub mod transcript;
 pub mod unusual_replies;

@@ -5,9 +5,10 @@ use std::ops::Range;
 
 use crate::answer::{read_error, read_list, read_reply, write_entry, Answer, Entry, ReplyKind};
 use crate::codes::{PROCEDURES, PUBLIC_TYPES, SERVICES};
-use crate::elements::{length_octets, Reader, CONSTRUCTED};
 use crate::numbers::{Address, Number, Subaddress, PUBLIC, UNKNOWN};
 use crate::random::Random;
+use crate::recoded::recoded;
+use crate::records::{write_address_record, write_number_record, ADDRESS_OCTETS, NUMBER_OCTETS};
 use crate::table::MOST_INSTANCES;
 use crate::unusual_replies::unusual_replies;
 
@@ -60,26 +61,15 @@ fn records(entries: &[Entry]) -> Vec<u8> {
     entries.iter().flat_map(record).collect()
 }
 
-/// 69 octets.
+/// The entry's number, service, procedure and address.
 fn record(entry: &Entry) -> Vec<u8> {
-    let mut record = number_record(&entry.number);
-    record.extend([entry.service as u8, entry.procedure as u8]);
-    record.extend(number_record(&entry.address.number));
-    record.extend(counted(entry.address.subaddress.octets()));
-    record
-}
-
-fn number_record(number: &Number) -> Vec<u8> {
-    let form_and_type = [number.form as u8, number.number_type as u8];
-    [&form_and_type[..], &counted(&number.digits)].concat()
-}
-
-/// The count, and 20 places for the octets.
-fn counted(octets: &[u8]) -> Vec<u8> {
-    let mut counted = vec![octets.len() as u8];
-    counted.extend_from_slice(octets);
-    counted.resize(21, 0);
-    counted
+    let mut number = vec![0; NUMBER_OCTETS];
+    write_number_record(&mut number, &entry.number);
+    let mut address = vec![0; ADDRESS_OCTETS];
+    write_address_record(&mut address, &entry.address);
+    // Codes read from one octet go back to it, -128 to 80.
+    let codes = vec![entry.service as u8, entry.procedure as u8];
+    [number, codes, address].concat()
 }
 
 fn written(identifier: i32, entries: &[Entry]) -> Vec<u8> {
@@ -214,25 +204,4 @@ fn good_codings(random: &mut Random) -> Vec<Vec<u8>> {
         }
     }
     components
-}
-
-/// The same elements with other lengths: shortest, with 81, or with 82, as drawn from these.
-fn recoded(random: &mut Random, octets: &[u8], codings: &[usize]) -> Vec<u8> {
-    let mut reader = Reader::over(octets);
-    let mut all = Vec::new();
-    while let Some(element) = reader.element() {
-        let contents = match element.tag & CONSTRUCTED {
-            0 => element.contents.to_vec(),
-            _ => recoded(random, element.contents, codings),
-        };
-        let [.., high, low] = contents.len().to_be_bytes();
-        all.push(element.tag);
-        all.extend(match random.pick(codings) {
-            Some(1) if high == 0 => vec![0x81, low],
-            Some(1 | 2) => vec![0x82, high, low],
-            _ => length_octets(contents.len()),
-        });
-        all.extend(contents);
-    }
-    all
 }

@@ -8,19 +8,18 @@ use crate::made;
 use crate::profile::Profile;
 use crate::random::Random;
 use crate::request::Served;
-use crate::table::Table;
 
 /// Anything for the exchange: random octets, a spoiled copy, or an invoke built loosely.
-pub fn component(random: &mut Random, profile: &Profile, table: &Table) -> Vec<u8> {
+pub fn component(random: &mut Random, profile: &Profile, last: i32) -> Vec<u8> {
     let fault_rate = random.one_of(&[0, 0, 10, 30]);
     match random.below(12) {
         0 => octets(random),
         1 => {
             let request = made::request(random, profile);
-            let identifier = near(random, table.last);
+            let identifier = near(random, last);
             scratched(random, request.written(identifier))
         }
-        _ => Loose { random, fault_rate }.invoke(profile, table.last),
+        _ => Loose { random, fault_rate }.invoke(profile, last),
     }
 }
 
@@ -58,7 +57,7 @@ fn scratched(random: &mut Random, mut octets: Vec<u8>) -> Vec<u8> {
 }
 
 /// Identifiers at and around the last handled one, and at the edges.
-fn near(random: &mut Random, last: i32) -> i32 {
+pub fn near(random: &mut Random, last: i32) -> i32 {
     let step = random.between(-1, 3);
     match random.below(6) {
         0 => random.one_of(&[-32_768, -129, -128, -1, 0, 1, 127, 128, 255, 256, 32_767]),

@@ -145,16 +145,21 @@ impl Loose<'_> {
         let mut all = Vec::new();
         for _ in 0..self.random.one_of(&[0, 0, 0, 1, 2]) {
             let depth = self.random.one_of(&[1, 2, 7, 8, 9]);
-            let mut nested = self.element(0xC4, b"any");
-            for level in 1..depth {
-                let tag = if level + 1 == depth { 0xE5 } else { 0x30 };
-                let beside = self.element(0x04, &[0x80]);
-                let contents = [nested, if level > 1 { beside } else { Vec::new() }].concat();
-                nested = self.element(tag, &contents);
-            }
-            all.extend(nested);
+            all.extend(self.nested(depth));
         }
         all
+    }
+
+    /// A private-class element inside which others lie to this depth.
+    pub fn nested(&mut self, depth: usize) -> Vec<u8> {
+        let mut nested = self.element(0xC4, b"any");
+        for level in 1..depth {
+            let tag = if level + 1 == depth { 0xE5 } else { 0x30 };
+            let beside = self.element(0x04, &[0x80]);
+            let contents = [nested, if level > 1 { beside } else { Vec::new() }].concat();
+            nested = self.element(tag, &contents);
+        }
+        nested
     }
 
     pub fn argument(&mut self, request: &Request) -> Vec<u8> {

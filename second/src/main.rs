@@ -1,13 +1,16 @@
-//! The program: lists a night sheet, soaks the end against the exchange, or writes list cases.
+//! The program: lists a night sheet, soaks the end against the exchange, or writes cases.
 
 use std::fs;
 use std::io::{self, Read, Write};
 use std::path::Path;
 use std::process::ExitCode;
 
+use second::dialogues::{dialogues, disagreements, transcript};
+use second::exchange_cases::exchange_cases;
 use second::list_cases::list_cases;
 use second::listing::printed;
 use second::soak::soak;
+use second::tally::Tally;
 
 const HELP: &str = "\
 second list < SHEET        list a night sheet, or print: refused 9
@@ -16,6 +19,13 @@ second soak SEEDS STEPS    run the end against the exchange over a bad path and 
                            about, ends with exit code 1
 second list-cases DIR      write cases of lists, one a line: DIR/stdin, and DIR/stdout with the
                            output expected
+second dialogues DIR       write dialogues with the exchange, their replies and tables stated by
+                           hand: DIR/stdin and DIR/stdout; where this program's own exchange
+                           says otherwise, that is printed and the exit code is 1
+second exchange-cases SEED COUNT DIR
+                           write so many components made from the seed, with the answers of this
+                           program's exchange: DIR/stdin and DIR/stdout; prints how often each
+                           kind was reached; a kind never reached ends with exit code 1
 second help                this text
 ";
 
@@ -32,6 +42,11 @@ fn main() -> ExitCode {
             _ => misused(),
         },
         ["list-cases", directory] => write_list_cases(Path::new(directory)),
+        ["dialogues", directory] => write_dialogues(Path::new(directory)),
+        ["exchange-cases", seed, count, directory] => match (seed.parse(), count.parse()) {
+            (Ok(seed), Ok(count)) => write_exchange_cases(seed, count, Path::new(directory)),
+            _ => misused(),
+        },
         ["help"] => print(HELP).map(|()| ExitCode::SUCCESS),
         _ => misused(),
     };
@@ -62,21 +77,43 @@ fn list() -> io::Result<ExitCode> {
 
 fn write_list_cases(directory: &Path) -> io::Result<ExitCode> {
     let (input, output): (Vec<String>, Vec<String>) = list_cases().into_iter().unzip();
-    fs::create_dir_all(directory)?;
-    fs::write(directory.join("stdin"), input.join("\n") + "\n")?;
-    fs::write(directory.join("stdout"), output.join("\n") + "\n")?;
+    write_both(
+        directory,
+        &(input.join("\n") + "\n"),
+        &(output.join("\n") + "\n"),
+    )?;
     Ok(ExitCode::SUCCESS)
+}
+
+fn write_both(directory: &Path, input: &str, expected: &str) -> io::Result<()> {
+    fs::create_dir_all(directory)?;
+    fs::write(directory.join("stdin"), input)?;
+    fs::write(directory.join("stdout"), expected)
+}
+
+fn write_dialogues(directory: &Path) -> io::Result<ExitCode> {
+    let all = dialogues();
+    let lines = transcript(&all);
+    write_both(directory, &lines.input, &lines.expected)?;
+    let found = disagreements(&all);
+    for one in &found {
+        print(&format!("{one}\n"))?;
+    }
+    Ok(ExitCode::from(u8::from(!found.is_empty())))
+}
+
+fn write_exchange_cases(seed: u64, count: u64, directory: &Path) -> io::Result<ExitCode> {
+    let cases = exchange_cases(seed, count);
+    write_both(directory, &cases.lines.input, &cases.lines.expected)?;
+    print(&format!("seed {seed}, {count} components\n"))?;
+    print_tally(&cases.tally)
 }
 
 fn run_soak(seeds: u64, steps: u64) -> io::Result<ExitCode> {
     match soak(seeds, steps) {
         Ok(tally) => {
-            print(&format!("{seeds} seeds of {steps} steps\n{tally}"))?;
-            let never = tally.never_reached();
-            for kind in &never {
-                print(&format!("never reached: {kind}\n"))?;
-            }
-            Ok(ExitCode::from(u8::from(!never.is_empty())))
+            print(&format!("{seeds} seeds of {steps} steps\n"))?;
+            print_tally(&tally)
         }
         Err(fault) => {
             print(&format!(
@@ -86,4 +123,14 @@ fn run_soak(seeds: u64, steps: u64) -> io::Result<ExitCode> {
             Ok(ExitCode::FAILURE)
         }
     }
+}
+
+/// Exit code 1 where a kind was never reached.
+fn print_tally<K: PartialEq>(tally: &Tally<K>) -> io::Result<ExitCode> {
+    print(&tally.to_string())?;
+    let never = tally.never_reached();
+    for kind in &never {
+        print(&format!("never reached: {kind}\n"))?;
+    }
+    Ok(ExitCode::from(u8::from(!never.is_empty())))
 }

@@ -2,7 +2,8 @@
 //! everything ever sent, any number of times or never.
 
 use crate::random::Random;
-use crate::tally::{Kind, Tally};
+use crate::soak_kinds::Kind;
+use crate::tally::Tally;
 
 /// The kinds of event a path counts.
 pub struct PathKinds {
@@ -47,7 +48,7 @@ impl<T: Clone> Path<T> {
     }
 
     /// The newest, one of the newest few, or any one ever sent.
-    pub fn draw(&mut self, random: &mut Random, tally: &mut Tally) -> Option<T> {
+    pub fn draw(&mut self, random: &mut Random, tally: &mut Tally<Kind>) -> Option<T> {
         let newest = self.sent.len().checked_sub(1)?;
         let at = match random.below(10) {
             0..=5 => newest,
@@ -79,7 +80,7 @@ impl<T: Clone> Path<T> {
         Some(message.clone())
     }
 
-    pub fn count_lost(&self, tally: &mut Tally) {
+    pub fn count_lost(&self, tally: &mut Tally<Kind>) {
         let never = self.sent.iter().filter(|(_, times)| *times == 0).count();
         tally.add(self.kinds.lost, never as u64);
     }

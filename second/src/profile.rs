@@ -4,8 +4,8 @@ use crate::codes::{is_flag, is_procedure, is_service, place};
 use crate::numbers::{good_digits, Number};
 use crate::refusal::{require, Refusal};
 
-const MOST_NUMBERS: usize = 4;
-const MOST_SERVICES: usize = 6;
+pub const MOST_NUMBERS: usize = 4;
+pub const MOST_SERVICES: usize = 6;
 const MOST_PREFIXES: usize = 16;
 
 /// Every "yes or no" is 1 or 0; any other value breaks a rule.

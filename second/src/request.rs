@@ -205,6 +205,11 @@ impl Request {
 
     /// The invoke component; the service is always written, lengths are shortest.
     pub fn written(&self, identifier: i32) -> Vec<u8> {
+        self.written_with(identifier, &[])
+    }
+
+    /// The same with these octets after the last known element of the argument.
+    pub fn written_with(&self, identifier: i32, after: &[u8]) -> Vec<u8> {
         let mut argument = enumerated(self.procedure());
         argument.extend(enumerated(self.service()));
         if let Request::Activation { address, .. } = self {
@@ -214,6 +219,7 @@ impl Request {
             Served::AllNumbers => null(),
             Served::Individual(number) => write_number(number),
         });
+        argument.extend_from_slice(after);
         let contents = [
             integer(identifier),
             integer(self.operation()),

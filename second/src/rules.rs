@@ -18,9 +18,18 @@ const MOST_INTERNATIONAL_DIGITS: usize = 15;
 #[derive(Clone, Debug, PartialEq, Eq)]
 pub enum Outcome {
     Error(i32),
-    /// The instances afterwards, all together.
-    Done(Vec<Instance>),
+    Done(Change),
     List(Vec<Entry>),
+}
+
+/// What an activation or deactivation did, all together.
+#[derive(Clone, Debug, PartialEq, Eq)]
+pub struct Change {
+    /// The instances afterwards.
+    pub instances: Vec<Instance>,
+    /// Procedure, number and service of each place that was selected, be it that the same address,
+    /// or none, stood there before.
+    pub keys: Vec<(i32, i32, i32)>,
 }
 
 /// The selected numbers (by index, in the profile's order) and service of one procedure.
@@ -37,7 +46,7 @@ pub fn judge(profile: &Profile, instances: &[Instance], request: &Request) -> Ou
     };
     match request {
         Request::Activation { address, .. } => activate(profile, instances, &selection, address),
-        Request::Deactivation { .. } => deactivate(instances, &selection),
+        Request::Deactivation { .. } => deactivate(profile, instances, &selection),
         Request::Interrogation { .. } => interrogate(profile, instances, &selection),
     }
 }
@@ -91,16 +100,17 @@ fn activate(
         .iter()
         .filter(|instance| !selection.holds(instance))
         .cloned();
-    let after = sorted(
-        others
-            .chain(new_instances(profile, selection, address))
-            .collect(),
-    );
+    let new = new_instances(profile, selection, address);
+    let keys = new.iter().map(Instance::key).collect();
+    let after = sorted(others.chain(new).collect());
     // A32: over all numbers, replaced ones once.
     if count(&after, selection.procedure) > MOST_INSTANCES {
         return Outcome::Error(RESOURCE_UNAVAILABLE);
     }
-    Outcome::Done(after)
+    Outcome::Done(Change {
+        instances: after,
+        keys,
+    })
 }
 
 /// The errors that hang on the request alone, in their order: 8, 11, 12, 14, 15.
@@ -139,7 +149,8 @@ fn invalid_diverted_to(number: &Number) -> bool {
     }
 }
 
-fn new_instances(profile: &Profile, selection: &Selection, address: &Address) -> Vec<Instance> {
+/// Procedure, number and service of each place that is selected, in order.
+fn selected_places(profile: &Profile, selection: &Selection) -> Vec<(i32, i32, i32)> {
     let services: Vec<i32> = if selection.service == ALL_SERVICES {
         profile.services.clone()
     } else {
@@ -148,26 +159,39 @@ fn new_instances(profile: &Profile, selection: &Selection, address: &Address) ->
     let numbers = selection.numbers.iter();
     numbers
         .flat_map(|number| {
-            services.iter().map(|service| Instance {
-                procedure: selection.procedure,
-                number: *number,
-                service: *service,
-                address: address.clone(),
-            })
+            services
+                .iter()
+                .map(|service| (selection.procedure, *number, *service))
+        })
+        .collect()
+}
+
+fn new_instances(profile: &Profile, selection: &Selection, address: &Address) -> Vec<Instance> {
+    selected_places(profile, selection)
+        .into_iter()
+        .map(|(procedure, number, service)| Instance {
+            procedure,
+            number,
+            service,
+            address: address.clone(),
         })
         .collect()
 }
 
 /// House: 46 exactly if no selected instance is active, so an unsubscribed service gives 46
 /// (A30, A34).
-fn deactivate(instances: &[Instance], selection: &Selection) -> Outcome {
-    if !instances.iter().any(|instance| selection.holds(instance)) {
+fn deactivate(profile: &Profile, instances: &[Instance], selection: &Selection) -> Outcome {
+    let (removed, left): (Vec<Instance>, Vec<Instance>) = instances
+        .iter()
+        .cloned()
+        .partition(|instance| selection.holds(instance));
+    if removed.is_empty() {
         return Outcome::Error(NOT_ACTIVATED);
     }
-    let left = instances
-        .iter()
-        .filter(|instance| !selection.holds(instance));
-    Outcome::Done(left.cloned().collect())
+    Outcome::Done(Change {
+        instances: left,
+        keys: selected_places(profile, selection),
+    })
 }
 
 /// By profile number, then service code; each entry carries the profile's own number (A33).

@@ -17,8 +17,9 @@ use crate::random::Random;
 use crate::refusal::{Refusal, COMPONENT_OUTPUT, SHEET_OUTPUT};
 use crate::request::Request;
 use crate::sheet;
+use crate::soak_kinds::{Kind, KINDS};
 use crate::table::Table;
-use crate::tally::{Kind, Tally};
+use crate::tally::Tally;
 
 /// What went wrong, and where to find it again.
 #[derive(Clone, Debug, PartialEq, Eq)]
@@ -44,12 +45,12 @@ struct World {
     replies: Path<(Answer, Vec<u8>)>,
     /// How many steps in a hundred do what a good path would do next.
     calm: usize,
-    tally: Tally,
+    tally: Tally<Kind>,
 }
 
 /// Runs every seed for so many steps; the tally of all, or the first fault.
-pub fn soak(seeds: u64, steps: u64) -> Result<Tally, Fault> {
-    let mut tally = Tally::empty();
+pub fn soak(seeds: u64, steps: u64) -> Result<Tally<Kind>, Fault> {
+    let mut tally = Tally::of(&KINDS);
     for seed in 0..seeds {
         let mut world = World::fresh(Random::seeded(seed), tally);
         for step in 0..steps {
@@ -67,7 +68,7 @@ pub fn soak(seeds: u64, steps: u64) -> Result<Tally, Fault> {
 }
 
 impl World {
-    fn fresh(mut random: Random, tally: Tally) -> Self {
+    fn fresh(mut random: Random, tally: Tally<Kind>) -> Self {
         let mut profile = made::profile(&mut random);
         profile.counted = 1;
         World {
@@ -88,7 +89,7 @@ impl World {
         World::fresh(random, self.closed())
     }
 
-    fn closed(mut self) -> Tally {
+    fn closed(mut self) -> Tally<Kind> {
         self.requests.count_lost(&mut self.tally);
         self.replies.count_lost(&mut self.tally);
         self.tally

@@ -1,119 +1,34 @@
-//! What a soak reached: every kind of event with its count.
+//! What a long run reached: every kind it must reach, with its count.
 
 use std::fmt;
 
-use crate::codes::{
-    DIVERSION_TO_SERVED_NUMBER, INVALID_DIVERTED_TO_NUMBER, INVALID_SERVED_NUMBER, NOT_ACTIVATED,
-    NOT_AVAILABLE, NOT_SUBSCRIBED, RESOURCE_UNAVAILABLE, SERVICE_NOT_PROVIDED,
-    SPECIAL_SERVICE_NUMBER,
-};
-
-#[derive(Clone, Copy, Debug, PartialEq, Eq)]
-pub enum Kind {
-    ActivationSent,
-    DeactivationSent,
-    InterrogationSent,
-    RefusedOutstanding,
-    RequestLost,
-    RequestRepeated,
-    RequestOvertaken,
-    RequestDelayed,
-    ActivationDone,
-    DeactivationDone,
-    ListEmpty,
-    ListFilled,
-    GivenUpRequestHandled,
-    Duplicate,
-    Error(i32),
-    ReplyLost,
-    ReplyRepeated,
-    ReplyOvertaken,
-    ReplyDelayed,
-    Dropped,
-    AppliedKnown,
-    AppliedInDoubt,
-    NotApplicable,
-    RestoredKnown,
-    RestoredInDoubt,
-    RejectedWhileKnown,
-    RejectedInDoubt,
-    ListedInDoubt,
-    ListedWhileKnown,
-    GivenUp,
-    NothingToGiveUp,
-    SheetTurned,
-}
-
-/// Every kind a soak must reach. Error 11 comes of a full table alone, since the end sends no
-/// user-specified subaddress.
-pub const KINDS: [(Kind, &str); 40] = [
-    (Kind::ActivationSent, "activation sent"),
-    (Kind::DeactivationSent, "deactivation sent"),
-    (Kind::InterrogationSent, "interrogation sent"),
-    (Kind::RefusedOutstanding, "sending refused, 7"),
-    (Kind::RequestLost, "request lost"),
-    (Kind::RequestRepeated, "request repeated"),
-    (Kind::RequestOvertaken, "request overtaken by a later one"),
-    (Kind::RequestDelayed, "request delayed"),
-    (Kind::ActivationDone, "activation done"),
-    (Kind::DeactivationDone, "deactivation done"),
-    (Kind::ListEmpty, "list, empty"),
-    (Kind::ListFilled, "list with instances"),
-    (
-        Kind::GivenUpRequestHandled,
-        "request handled after it was given up",
-    ),
-    (Kind::Duplicate, "duplicate rejected"),
-    (Kind::Error(NOT_SUBSCRIBED), "error 0"),
-    (Kind::Error(NOT_AVAILABLE), "error 3"),
-    (Kind::Error(INVALID_SERVED_NUMBER), "error 6"),
-    (Kind::Error(SERVICE_NOT_PROVIDED), "error 8"),
-    (Kind::Error(RESOURCE_UNAVAILABLE), "error 11"),
-    (Kind::Error(INVALID_DIVERTED_TO_NUMBER), "error 12"),
-    (Kind::Error(SPECIAL_SERVICE_NUMBER), "error 14"),
-    (Kind::Error(DIVERSION_TO_SERVED_NUMBER), "error 15"),
-    (Kind::Error(NOT_ACTIVATED), "error 46"),
-    (Kind::ReplyLost, "reply lost"),
-    (Kind::ReplyRepeated, "reply repeated"),
-    (Kind::ReplyOvertaken, "reply overtaken by a later one"),
-    (Kind::ReplyDelayed, "reply delayed"),
-    (Kind::Dropped, "reply dropped by the end"),
-    (Kind::AppliedKnown, "result applied, known"),
-    (Kind::AppliedInDoubt, "result applied, in doubt"),
-    (Kind::NotApplicable, "result not applicable, doubt"),
-    (Kind::RestoredKnown, "error restored known"),
-    (Kind::RestoredInDoubt, "error restored doubt"),
-    (Kind::RejectedWhileKnown, "reject gave doubt to a known one"),
-    (Kind::RejectedInDoubt, "reject left doubt"),
-    (Kind::ListedInDoubt, "list made a doubtful one known"),
-    (Kind::ListedWhileKnown, "list kept a known one known"),
-    (Kind::GivenUp, "given up"),
-    (Kind::NothingToGiveUp, "nothing to give up"),
-    (Kind::SheetTurned, "night sheet written and read back"),
-];
+/// Each kind and its name.
+pub type Kinds<K> = &'static [(K, &'static str)];
 
 #[derive(Clone, Debug, PartialEq, Eq)]
-pub struct Tally {
-    counts: [u64; KINDS.len()],
+pub struct Tally<K: 'static> {
+    kinds: Kinds<K>,
+    counts: Vec<u64>,
 }
 
-impl Tally {
-    pub fn empty() -> Self {
+impl<K: PartialEq> Tally<K> {
+    pub fn of(kinds: Kinds<K>) -> Self {
         Tally {
-            counts: [0; KINDS.len()],
+            kinds,
+            counts: vec![0; kinds.len()],
         }
     }
 
-    pub fn add(&mut self, kind: Kind, times: u64) {
-        for (count, (listed, _)) in self.counts.iter_mut().zip(&KINDS) {
+    pub fn add(&mut self, kind: K, times: u64) {
+        for (count, (listed, _)) in self.counts.iter_mut().zip(self.kinds) {
             if *listed == kind {
                 *count += times;
             }
         }
     }
 
-    pub fn count(&self, kind: Kind) -> u64 {
-        let mut listed = self.counts.iter().zip(&KINDS);
+    pub fn count(&self, kind: K) -> u64 {
+        let mut listed = self.counts.iter().zip(self.kinds);
         listed
             .find(|(_, (listed, _))| *listed == kind)
             .map_or(0, |(count, _)| *count)
@@ -121,7 +36,7 @@ impl Tally {
 
     /// The names of the kinds never reached.
     pub fn never_reached(&self) -> Vec<&'static str> {
-        let counted = self.counts.iter().zip(&KINDS);
+        let counted = self.counts.iter().zip(self.kinds);
         counted
             .filter(|(count, _)| **count == 0)
             .map(|(_, (_, name))| *name)
@@ -129,9 +44,9 @@ impl Tally {
     }
 }
 
-impl fmt::Display for Tally {
+impl<K> fmt::Display for Tally<K> {
     fn fmt(&self, text: &mut fmt::Formatter<'_>) -> fmt::Result {
-        for (count, (_, name)) in self.counts.iter().zip(&KINDS) {
+        for (count, (_, name)) in self.counts.iter().zip(self.kinds) {
             writeln!(text, "{count:>12}  {name}")?;
         }
         Ok(())

@@ -1,10 +1,10 @@
 //! Replies to an interrogation with identifier 5 that are damaged, of another shape, or just
 //! unusual, for the cases of lists.
 
-use std::ops::Range;
-
 use crate::answer::{TAG_ERROR, TAG_REJECT, TAG_RESULT};
-use crate::elements::{element, CONSTRUCTED};
+use crate::damaged::Dissected;
+use crate::elements::element;
+use crate::hexadecimal::octets;
 
 /// A good list of two entries for identifier 5. Its elements in the order their tags come: 0
 /// component, 1 identifier, 2 sequence, 3 operation, 4 list; 5 entry: 6 number, 7 service, 8
@@ -73,85 +73,16 @@ pub fn unusual_replies() -> Vec<Vec<u8>> {
 /// The octets of each stretch of hexadecimal text between bars.
 fn stretches(text: &str) -> impl Iterator<Item = Vec<u8>> + '_ {
     let twenty = "30 31 32 33 34 35 36 37 38 39 39 38 37 36 35 34 33 32 31 30";
-    text.split('|').map(move |stretch| {
-        let full = stretch.replace('*', twenty);
-        let octets = full.split_whitespace();
-        octets
-            .filter_map(|octet| u8::from_str_radix(octet, 16).ok())
-            .collect()
-    })
+    text.split('|')
+        .map(move |stretch| octets(&stretch.replace('*', twenty)))
 }
 
-/// The sample, and where each of its elements stands. All its lengths are of one octet.
-struct Sample {
-    octets: Vec<u8>,
-    places: Vec<Range<usize>>,
-}
-
-impl Sample {
-    fn read() -> Self {
-        let octets: Vec<u8> = stretches(SAMPLE).flatten().collect();
-        let mut places = Vec::new();
-        let mut at = 0;
-        while let [tag, length, ..] = octets[at..] {
-            let end = at + 2 + usize::from(length);
-            places.push(at..end);
-            at = if tag & CONSTRUCTED == 0 { end } else { at + 2 };
-        }
-        Sample { octets, places }
-    }
-
-    /// The places of the elements whose contents hold this one.
-    fn around(&self, place: &Range<usize>) -> impl Iterator<Item = &Range<usize>> {
-        let Range { start, end } = *place;
-        let places = self.places.iter();
-        places.filter(move |outer| outer.start < start && end <= outer.end)
-    }
-
-    /// A stretch changed, and the lengths around that place put right.
-    fn changed(&self, place: &Range<usize>, stretch: Range<usize>, with: &[u8]) -> Vec<u8> {
-        let mut octets = self.octets.clone();
-        for outer in self.around(place) {
-            let length = &mut octets[outer.start + 1];
-            *length = *length + with.len() as u8 - stretch.len() as u8;
-        }
-        octets.splice(stretch, with.iter().copied());
-        octets
-    }
-
-    /// The element and the next one in the same contents, the other way round.
-    fn swapped(&self, place: &Range<usize>) -> Option<Vec<u8>> {
-        let mut others = self.places.iter();
-        let next = others.find(|other| other.start == place.end)?;
-        let together = self.around(place).all(|outer| next.end <= outer.end);
-        let swapped = [&self.octets[next.clone()], &self.octets[place.clone()]].concat();
-        together.then(|| self.changed(place, place.start..next.end, &swapped))
-    }
-
-    /// One octet with some bits turned over, or a number added.
-    fn with(&self, at: usize, bits: u8, added: u8) -> Vec<u8> {
-        let mut octets = self.octets.clone();
-        octets[at] = (octets[at] ^ bits).wrapping_add(added);
-        octets
-    }
-}
-
-/// The sample whole, cut off at each octet, and with each element damaged, missing or replaced.
+/// The sample damaged everywhere, and with some of its elements replaced.
 fn damaged_samples() -> Vec<Vec<u8>> {
-    let sample = Sample::read();
-    let ends = 0..=sample.octets.len();
-    let mut damaged: Vec<_> = ends.map(|end| sample.octets[..end].to_vec()).collect();
-    for place in &sample.places {
-        damaged.push(sample.with(place.start + 1, 0, 1));
-        damaged.push(sample.with(place.start + 1, 0, 0xFF));
-        damaged.push(sample.with(place.start, CONSTRUCTED, 0));
-        damaged.push(sample.changed(place, place.end..place.end, &[0xC0, 0]));
-        damaged.push(sample.changed(place, place.clone(), &[]));
-        damaged.extend(sample.swapped(place));
-    }
+    let sample = Dissected::of(octets(SAMPLE));
+    let mut damaged = sample.damaged();
     for (at, others) in REPLACED {
-        let place = &sample.places[at];
-        damaged.extend(stretches(others).map(|other| sample.changed(place, place.clone(), &other)));
+        damaged.extend(stretches(others).map(|other| sample.replaced(at, &other)));
     }
     damaged
 }

@@ -1,0 +1,81 @@
+//! Dialogues with the exchange whose replies and tables are stated by hand from document 01.
+
+mod bad_access;
+mod bad_tables;
+mod dead_places;
+mod edges_of_errors;
+mod errors_of_activation;
+mod errors_of_all;
+mod good_codings;
+mod guarded;
+mod identifiers;
+mod lists;
+mod of_document;
+mod precedence;
+mod refusals;
+mod room;
+mod rows_of_arguments;
+mod rows_of_shape;
+mod script;
+mod selection;
+mod words;
+
+use crate::transcript::{expected_line, Transcript};
+
+pub use script::{Dialogue, Turn};
+
+pub fn dialogues() -> Vec<Dialogue> {
+    [
+        of_document::dialogues(),
+        rows_of_shape::dialogues(),
+        rows_of_arguments::dialogues(),
+        good_codings::dialogues(),
+        precedence::dialogues(),
+        errors_of_all::dialogues(),
+        errors_of_activation::dialogues(),
+        edges_of_errors::dialogues(),
+        selection::dialogues(),
+        identifiers::dialogues(),
+        room::dialogues(),
+        lists::dialogues(),
+        refusals::dialogues(),
+        bad_access::dialogues(),
+        bad_tables::dialogues(),
+        dead_places::dialogues(),
+    ]
+    .into_iter()
+    .flatten()
+    .collect()
+}
+
+/// Where this program's own exchange says otherwise than the hand, or leaves another table.
+pub fn disagreements(dialogues: &[Dialogue]) -> Vec<String> {
+    let mut found = Vec::new();
+    for talk in dialogues {
+        for (turn, at) in talk.turns.iter().zip(1..) {
+            let (said, next) = turn.before.answered(&turn.component);
+            if (&said, &next) != (&turn.said, &turn.next) {
+                let stated = expected_line(&turn.said, &turn.next);
+                let answered = expected_line(&said, &next);
+                let name = &talk.name;
+                found.push(format!(
+                    "{name}, component {at}:\nstated   {stated}\nanswered {answered}"
+                ));
+            }
+        }
+    }
+    found
+}
+
+/// The dialogues as lines, with the output stated by hand.
+pub fn transcript(dialogues: &[Dialogue]) -> Transcript {
+    let mut lines = Transcript::empty();
+    for talk in dialogues {
+        lines.remark(&talk.name);
+        for turn in &talk.turns {
+            lines.bring_about(&turn.before);
+            lines.component(&turn.component, &turn.said, &turn.next);
+        }
+    }
+    lines
+}

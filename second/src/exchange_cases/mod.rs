@@ -1,0 +1,158 @@
+//! Cases of the exchange made at random from a seed, as lines with the answers of this program's
+//! exchange, and a tally of what they reached.
+
+mod makings;
+mod reached;
+
+use crate::access_record::access_record;
+use crate::codes::{place, PROCEDURES};
+use crate::made;
+use crate::profile::Profile;
+use crate::random::Random;
+use crate::records_at_random::{access, bad_access, bad_table, table};
+use crate::refusal::COMPONENT_OUTPUT;
+use crate::table::{Table, MOST_INSTANCES};
+use crate::table_record::TableRecord;
+use crate::tally::Tally;
+use crate::transcript::{Situation, Transcript};
+
+pub use makings::Making;
+pub use reached::{Reached, KINDS};
+
+pub struct Cases {
+    pub lines: Transcript,
+    pub tally: Tally<Reached>,
+    random: Random,
+    /// How many are still to be made.
+    left: u64,
+}
+
+/// So many components, the same for the same seed.
+pub fn exchange_cases(seed: u64, count: u64) -> Cases {
+    let mut cases = Cases {
+        lines: Transcript::empty(),
+        tally: Tally::of(&KINDS),
+        random: Random::seeded(seed),
+        left: count,
+    };
+    while cases.left > 0 {
+        // Refused episodes are short, so that most cases get past the refusals.
+        match cases.random.below(12) {
+            0..=5 => cases.refused_episode(),
+            6..=9 => cases.mixed_episode(),
+            10 => cases.growing_episode(),
+            _ => cases.swept_episode(),
+        }
+    }
+    cases
+}
+
+impl Cases {
+    /// A good access with a good table and enough output.
+    fn good_situation(&mut self, profile: &Profile) -> Situation {
+        let random = &mut self.random;
+        let held = made::table(random, profile);
+        Situation {
+            access: access(random, profile),
+            table: table(random, profile, &held),
+            output: random.one_of(&[COMPONENT_OUTPUT, COMPONENT_OUTPUT, 708, 1_024]),
+        }
+    }
+
+    /// One or more refusals at once.
+    fn refused_episode(&mut self) {
+        let profile = made::profile(&mut self.random);
+        let mut situation = self.good_situation(&profile);
+        let random = &mut self.random;
+        let faults = random.one_of(&[1, 2, 2, 4, 4, 3, 6, 7]);
+        if faults & 1 != 0 {
+            situation.output = random.one_of(&[0, 1, 706, 706]);
+        }
+        if faults & 2 != 0 {
+            situation.access = bad_access(random, &profile);
+        }
+        if faults & 4 != 0 {
+            let held = made::table(random, &profile);
+            situation.table = bad_table(random, &profile, &held);
+        }
+        self.lines.bring_about(&situation);
+        for _ in 0..=self.random.below(3) {
+            self.any_component(&profile);
+        }
+    }
+
+    /// Components of every making, one after the other.
+    fn mixed_episode(&mut self) {
+        let profile = made::profile(&mut self.random);
+        let mut situation = self.good_situation(&profile);
+        if self.random.once_in(3) {
+            situation.table = TableRecord::fresh();
+        }
+        self.lines.bring_about(&situation);
+        for _ in 0..self.random.one_of(&[4, 16, 40]) {
+            self.any_component(&profile);
+        }
+    }
+
+    fn any_component(&mut self, profile: &Profile) {
+        let last = i32::from(self.lines.now().table.last);
+        let (making, component) = makings::any(&mut self.random, profile, last);
+        self.case(profile, making, &component);
+    }
+
+    /// One procedure of a wide access, until there is no room.
+    fn growing_episode(&mut self) {
+        let mut profile = made::profile(&mut self.random);
+        while profile.numbers.len() * profile.services.len() <= MOST_INSTANCES {
+            profile = made::profile(&mut self.random);
+        }
+        let procedure = self.random.one_of(&PROCEDURES);
+        if let Some(flag) = place(procedure).and_then(|at| profile.subscribed.get_mut(at)) {
+            *flag = 1;
+        }
+        profile.in_use = 1;
+        let mut situation = self.good_situation(&profile);
+        situation.table = table(&mut self.random, &profile, &Table::fresh());
+        self.lines.bring_about(&situation);
+        for _ in 0..30 {
+            let last = i32::from(self.lines.now().table.last);
+            let (making, component) = makings::growing(&mut self.random, &profile, procedure, last);
+            self.case(&profile, making, &component);
+        }
+    }
+
+    /// One request damaged in every place, each time against the same table.
+    fn swept_episode(&mut self) {
+        let profile = made::profile(&mut self.random);
+        let situation = self.good_situation(&profile);
+        let last = i32::from(situation.table.last);
+        let (making, components) = makings::sweep(&mut self.random, &profile, last);
+        for component in components {
+            self.lines.bring_about(&situation);
+            self.case(&profile, making, &component);
+        }
+    }
+
+    /// The component arrives, unless there are cases enough.
+    fn case(&mut self, profile: &Profile, making: Making, component: &[u8]) {
+        if self.left == 0 {
+            return;
+        }
+        self.left -= 1;
+        let now = self.lines.now();
+        let outcome = now.arrived(component);
+        let mut reached = vec![Reached::Made(making), Reached::Output(now.output)];
+        reached.extend(reached::by(component, &outcome));
+        if let Ok((arrived, next)) = &outcome {
+            let past_counts = now.access != access_record(profile);
+            reached.extend(past_counts.then_some(Reached::AccessRubbish));
+            let kept = *next != TableRecord::of(profile, &arrived.next);
+            reached.extend(kept.then_some(Reached::TableRubbish));
+        }
+        for kind in reached {
+            self.tally.add(kind, 1);
+        }
+        let (said, next) = now.said(outcome);
+        self.lines.component(component, &said, &next);
+    }
+}

@@ -1,0 +1,140 @@
+//! Lines of a dialogue with the exchange: what goes in, and what is expected to come out.
+
+use crate::access_record::read_access;
+use crate::answer::Answer;
+use crate::exchange::{arrive, sizes_fit, Arrived};
+use crate::hexadecimal::joined;
+use crate::refusal::{Refusal, COMPONENT_OUTPUT};
+use crate::table_record::TableRecord;
+
+/// What an exchange says to a component.
+#[derive(Clone, Debug, PartialEq, Eq)]
+pub enum Said {
+    Refused(u8),
+    Silent,
+    Replied(Vec<u8>),
+}
+
+/// What there is when a component arrives.
+#[derive(Clone, Debug, PartialEq, Eq)]
+pub struct Situation {
+    /// The access record, of any size.
+    pub access: Vec<u8>,
+    pub table: TableRecord,
+    /// How many octets of output are lent.
+    pub output: usize,
+}
+
+/// What a component does, and the next table as a record.
+pub type Outcome = Result<(Arrived, TableRecord), Refusal>;
+
+impl Situation {
+    /// No access record, the fresh table, just enough output.
+    pub fn at_the_start() -> Self {
+        Situation {
+            access: Vec::new(),
+            table: TableRecord::fresh(),
+            output: COMPONENT_OUTPUT,
+        }
+    }
+
+    /// What this program's exchange says, and the table it leaves.
+    pub fn answered(&self, component: &[u8]) -> (Said, TableRecord) {
+        self.said(self.arrived(component))
+    }
+
+    pub fn said(&self, outcome: Outcome) -> (Said, TableRecord) {
+        match outcome {
+            Err(refusal) => (Said::Refused(refusal.number()), self.table.clone()),
+            Ok((arrived, next)) => match arrived.answer {
+                Answer::Silence => (Said::Silent, next),
+                answer => (Said::Replied(answer.written()), next),
+            },
+        }
+    }
+
+    /// Refusals lowest number first: a record is read only after the sizes are judged.
+    pub fn arrived(&self, component: &[u8]) -> Outcome {
+        let mut output = vec![0; self.output];
+        sizes_fit(&output, component)?;
+        let profile = read_access(&self.access)?;
+        profile.check()?;
+        let table = self.table.read(&profile)?;
+        let arrived = arrive(&mut output, component, &profile, &table)?;
+        let next = self.table.after(&profile, &arrived);
+        Ok((arrived, next))
+    }
+}
+
+/// The lines so far, and the situation they lead to.
+pub struct Transcript {
+    pub input: String,
+    pub expected: String,
+    now: Situation,
+}
+
+impl Transcript {
+    pub fn empty() -> Self {
+        Transcript {
+            input: String::new(),
+            expected: String::new(),
+            now: Situation::at_the_start(),
+        }
+    }
+
+    pub fn now(&self) -> &Situation {
+        &self.now
+    }
+
+    pub fn remark(&mut self, text: &str) {
+        for lines in [&mut self.input, &mut self.expected] {
+            lines.push_str("# ");
+            lines.push_str(text);
+            lines.push('\n');
+        }
+    }
+
+    /// Tells of the situation only what is not so already.
+    pub fn bring_about(&mut self, wanted: &Situation) {
+        if self.now.access != wanted.access {
+            self.line("access", &joined(&wanted.access));
+        }
+        if self.now.table != wanted.table {
+            self.line("table", &joined(&wanted.table.octets()));
+        }
+        if self.now.output != wanted.output {
+            self.line("output", &wanted.output.to_string());
+        }
+        self.now.clone_from(wanted);
+    }
+
+    /// A component arrives; the next table is the one there is from now on.
+    pub fn component(&mut self, octets: &[u8], said: &Said, next: &TableRecord) {
+        self.line("component", &joined(octets));
+        self.expected.push_str(&expected_line(said, next));
+        self.expected.push('\n');
+        self.now.table.clone_from(next);
+    }
+
+    /// A word with nothing after it ends the line.
+    fn line(&mut self, word: &str, rest: &str) {
+        self.input.push_str(word);
+        if !rest.is_empty() {
+            self.input.push(' ');
+            self.input.push_str(rest);
+        }
+        self.input.push('\n');
+    }
+}
+
+/// No exchange may touch the output outside its reply, so `kept` is always expected.
+pub fn expected_line(said: &Said, next: &TableRecord) -> String {
+    let mut line = match said {
+        Said::Refused(number) => format!("refused {number}"),
+        Said::Silent => "silent".to_string(),
+        Said::Replied(octets) => format!("replied {}", joined(octets)),
+    };
+    line.push_str(" kept table ");
+    line.push_str(&joined(&next.octets()));
+    line
+}
