@@ -2,13 +2,14 @@
 // problem or the error value; the identifier follows.
 use crate::line;
 use crate::say;
-use crate::writers::untouched;
 use answers::Answer;
 use answers::Problem;
 use answers::Whose;
 use answers::put_answer;
 use lists::Entries;
 use lists::no_entries;
+use text::all_outside;
+use text::last_number;
 
 // Room for more than the longest answer, and what its octets hold beforehand.
 const SIZE: usize = 720;
@@ -25,7 +26,7 @@ pub(crate) fn begins(word: &[u8], start: &[u8]) -> bool {
 
 // The answer that a line names.
 fn answer_of(word: &[u8], text: &[u8]) -> Answer {
-    let value = (line::number(word) % 256) as u8;
+    let value = (last_number(word) % 256) as u8;
     let identifier = line::identifier(text);
     if begins(word, b"answer-null-") {
         return Answer::Reject {
@@ -74,7 +75,7 @@ pub(crate) fn whole(answer: Answer, list: Entries) -> usize {
         return 0;
     }
     say::octets(&out[..n]);
-    if !untouched(&out, 0, n) {
+    if !all_outside(&out, 0, n, BEFORE) {
         say::text(b"!");
     }
     say::text(b" room ");
@@ -92,7 +93,7 @@ pub(crate) fn smaller(answer: Answer, list: Entries, size: usize) {
         say::text(b"!");
         return;
     }
-    if untouched(&out, 0, 0) {
+    if all_outside(&out, 0, 0, BEFORE) {
         say::text(b".");
     } else {
         say::text(b"!");

@@ -1,42 +1,9 @@
 // A line of the cases: a kind, then octets in hexadecimal or one number, separated by single spaces.
-ghost use Prim.Native.Nat.{_≤_, _<_};
+use text::find;
+use text::last_number;
+use text::octet_of;
+ghost use Prim.Native.Nat.{_≤_};
 ghost use lib.ListN.{length};
-
-// The first place from `at` on that holds `wanted`, or the end of `s`.
-pub(crate) fn find(s: &[u8], at: usize, wanted: u8) -> usize
-    requires { ⌜ at ≤ length (now s) ⌝ }
-    ensures { λ r. ⌜ (at ≤ r) × (r ≤ length (now (s .entry))) ⌝ }
-{
-    let mut i = at;
-    while i < s.len() {
-        if s[i] == wanted {
-            return i;
-        }
-        i += 1;
-    }
-    i
-}
-
-// What a hexadecimal digit stands for; 0 for any other character.
-fn digit(c: u8) -> u8
-    ensures { λ r. ⌜ r < 16 ⌝ }
-{
-    if b'0' <= c {
-        if c <= b'9' {
-            return c - b'0';
-        }
-    }
-    if b'A' <= c {
-        if c <= b'F' {
-            return c - b'A' + 10;
-        }
-    }
-    0
-}
-
-fn octet(high: u8, low: u8) -> u8 {
-    digit(high) * 16 + digit(low)
-}
 
 // Puts the octets of the words from `at` on at the start of `out`, as many as it has room for, and answers how many there are.
 pub(crate) fn octets(s: &[u8], at: usize, out: &mut [u8]) -> usize
@@ -51,7 +18,7 @@ pub(crate) fn octets(s: &[u8], at: usize, out: &mut [u8]) -> usize
         if s.len() - i < 3 {
             return n;
         }
-        out[n] = octet(s[i + 1], s[i + 2]);
+        out[n] = octet_of(s[i + 1], s[i + 2]);
         n += 1;
         i += 3;
     }
@@ -64,23 +31,7 @@ pub(crate) fn tag(s: &[u8]) -> u8 {
     if s.len() - at < 3 {
         return 0;
     }
-    octet(s[at + 1], s[at + 2])
-}
-
-// The number of the last word without its sign, if it is below 2 to the 32nd.
-pub(crate) fn number(s: &[u8]) -> u32 {
-    let mut n: u64 = 0;
-    let mut i = 0;
-    while i < s.len() {
-        let c = s[i];
-        if c == b' ' {
-            n = 0;
-        } else {
-            n = (n * 10 + (digit(c) as u64)) % 4294967296;
-        }
-        i += 1;
-    }
-    n as u32
+    octet_of(s[at + 1], s[at + 2])
 }
 
 // The number that stands `n` places below -1.
@@ -91,7 +42,7 @@ pub(crate) fn below_zero(n: u32) -> i16 {
 // The number of the last word as an identifier, which it is negative for after " -".
 pub(crate) fn identifier(s: &[u8]) -> i16 {
     let at = find(s, 0, b' ');
-    let n = number(s);
+    let n = last_number(s);
     if s.len() - at < 2 {
         return 0;
     }

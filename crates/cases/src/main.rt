@@ -11,6 +11,7 @@ mod say;
 mod writers;
 
 use readers::Reader;
+use text::find;
 
 // Room for all cases; more is said to be too much.
 const SPACE: usize = 262144;
@@ -28,7 +29,7 @@ fn main() {
 fn each_line(s: &[u8]) {
     let mut at = 0;
     while at < s.len() {
-        let end = line::find(s, at, b'\n');
+        let end = find(s, at, b'\n');
         case(&s[at..end]);
         say::text(b"\n");
         at = end + 1;
@@ -47,7 +48,7 @@ fn arrived(exchange: bool, word: &[u8], text: &[u8]) {
 }
 
 fn case(text: &[u8]) {
-    let end = line::find(text, 0, b' ');
+    let end = find(text, 0, b' ');
     let component = check::same(&text[..end], b"component");
     let reply = answered::begins(&text[..end], b"reply-");
     if component || reply {

@@ -4,48 +4,25 @@ use lists::Entries;
 use lists::Entry;
 use lists::LIMIT;
 use lists::no_entries;
-use numbers::Address;
 use numbers::Number;
-use octets::put_all;
+use text::address_of;
+use text::number_of;
 ghost use Prim.Native.Nat.{_≤_};
 ghost use lib.ListN.{length};
 
 // The octets of an entry's record.
 const RECORD: usize = 69;
 
-fn twenty_of(s: &[u8]) -> [u8; 20] {
-    let mut octets = [0u8; 20];
-    put_all(&mut octets, 0, s);
-    octets
-}
-
-fn number_of(s: &[u8]) -> Number
-    requires { ⌜ 23 ≤ length (now s) ⌝ }
-{
-    let digits = twenty_of(&s[3..23]);
-    Number {
-        form: s[0],
-        kind: s[1],
-        count: s[2],
-        digits,
-    }
-}
-
 fn entry_of(s: &[u8]) -> Entry
     requires { ⌜ 69 ≤ length (now s) ⌝ }
 {
     let served = number_of(&s[..23]);
-    let number = number_of(&s[25..48]);
-    let sub = twenty_of(&s[49..69]);
+    let address = address_of(&s[25..69]);
     Entry {
         served,
         service: s[23],
         procedure: s[24],
-        address: Address {
-            number,
-            subcount: s[48],
-            sub,
-        },
+        address,
     }
 }
 

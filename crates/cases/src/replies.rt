@@ -1,13 +1,13 @@
 // The cases of replies: what a component says to the end whose request, with identifier 5, is outstanding. The kind's word ends in
 // the request's operation.
-use crate::line;
 use crate::say;
 use answers::Reply;
+use text::last_number;
 
 pub(crate) const IDENTIFIER: i16 = 5;
 
 pub(crate) fn replied(word: &[u8], s: &[u8]) {
-    let operation = (line::number(word) % 256) as u8;
+    let operation = (last_number(word) % 256) as u8;
     let reply = answers::reply_to(s, IDENTIFIER, operation);
     match reply {
         Reply::Listed { at, end } => {

@@ -1,4 +1,5 @@
 // What is printed.
+use text::hex_character;
 
 pub(crate) fn text(s: &[u8]) {
     io::write_all(libc::STDOUT_FILENO, s);
@@ -8,15 +9,9 @@ pub(crate) fn decimal(n: usize) {
     io::print_decimal(libc::STDOUT_FILENO, n as u64);
 }
 
-// The digit for `n % 16`.
-fn glyph(n: u8) -> u8 {
-    let d = n % 16;
-    if d < 10 { b'0' + d } else { b'A' + (d - 10) }
-}
-
 // An octet in hexadecimal.
 pub(crate) fn octet(b: u8) {
-    text(&[glyph(b / 16), glyph(b)]);
+    text(&[hex_character(b / 16), hex_character(b)]);
 }
 
 // Octets in hexadecimal, separated by spaces.

@@ -1,6 +1,8 @@
 // The writing cases of the crate octets: each is written between octets that must stay, and then into every smaller room.
 use crate::line;
 use crate::say;
+use text::all_outside;
+use text::last_number;
 
 // A writer of the crate octets.
 pub(crate) enum Writer {
@@ -51,7 +53,7 @@ pub(crate) fn with_and_without_room(by: Writer, line: &[u8]) {
         smaller(by, size, line);
         size += 1;
     }
-    if !untouched(&out, AT, next) {
+    if !all_outside(&out, AT, next, BEFORE) {
         say::text(b"!");
     }
 }
@@ -67,30 +69,15 @@ fn smaller(by: Writer, size: usize, line: &[u8]) {
         say::text(b"!");
         return;
     }
-    if untouched(&out, 0, 0) {
+    if all_outside(&out, 0, 0, BEFORE) {
         say::text(b".");
     } else {
         say::text(b"!");
     }
 }
 
-// Whether every octet of `s` but those from `from` up to `to` is as it was.
-pub(crate) fn untouched(s: &[u8], from: usize, to: usize) -> bool {
-    let mut i = 0;
-    while i < s.len() {
-        let inside = from <= i && i < to;
-        if !inside {
-            if s[i] != BEFORE {
-                return false;
-            }
-        }
-        i += 1;
-    }
-    true
-}
-
 fn writes(by: Writer, out: &mut [u8], line: &[u8]) -> usize {
-    let number = line::number(line);
+    let number = last_number(line);
     match by {
         Writer::Head => octets::put_head(out, AT, line::tag(line), (number % 65536) as u16),
         Writer::Enumerated => octets::put_enumerated(out, AT, (number % 256) as u8),

@@ -9,3 +9,4 @@ pub mod OnlyNumbers
 pub mod OnlyOctets
 pub mod OnlyRules
 pub mod OnlyStore
+pub mod OnlyText

@@ -22,11 +22,11 @@ slice-aggregate-octets c = simp length-take (omega arith)
 octets-requires : tie.Need-octets-requires
 octets-requires c κs = search needs
 
-slice-aggregate-untouched : tie.Need-slice-aggregate-untouched
-slice-aggregate-untouched c = search needs
+slice-aggregate-all-outside : tie.Need-slice-aggregate-all-outside
+slice-aggregate-all-outside c = search needs
 
-untouched-requires : tie.Need-untouched-requires
-untouched-requires c κs = search needs
+all-outside-requires : tie.Need-all-outside-requires
+all-outside-requires c κs = search needs
 
 slice-aggregate-text : tie.Need-slice-aggregate-text
 slice-aggregate-text c = search needs
@@ -53,8 +53,8 @@ whole-spec =
     array-share-prefix-out
     slice-aggregate-octets
     octets-requires
-    slice-aggregate-untouched
-    untouched-requires
+    slice-aggregate-all-outside
+    all-outside-requires
     slice-aggregate-text
     text-requires
     slice-aggregate-text-2

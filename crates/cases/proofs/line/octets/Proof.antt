@@ -29,20 +29,20 @@ same-length-2 c = search needs
 returns-2 : tie.Need-returns-2 Inv-loop μ-loop
 returns-2 c = search needs
 
-add-octet : tie.Need-add-octet Inv-loop μ-loop
-add-octet c = search needs
+add-octet-of : tie.Need-add-octet-of Inv-loop μ-loop
+add-octet-of c = search needs
 
-shared-slice-read-octet : tie.Need-shared-slice-read-octet Inv-loop μ-loop
-shared-slice-read-octet c = search needs
+shared-slice-read-octet-of : tie.Need-shared-slice-read-octet-of Inv-loop μ-loop
+shared-slice-read-octet-of c = search needs
 
-add-octet-2 : tie.Need-add-octet-2 Inv-loop μ-loop
-add-octet-2 c = search needs
+add-octet-of-2 : tie.Need-add-octet-of-2 Inv-loop μ-loop
+add-octet-of-2 c = search needs
 
-shared-slice-read-octet-2 : tie.Need-shared-slice-read-octet-2 Inv-loop μ-loop
-shared-slice-read-octet-2 c = search needs
+shared-slice-read-octet-of-2 : tie.Need-shared-slice-read-octet-of-2 Inv-loop μ-loop
+shared-slice-read-octet-of-2 c = search needs
 
-octet-requires : tie.Need-octet-requires Inv-loop μ-loop
-octet-requires c κs = search needs
+octet-of-requires : tie.Need-octet-of-requires Inv-loop μ-loop
+octet-of-requires c κs = search needs
 
 slice-write-out : tie.Need-slice-write-out Inv-loop μ-loop
 slice-write-out c = search needs
@@ -77,11 +77,11 @@ octets-spec =
     sub-if2
     same-length-2
     returns-2
-    add-octet
-    shared-slice-read-octet
-    add-octet-2
-    shared-slice-read-octet-2
-    octet-requires
+    add-octet-of
+    shared-slice-read-octet-of
+    add-octet-of-2
+    shared-slice-read-octet-of-2
+    octet-of-requires
     slice-write-out
     add-n
     add-i

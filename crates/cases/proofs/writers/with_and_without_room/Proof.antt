@@ -51,11 +51,11 @@ loop-less c = search needs
 loop-again : tie.Need-loop-again Inv-loop μ-loop
 loop-again c = search needs
 
-slice-aggregate-untouched : tie.Need-slice-aggregate-untouched Inv-loop μ-loop
-slice-aggregate-untouched c = search needs
+slice-aggregate-all-outside : tie.Need-slice-aggregate-all-outside Inv-loop μ-loop
+slice-aggregate-all-outside c = search needs
 
-untouched-requires : tie.Need-untouched-requires Inv-loop μ-loop
-untouched-requires c κs = search needs
+all-outside-requires : tie.Need-all-outside-requires Inv-loop μ-loop
+all-outside-requires c κs = search needs
 
 slice-aggregate-text-2 : tie.Need-slice-aggregate-text-2 Inv-loop μ-loop
 slice-aggregate-text-2 c = search needs
@@ -89,8 +89,8 @@ with-and-without-room-spec =
     add-size
     loop-less
     loop-again
-    slice-aggregate-untouched
-    untouched-requires
+    slice-aggregate-all-outside
+    all-outside-requires
     slice-aggregate-text-2
     text-requires-2
     returns-3

@@ -1,0 +1,131 @@
+// A dialogue with the exchange: what there is, and what each line makes of it.
+use crate::line;
+use crate::line::Kind;
+use crate::line::kind_of;
+use crate::said::BEFORE;
+use crate::said::LENT;
+use crate::said::MARGIN;
+use crate::said::OUTPUTMOST;
+use crate::said::outcome_said;
+use crate::say;
+use crate::tables::say_table;
+use crate::tables::table_of;
+use exchange::Table;
+use exchange::fresh_table;
+use text::find;
+use text::last_number;
+
+// The most octets of an access record, of a table and of a component in a line.
+const ACCESSMOST: usize = 512;
+
+const TABLEMOST: usize = 3500;
+
+const COMPONENTMOST: usize = 1100;
+
+// The access record is the first `size` octets of `access`; the output has `output` octets.
+pub(crate) struct Dialogue {
+    access: [u8; ACCESSMOST],
+    size: usize,
+    table: Table,
+    output: usize,
+}
+
+pub(crate) fn begun() -> Dialogue {
+    let table = fresh_table();
+    Dialogue {
+        access: [0; ACCESSMOST],
+        size: 0,
+        table,
+        output: 707,
+    }
+}
+
+fn with_table(d: Dialogue, table: Table) -> Dialogue {
+    let access = d.access;
+    Dialogue {
+        access,
+        size: d.size,
+        table,
+        output: d.output,
+    }
+}
+
+fn access_line(d: Dialogue, text: &[u8], at: usize) -> Dialogue {
+    let mut access = [0u8; ACCESSMOST];
+    let size = line::octets(text, at, &mut access);
+    let table = d.table;
+    Dialogue {
+        access,
+        size,
+        table,
+        output: d.output,
+    }
+}
+
+fn table_line(d: Dialogue, text: &[u8], at: usize) -> Dialogue {
+    let mut octets = [0u8; TABLEMOST];
+    let n = line::octets(text, at, &mut octets);
+    let table = table_of(&octets[..n]);
+    with_table(d, table)
+}
+
+fn output_line(d: Dialogue, text: &[u8]) -> Dialogue {
+    let output = last_number(text) as usize;
+    let access = d.access;
+    let table = d.table;
+    Dialogue {
+        access,
+        size: d.size,
+        table,
+        output,
+    }
+}
+
+// The component arrives; the next table is the one there is from now on.
+fn arrived(d: Dialogue, access: &[u8], component: &[u8]) -> Dialogue {
+    let table = d.table;
+    let output = d.output;
+    if OUTPUTMOST < output {
+        say::text(b"unknown\n");
+        return d;
+    }
+    let mut lent = [BEFORE; LENT];
+    let next = table.arrive(access, component, &mut lent[MARGIN..MARGIN + output]);
+    let outcome = next.outcome;
+    let table = next.table;
+    outcome_said(outcome, &lent, output, next.count);
+    say_table(table);
+    with_table(d, table)
+}
+
+fn component_line(d: Dialogue, text: &[u8], at: usize) -> Dialogue {
+    let mut component = [0u8; COMPONENTMOST];
+    let n = line::octets(text, at, &mut component);
+    let access = d.access;
+    let size = d.size;
+    if ACCESSMOST < size {
+        return d;
+    }
+    arrived(d, &access[..size], &component[..n])
+}
+
+// What there is after a line.
+pub(crate) fn after(d: Dialogue, text: &[u8]) -> Dialogue {
+    let end = find(text, 0, b' ');
+    let at = end + 1;
+    match kind_of(&text[..end]) {
+        Kind::Component => component_line(d, text, at),
+        Kind::Access => access_line(d, text, at),
+        Kind::Table => table_line(d, text, at),
+        Kind::Output => output_line(d, text),
+        Kind::Remark => {
+            say::text(text);
+            say::text(b"\n");
+            d
+        }
+        Kind::Unknown => {
+            say::text(b"unknown\n");
+            d
+        }
+    }
+}

@@ -1,0 +1,37 @@
+-- Each promise of the crate text admits one answer. Assumes nothing.
+use Prim.Native.Nat.{ℕ}
+use mathlib.Core.Path.{_≡_}
+use mathlib.Core.Bool.{Bool}
+use mathlib.Core.List.{List}
+use Rattle.laws.proofs.Picks.{both}
+use Rattle.numbers.specs.declared.number.Number.{Number}
+use Rattle.numbers.specs.declared.address.Address.{Address}
+use Rattle.text.specs.Hex.{HexDigit, OctetOf, HexCharacter}
+use Rattle.text.specs.Line.{Find, LastNumber}
+use Rattle.text.specs.Outside.{AllOutside}
+use Rattle.text.specs.Record.{NumberOf, AddressOf}
+
+pub only-hex-digit : (c : ℕ) {a b : ℕ} → HexDigit c a → HexDigit c b → a ≡ b
+only-hex-digit c = both
+
+pub only-octet-of : (high low : ℕ) {a b : ℕ} → OctetOf high low a → OctetOf high low b → a ≡ b
+only-octet-of high low = both
+
+pub only-hex-character : (n : ℕ) {a b : ℕ} → HexCharacter n a → HexCharacter n b → a ≡ b
+only-hex-character n = both
+
+pub only-find : (s : List ℕ) (at wanted : ℕ) {a b : ℕ} → Find s at wanted a → Find s at wanted b → a ≡ b
+only-find s at wanted p q = both (p .is) (q .is)
+
+pub only-last-number : (s : List ℕ) {a b : ℕ} → LastNumber s a → LastNumber s b → a ≡ b
+only-last-number s = both
+
+pub only-all-outside :
+    (s : List ℕ) (from to octet : ℕ) {a b : Bool} → AllOutside s from to octet a → AllOutside s from to octet b → a ≡ b
+only-all-outside s from to octet = both
+
+pub only-number-of : (s : List ℕ) {a b : Number} → NumberOf s a → NumberOf s b → a ≡ b
+only-number-of s = both
+
+pub only-address-of : (s : List ℕ) {a b : Address} → AddressOf s a → AddressOf s b → a ≡ b
+only-address-of s = both
