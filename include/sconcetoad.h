@@ -1,4 +1,5 @@
-/* The border to C of the proved library. Pointers must be valid for the length that goes with them; nothing is kept after a call. */
+/* The border to C of the proved library. Pointers must be valid for the length that goes with them, also where it is 0, and what they
+   lend must not overlap; nothing is kept after a call. docs/RECORDS.md has every record octet by octet. */
 #ifndef SCONCETOAD_H
 #define SCONCETOAD_H
 
@@ -78,5 +79,62 @@ struct sconcetoad_told sconcetoad_list(const uint8_t *component, size_t length, 
 /* Writes the result of an interrogation at the start of `out` and answers how many octets it takes, at most 707; where there is
    no room it writes nothing and answers 0. Octets after the result are not altered. */
 size_t sconcetoad_put_list(uint8_t *out, size_t length, int16_t identifier, struct sconcetoad_entries list);
+
+/* What a procedure holds: a cell for each place, that is each number and service of the profile, 6 x number + service by their places
+   there. A cell whose service is 0 holds no instance, and then its address carries no meaning. */
+#define SCONCETOAD_PLACES 24
+
+struct sconcetoad_cell {
+    uint8_t service;
+    struct sconcetoad_address address;
+};
+
+struct sconcetoad_row {
+    struct sconcetoad_cell cells[SCONCETOAD_PLACES];
+};
+
+/* The rows of cfu, cfb and cfnr. */
+#define SCONCETOAD_PROCEDURES 3
+
+struct sconcetoad_grid {
+    struct sconcetoad_row rows[SCONCETOAD_PROCEDURES];
+};
+
+/* The table of an access: the last handled identifier, 0 to 32,767, and the instances. */
+#define SCONCETOAD_TABLE 3242
+
+struct sconcetoad_table {
+    uint16_t last;
+    struct sconcetoad_grid grid;
+};
+
+/* The table of a new access. */
+struct sconcetoad_table sconcetoad_fresh_table(void);
+
+/* The octets of an access record, the least output, and the longest component. */
+#define SCONCETOAD_ACCESS 447
+#define SCONCETOAD_OUTPUT 707
+#define SCONCETOAD_COMPONENT 1024
+
+/* The local refusals of an arrival; 0 where the component is answered. The lowest number that applies is told. */
+enum {
+    SCONCETOAD_ANSWERED = 0,
+    SCONCETOAD_SHORT_OUTPUT = 1,   /* the output has fewer octets than SCONCETOAD_OUTPUT */
+    SCONCETOAD_LONG_COMPONENT = 2, /* the component has more than SCONCETOAD_COMPONENT */
+    SCONCETOAD_BAD_PROFILE = 3,    /* the access record has another size, or breaks a rule */
+    SCONCETOAD_BAD_TABLE = 4       /* the table breaks a rule of that profile */
+};
+
+/* How many octets the reply has, 0 for silence and for a refusal; and the next table. */
+struct sconcetoad_arrival {
+    uint8_t refusal;
+    size_t count;
+    struct sconcetoad_table table;
+};
+
+/* A component arrives at the exchange: the reply is written at the start of `out`, and the next table is handed back. The access record,
+   the component and the octets of `out` after the reply are not altered. A refusal writes nothing and hands back the same table. */
+struct sconcetoad_arrival sconcetoad_arrive(struct sconcetoad_table table, const uint8_t *access, size_t access_length,
+                                            const uint8_t *component, size_t component_length, uint8_t *out, size_t out_length);
 
 #endif

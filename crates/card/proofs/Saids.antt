@@ -7,7 +7,7 @@ use Rattle.coding.specs.Request.{requestRead}
 use Rattle.coding.specs.declared.request.Request.{Request}
 use Rattle.coding.specs.declared.request.RequestRead.{RequestRead}
 use Rattle.card.specs.Said.{nothing, asked}
-use Rattle.card.specs.declared.Said.{Said}
+use Rattle.card.specs.declared.said.Said.{Said}
 
 -- a request that was read is told
 pub asked-found :

@@ -7,7 +7,7 @@ use Rattle.lists.specs.Entries.{entriesRead}
 use Rattle.lists.specs.declared.entry.Entry.{Entry}
 use Rattle.lists.specs.declared.entries.EntriesRead.{EntriesRead}
 use Rattle.card.specs.Told.{nothingTold, toldEntries}
-use Rattle.card.specs.declared.Told.{Told}
+use Rattle.card.specs.declared.list.Told.{Told}
 
 -- entries that were read are told
 pub told-found :

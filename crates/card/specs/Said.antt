@@ -9,7 +9,7 @@ use Rattle.coding.specs.Request.{argumentAt, requestRead}
 use Rattle.coding.specs.declared.heard.Heard.{Heard}
 use Rattle.coding.specs.declared.heard.Heard.the-variants.{NotOne, Silent, OtherTag, NoIdentifier, NoOperation, Asks}
 use Rattle.coding.specs.declared.request.Request.{Request}
-use Rattle.card.specs.declared.Said.{Said}
+use Rattle.card.specs.declared.said.Said.{Said}
 
 -- nothing is asked
 abbrev pub nothing : Said

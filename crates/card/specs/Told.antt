@@ -10,7 +10,7 @@ use Rattle.lists.specs.declared.entry.Entry.{Entry}
 use Rattle.answers.specs.Reply.{reply}
 use Rattle.answers.specs.declared.reply.Reply.{Reply}
 use Rattle.answers.specs.declared.reply.Reply.the-variants.{Dropped, Rejected, Failed, Done, Listed, Wrong}
-use Rattle.card.specs.declared.Told.{Told}
+use Rattle.card.specs.declared.list.Told.{Told}
 
 -- nothing is listed
 abbrev pub nothingTold : Told

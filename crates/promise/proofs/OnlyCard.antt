@@ -1,6 +1,6 @@
 -- Each promise of the crate card admits one answer, and one lent output afterwards. Assumes nothing.
 use Prim.Native.Nat.{ℕ}
-use mathlib.Core.Path.{_≡_}
+use mathlib.Core.Path.{_≡_, ap, _∙_}
 use mathlib.Core.List.{List}
 use lib.IntN.{ℤ}
 use Rattle.laws.proofs.Picks.{both}
@@ -8,8 +8,12 @@ use Rattle.lists.specs.Listed.{PutList}
 use Rattle.lists.specs.declared.entries.Entries.{Entries}
 use Rattle.card.specs.Said.{SaidBy}
 use Rattle.card.specs.Told.{ToldBy}
-use Rattle.card.specs.declared.Said.{Said}
-use Rattle.card.specs.declared.Told.{Told}
+use Rattle.card.specs.Arrival.{ArrivedBy}
+use Rattle.card.specs.declared.said.Said.{Said}
+use Rattle.card.specs.declared.list.Told.{Told}
+use Rattle.card.specs.declared.arrival.Arrival.{Arrival}
+use Rattle.exchange.specs.Table.{FreshTable}
+use Rattle.exchange.specs.declared.table.Table.{Table}
 use Rattle.promise.proofs.OnlyLists.{only-put-list}
 
 pub only-sconcetoad-said : (s : List ℕ) {a b : Said} → SaidBy s a → SaidBy s b → a ≡ b
@@ -23,3 +27,25 @@ pub only-sconcetoad-put-list :
     PutList xs identifier list n zs →
     (m ≡ n) × (ys ≡ zs)
 only-sconcetoad-put-list = only-put-list
+
+pub only-sconcetoad-fresh-table : {a b : Table} → FreshTable a → FreshTable b → a ≡ b
+only-sconcetoad-fresh-table = both
+
+abbrev arrivalOf : ℕ → ℕ → Table → Arrival
+arrivalOf refusal count table = record { refusal = refusal; count = count; table = table }
+
+-- an arrival is its parts
+arrival-same : (r q : Arrival) → r .refusal ≡ q .refusal → r .count ≡ q .count → r .table ≡ q .table → r ≡ q
+arrival-same r q refusal count table =
+    ap (λ (n : ℕ). arrivalOf n (r .count) (r .table)) refusal
+    ∙ ap (λ (n : ℕ). arrivalOf (q .refusal) n (r .table)) count
+    ∙ ap (arrivalOf (q .refusal) (q .count)) table
+
+pub only-sconcetoad-arrive :
+    (access : List ℕ) (t : Table) (s xs : List ℕ) {r q : Arrival} {ys zs : List ℕ} → ArrivedBy access t s xs r ys →
+    ArrivedBy access t s xs q zs →
+    (r ≡ q) × (ys ≡ zs)
+only-sconcetoad-arrive access t s xs {r} {q} a b = (
+  arrival-same r q (both (a .refusal) (b .refusal)) (both (a .count) (b .count)) (both (a .table) (b .table)),
+  both (a .lent) (b .lent),
+)

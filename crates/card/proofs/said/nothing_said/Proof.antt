@@ -1,6 +1,6 @@
 use borrow.Author.Needs.{needs}
-use Rattle.card.proofs.nothing_said.Statement.{statement}
-use Rattle.card.proofs.nothing_said.Tie as tie
+use Rattle.card.proofs.said.nothing_said.Statement.{statement}
+use Rattle.card.proofs.said.nothing_said.Tie as tie
 
 blank-requires : tie.Need-blank-requires
 blank-requires c κs = search needs

@@ -1,6 +1,6 @@
 use borrow.Author.Needs.{needs}
-use Rattle.card.proofs.nothing_told.Statement.{statement}
-use Rattle.card.proofs.nothing_told.Tie as tie
+use Rattle.card.proofs.list.nothing_told.Statement.{statement}
+use Rattle.card.proofs.list.nothing_told.Tie as tie
 
 no-entries-requires : tie.Need-no-entries-requires
 no-entries-requires c κs = search needs

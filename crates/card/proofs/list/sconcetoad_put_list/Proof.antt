@@ -1,7 +1,7 @@
 use mir.Facts.{toZ-ofZ}
 use borrow.Author.Needs.{needs}
-use Rattle.card.proofs.sconcetoad_put_list.Statement.{statement}
-use Rattle.card.proofs.sconcetoad_put_list.Tie as tie
+use Rattle.card.proofs.list.sconcetoad_put_list.Statement.{statement}
+use Rattle.card.proofs.list.sconcetoad_put_list.Tie as tie
 
 put-list-requires : tie.Need-put-list-requires
 put-list-requires c κs = search needs

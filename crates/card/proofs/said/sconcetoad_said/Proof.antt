@@ -6,8 +6,8 @@ use mir.Syntax.{w16}
 use mathlib.Core.Path.{sym, _∙_}
 use borrow.Author.Tests.{not-true, not-false}
 use borrow.Author.Needs.{needs}
-use Rattle.card.proofs.sconcetoad_said.Statement.{statement}
-use Rattle.card.proofs.sconcetoad_said.Tie as tie
+use Rattle.card.proofs.said.sconcetoad_said.Statement.{statement}
+use Rattle.card.proofs.said.sconcetoad_said.Tie as tie
 
 hear-requires : tie.Need-hear-requires
 hear-requires c κs = search needs

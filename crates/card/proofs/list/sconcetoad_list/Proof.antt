@@ -4,8 +4,8 @@ use mir.Facts.{toZ-ofZ}
 use mathlib.Core.Path.{sym, _∙_}
 use borrow.Author.Tests.{not-true, not-false}
 use borrow.Author.Needs.{needs}
-use Rattle.card.proofs.sconcetoad_list.Statement.{statement}
-use Rattle.card.proofs.sconcetoad_list.Tie as tie
+use Rattle.card.proofs.list.sconcetoad_list.Statement.{statement}
+use Rattle.card.proofs.list.sconcetoad_list.Tie as tie
 
 reply-to-requires : tie.Need-reply-to-requires
 reply-to-requires c κs = search needs

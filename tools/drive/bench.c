@@ -1,0 +1,79 @@
+/* One thing, many times over, for tools/count-instructions. */
+#include <stdio.h>
+#include <string.h>
+#include "drive.h"
+
+/* Kept out of sight of the compiler, so that no turn is left out. */
+static volatile uint8_t seen;
+
+static int unlike(const char *what, size_t octets)
+{
+    fprintf(stderr, "drive: %s gives %zu octets\n", what, octets);
+    return 1;
+}
+
+/* A list of eight unknown five-digit numbers: 207 octets. */
+static struct sconcetoad_entries eight(void)
+{
+    struct sconcetoad_entries list;
+    memset(&list, 0, sizeof list);
+    list.count = SCONCETOAD_ENTRIES;
+    for (int i = 0; i < SCONCETOAD_ENTRIES; i++) {
+        struct sconcetoad_entry *e = &list.entries[i];
+        e->served.count = 5;
+        memcpy(e->served.digits, "13579", 5);
+        e->service = (uint8_t)(32 + i);
+        e->procedure = 1;
+        e->address.number.count = 5;
+        memcpy(e->address.number.digits, "24680", 5);
+    }
+    return list;
+}
+
+static int bench_list(const char *what, long turns)
+{
+    struct sconcetoad_entries list = eight();
+    uint8_t out[SCONCETOAD_OUTPUT];
+    size_t length = sconcetoad_put_list(out, sizeof out, 1, list);
+    if (length != 207)
+        return unlike(what, length);
+    for (long i = 0; i < turns; i++) {
+        if (strcmp(what, "write-list") == 0)
+            seen = (uint8_t)sconcetoad_put_list(out, sizeof out, 1, list);
+        else
+            seen = sconcetoad_list(out, length, 1).list.entries[7].address.number.digits[4];
+    }
+    return 0;
+}
+
+static int bench_request(long turns)
+{
+    for (long i = 0; i < turns; i++)
+        seen = sconcetoad_said(activation, ACTIVATION_SIZE).request.to.address.number.digits[4];
+    return 0;
+}
+
+static int bench_arrival(const char *what, const struct occasion *o, long turns)
+{
+    uint8_t out[SCONCETOAD_OUTPUT];
+    for (long i = 0; i < turns; i++) {
+        struct sconcetoad_arrival arrival =
+            sconcetoad_arrive(o->table, o->access, sizeof o->access, o->component, o->size, out, sizeof out);
+        if (arrival.refusal != SCONCETOAD_ANSWERED || arrival.count != o->reply)
+            return unlike(what, arrival.count);
+    }
+    return 0;
+}
+
+int bench(const char *what, long turns)
+{
+    struct occasion occasion;
+    if (strcmp(what, "write-list") == 0 || strcmp(what, "read-list") == 0)
+        return bench_list(what, turns);
+    if (strcmp(what, "read-activation") == 0)
+        return bench_request(turns);
+    if (occasion_named(what, &occasion))
+        return bench_arrival(what, &occasion, turns);
+    fprintf(stderr, "drive: nothing is called %s\n", what);
+    return 2;
+}

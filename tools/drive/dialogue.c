@@ -1,0 +1,126 @@
+/* A dialogue with the exchange, in lines (docs/DIALOGUES.md). */
+#include <stdio.h>
+#include <stdlib.h>
+#include <string.h>
+#include "drive.h"
+
+/* The longest line, and the most octets of what a line sets. */
+#define LINE_MOST 16000
+#define ACCESS_MOST 512
+#define OUTPUT_MOST 1024
+
+static struct lent access_record, component, output;
+static struct sconcetoad_table table;
+static unsigned turn;
+static long line_number;
+
+static int wrong(const char *what)
+{
+    fprintf(stderr, "drive: line %ld: %s\n", line_number, what);
+    return 1;
+}
+
+static int set_octets(struct lent *lent, const char *text, size_t most, const char *otherwise)
+{
+    long count = octets_from(text, lent_octets(lent), most);
+    if (count < 0)
+        return wrong(otherwise);
+    lent->size = (size_t)count;
+    return 0;
+}
+
+static int set_table(const char *text)
+{
+    static uint8_t octets[TABLE_MOST];
+    long count = octets_from(text, octets, sizeof octets);
+    if (count < 0 || !table_from(octets, (size_t)count, &table))
+        return wrong("this is no table");
+    return 0;
+}
+
+static int set_output(const char *text)
+{
+    char *end;
+    unsigned long size = strtoul(text, &end, 10);
+    if (text[0] < '0' || text[0] > '9' || *end || size > OUTPUT_MOST)
+        return wrong("an output has 0 to 1024 octets");
+    output.size = size;
+    return 0;
+}
+
+static void say(const struct sconcetoad_arrival *arrival, int kept)
+{
+    static char line[LINE_MOST];
+    static uint8_t octets[TABLE_MOST];
+    char *at = line;
+    if (arrival->refusal != SCONCETOAD_ANSWERED) {
+        at += sprintf(at, "refused %d", arrival->refusal);
+    } else if (arrival->count == 0) {
+        at += sprintf(at, "silent");
+    } else {
+        at += sprintf(at, "replied ");
+        at = octets_to(at, lent_octets(&output), arrival->count);
+    }
+    at += sprintf(at, " %s table ", kept ? "kept" : "spilled");
+    at = octets_to(at, octets, table_to(octets, &arrival->table));
+    *at++ = '\n';
+    fwrite(line, 1, (size_t)(at - line), stdout);
+}
+
+static int arrive(const char *text)
+{
+    if (set_octets(&component, text, LENT_MOST, "a component has 0 to 1100 octets, in upper-case hexadecimal"))
+        return 1;
+    turn++;
+    lend(&access_record, turn);
+    lend(&component, turn);
+    lend_filled(&output, turn);
+    struct sconcetoad_arrival arrival =
+        sconcetoad_arrive(table, lent_octets(&access_record), access_record.size, lent_octets(&component), component.size,
+                          lent_octets(&output), output.size);
+    size_t written = arrival.refusal == SCONCETOAD_ANSWERED ? arrival.count : 0;
+    if (written > output.size)
+        return wrong("the reply is longer than the output");
+    int kept = lent_kept(&access_record, 0) && lent_kept(&component, 0) && lent_kept(&output, written);
+    say(&arrival, kept);
+    table = arrival.table;
+    return 0;
+}
+
+/* A line is a word and what stands after one space, or the word alone. */
+static int obey(char *line)
+{
+    if (line[0] == '#')
+        return puts(line) == EOF;
+    char *rest = strchr(line, ' ');
+    if (rest)
+        *rest++ = '\0';
+    else
+        rest = line + strlen(line);
+    if (strcmp(line, "access") == 0)
+        return set_octets(&access_record, rest, ACCESS_MOST, "an access record has 0 to 512 octets, in upper-case hexadecimal");
+    if (strcmp(line, "table") == 0)
+        return set_table(rest);
+    if (strcmp(line, "output") == 0)
+        return set_output(rest);
+    if (strcmp(line, "component") == 0)
+        return arrive(rest);
+    return wrong("this is no line of a dialogue");
+}
+
+int dialogue(void)
+{
+    static char line[LINE_MOST + 2];
+    output.size = SCONCETOAD_OUTPUT;
+    table = sconcetoad_fresh_table();
+    while (fgets(line, sizeof line, stdin)) {
+        line_number++;
+        size_t length = strcspn(line, "\n");
+        if (length > LINE_MOST)
+            return wrong("a line has at most 16000 characters");
+        line[length] = '\0';
+        if (obey(line))
+            return 1;
+    }
+    return 0;
+}

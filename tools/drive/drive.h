@@ -1,0 +1,69 @@
+/* The parts of the driver. */
+#ifndef DRIVE_H
+#define DRIVE_H
+
+#include <stddef.h>
+#include <stdint.h>
+#include "../../include/sconcetoad.h"
+
+/* ---- octets.c: octets and tables as lines have them */
+
+/* Reads upper-case hexadecimal to the end of the text; answers how many octets, or -1 where it is none or more than `most`. */
+long octets_from(const char *text, uint8_t *octets, size_t most);
+
+/* Writes hexadecimal and answers where it ends. */
+char *octets_to(char *at, const uint8_t *octets, size_t count);
+
+/* The most octets of a table in a line: the identifier, and every cell with its place. */
+#define TABLE_MOST (2 + 3 * SCONCETOAD_PLACES * 46)
+
+/* Answers whether the octets are a table. */
+int table_from(const uint8_t *octets, size_t count, struct sconcetoad_table *table);
+
+size_t table_to(uint8_t *octets, const struct sconcetoad_table *table);
+
+/* ---- lent.c: what is lent to the library, and whether it was kept */
+
+#define LENT_MOST 1100
+#define LENT_GUARD 8
+
+/* `size` octets between two guards, and a copy of all three from before the call. */
+struct lent {
+    size_t size;
+    uint8_t octets[LENT_GUARD + LENT_MOST + LENT_GUARD];
+    uint8_t before[LENT_GUARD + LENT_MOST + LENT_GUARD];
+};
+
+uint8_t *lent_octets(struct lent *lent);
+
+/* Gives it other guards than at the last turn. */
+void lend(struct lent *lent, unsigned turn);
+
+/* Gives it other octets too. */
+void lend_filled(struct lent *lent, unsigned turn);
+
+/* Whether the guards and the octets from `from` on are as they were. */
+int lent_kept(const struct lent *lent, size_t from);
+
+/* ---- occasions.c: arrivals that are measured */
+
+#define ACTIVATION_SIZE 27
+
+extern const uint8_t activation[ACTIVATION_SIZE];
+
+struct occasion {
+    struct sconcetoad_table table;
+    uint8_t access[SCONCETOAD_ACCESS];
+    const uint8_t *component;
+    size_t size;
+    size_t reply;
+};
+
+int occasion_named(const char *name, struct occasion *occasion);
+
+/* ---- what the driver does */
+
+int dialogue(void);
+int bench(const char *what, long turns);
+
+#endif
