@@ -1,5 +1,6 @@
 //! The access record: a profile in 447 octets.
 
+use crate::codes::place;
 use crate::numbers::Number;
 use crate::profile::Profile;
 use crate::records::{
@@ -97,6 +98,12 @@ fn read_numbers(record: &[u8; ACCESS_OCTETS]) -> Option<Vec<Number>> {
         .chunks(NUMBER_OCTETS)
         .map(read_number_record)
         .collect()
+}
+
+/// A number's octets as they stand, places past its count included.
+pub fn number_octets(record: &[u8], index: i32) -> Option<&[u8]> {
+    let mut numbers = record.get(NUMBERS..SERVICE_COUNT)?.chunks(NUMBER_OCTETS);
+    numbers.nth(place(index)?)
 }
 
 fn read_prefixes(record: &[u8; ACCESS_OCTETS]) -> Option<Vec<Vec<u8>>> {

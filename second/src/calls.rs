@@ -41,6 +41,17 @@ pub enum Notice {
     DivertingTo(Number),
 }
 
+impl Notice {
+    /// The option that gives it.
+    pub fn number(&self) -> i32 {
+        match self {
+            Notice::None => 0,
+            Notice::Diverting => 1,
+            Notice::DivertingTo(_) => 2,
+        }
+    }
+}
+
 #[derive(Clone, Debug, PartialEq, Eq)]
 pub struct Diverted {
     pub counter: i32,
@@ -78,8 +89,14 @@ impl Call {
             && [PREFERRED, NOT_REQUIRED, REQUIRED].contains(&self.preference)
     }
 
-    fn first_diversion(&self) -> bool {
+    pub fn first_diversion(&self) -> bool {
         self.counter == 0
+    }
+
+    /// The key of the instance it looks at: offered at cfu, busy at cfb, no reply at cfnr, which
+    /// have the same numbers.
+    pub fn key(&self) -> (i32, i32, i32) {
+        (self.event, self.number, self.service)
     }
 }
 
@@ -104,9 +121,8 @@ pub fn call(profile: &Profile, table: &Table, call: &Call) -> Result<CallOutcome
 
 /// The instance the event looks at; none while the access is not in use (A52).
 fn applying<'a>(profile: &Profile, table: &'a Table, call: &Call) -> Option<&'a Instance> {
-    let key = (call.event, call.number, call.service);
     let mut instances = table.instances.iter();
-    instances.find(|instance| profile.in_use == 1 && instance.key() == key)
+    instances.find(|instance| profile.in_use == 1 && instance.key() == call.key())
 }
 
 fn divert(profile: &Profile, served: &Number, instance: &Instance, call: &Call) -> Diverted {

@@ -9,7 +9,12 @@
 
 pub mod access_record;
 pub mod answer;
+pub mod call_answer;
+pub mod call_cases;
+pub mod call_dialogues;
+pub mod call_record;
 pub mod calls;
+pub mod cases;
 pub mod codes;
 pub mod damaged;
 pub mod dialogues;
@@ -26,6 +31,7 @@ pub mod loose;
 pub mod loose_parts;
 pub mod made;
 pub mod numbers;
+pub mod onward_record;
 pub mod path;
 pub mod profile;
 pub mod random;

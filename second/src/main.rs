@@ -5,7 +5,10 @@ use std::io::{self, Read, Write};
 use std::path::Path;
 use std::process::ExitCode;
 
-use second::dialogues::{dialogues, disagreements, transcript};
+use second::call_cases::call_cases;
+use second::call_dialogues::call_dialogues;
+use second::cases::Cases;
+use second::dialogues::{dialogues, disagreements, transcript, Dialogue};
 use second::exchange_cases::exchange_cases;
 use second::list_cases::list_cases;
 use second::listing::printed;
@@ -26,6 +29,11 @@ second exchange-cases SEED COUNT DIR
                            write so many components made from the seed, with the answers of this
                            program's exchange: DIR/stdin and DIR/stdout; prints how often each
                            kind was reached; a kind never reached ends with exit code 1
+second call-dialogues DIR  write dialogues of calls, what becomes of each stated by hand; files and
+                           exit code as for dialogues
+second call-cases SEED COUNT DIR
+                           write so many calls made from the seed, with what this program makes of
+                           them; files, tally and exit code as for exchange-cases
 second help                this text
 ";
 
@@ -42,11 +50,14 @@ fn main() -> ExitCode {
             _ => misused(),
         },
         ["list-cases", directory] => write_list_cases(Path::new(directory)),
-        ["dialogues", directory] => write_dialogues(Path::new(directory)),
-        ["exchange-cases", seed, count, directory] => match (seed.parse(), count.parse()) {
-            (Ok(seed), Ok(count)) => write_exchange_cases(seed, count, Path::new(directory)),
-            _ => misused(),
-        },
+        ["dialogues", directory] => write_dialogues(&dialogues(), Path::new(directory)),
+        ["call-dialogues", directory] => write_dialogues(&call_dialogues(), Path::new(directory)),
+        ["exchange-cases", seed, count, directory] => {
+            write_cases(exchange_cases, "components", [seed, count], directory)
+        }
+        ["call-cases", seed, count, directory] => {
+            write_cases(call_cases, "calls", [seed, count], directory)
+        }
         ["help"] => print(HELP).map(|()| ExitCode::SUCCESS),
         _ => misused(),
     };
@@ -91,21 +102,30 @@ fn write_both(directory: &Path, input: &str, expected: &str) -> io::Result<()> {
     fs::write(directory.join("stdout"), expected)
 }
 
-fn write_dialogues(directory: &Path) -> io::Result<ExitCode> {
-    let all = dialogues();
-    let lines = transcript(&all);
+fn write_dialogues(all: &[Dialogue], directory: &Path) -> io::Result<ExitCode> {
+    let lines = transcript(all);
     write_both(directory, &lines.input, &lines.expected)?;
-    let found = disagreements(&all);
+    let found = disagreements(all);
     for one in &found {
         print(&format!("{one}\n"))?;
     }
     Ok(ExitCode::from(u8::from(!found.is_empty())))
 }
 
-fn write_exchange_cases(seed: u64, count: u64, directory: &Path) -> io::Result<ExitCode> {
-    let cases = exchange_cases(seed, count);
-    write_both(directory, &cases.lines.input, &cases.lines.expected)?;
-    print(&format!("seed {seed}, {count} components\n"))?;
+/// The numbers are the seed, and how many cases to make.
+fn write_cases<K: PartialEq>(
+    make: fn(u64, u64) -> Cases<K>,
+    what: &str,
+    numbers: [&str; 2],
+    directory: &str,
+) -> io::Result<ExitCode> {
+    let [Ok(seed), Ok(count)] = numbers.map(str::parse) else {
+        return misused();
+    };
+    let cases = make(seed, count);
+    let lines = &cases.lines;
+    write_both(Path::new(directory), &lines.input, &lines.expected)?;
+    print(&format!("seed {seed}, {count} {what}\n"))?;
     print_tally(&cases.tally)
 }
 

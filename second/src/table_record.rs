@@ -86,6 +86,11 @@ impl TableRecord {
         }
     }
 
+    /// The cell of a procedure, number and service; none where the profile has no such place.
+    pub fn cell(&self, profile: &Profile, key: (i32, i32, i32)) -> Option<&Cell> {
+        place_of(profile, key).and_then(|place| self.cells.get(place))
+    }
+
     /// The table, its other rules not yet judged; refusal 4 where a service code is not the
     /// profile's at that place, or a count goes past its places.
     pub fn read(&self, profile: &Profile) -> Result<Table, Refusal> {

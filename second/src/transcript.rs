@@ -2,6 +2,7 @@
 
 use crate::access_record::read_access;
 use crate::answer::Answer;
+use crate::call_answer::CallAnswer;
 use crate::exchange::{arrive, sizes_fit, Arrived};
 use crate::hexadecimal::joined;
 use crate::refusal::{Refusal, COMPONENT_OUTPUT};
@@ -15,7 +16,7 @@ pub enum Said {
     Replied(Vec<u8>),
 }
 
-/// What there is when a component arrives.
+/// What there is when a component arrives, or a call comes.
 #[derive(Clone, Debug, PartialEq, Eq)]
 pub struct Situation {
     /// The access record, of any size.
@@ -114,6 +115,13 @@ impl Transcript {
         self.expected.push_str(&expected_line(said, next));
         self.expected.push('\n');
         self.now.table.clone_from(next);
+    }
+
+    /// A call comes; the table stays.
+    pub fn call(&mut self, octets: &[u8], answer: &CallAnswer) {
+        self.line("call", &joined(octets));
+        self.expected.push_str(&answer.line());
+        self.expected.push('\n');
     }
 
     /// A word with nothing after it ends the line.

@@ -264,7 +264,7 @@ fn random_calls_keep_withheld_digits_withheld() {
         let mut one = made::table(&mut random, &profile);
         let lent = made::call(&mut random, &profile, &one);
         let mut other = one.clone();
-        let key = (lent.event, lent.number, lent.service);
+        let key = lent.key();
         for (held, swapped) in one.instances.iter_mut().zip(&mut other.instances) {
             if held.key() == key {
                 swapped.address.number.digits = made::digits(&mut random);

@@ -1,17 +1,15 @@
 //! Octets that carry no meaning (A72): past a count, or in the address of a cell without an
 //! instance. They are never judged, and only cells that a request selects are written.
 
-use crate::access_record::{access_record, write_access, ACCESS_OCTETS};
+use crate::access_record::access_record;
 use crate::codes::CFB;
 use crate::samples::{instance, sample_profile};
-use crate::table_record::{
-    cell, cell_place, Cell, TableRecord, CELL_OCTETS, DIGITS, SUBADDRESS, SUBADDRESS_COUNT,
-};
+use crate::table_record::{cell, cell_place, Cell, TableRecord};
 
 use super::script::{dialogue, Dialogue};
 use super::words::{
     activation, all_numbers, deactivation, error, individual, interrogation, list, listed,
-    nine_cells, refused, result, to,
+    nine_cells, refused, result, rubbish_cell, scribbled_access, scribbled_cell, to,
 };
 
 pub fn dialogues() -> Vec<Dialogue> {
@@ -22,34 +20,17 @@ pub fn dialogues() -> Vec<Dialogue> {
 }
 
 fn access_past_counts() -> Dialogue {
-    let mut record = vec![0xFF; ACCESS_OCTETS];
-    write_access(&mut record, &sample_profile());
     let request = interrogation(CFB, 0, all_numbers());
     dialogue(
         "dead places of the access record are not judged",
         &sample_profile(),
     )
-    .access(record)
+    .access(scribbled_access(&sample_profile()))
     .asks(1, &request, list(1, &[]))
     .then_last(1)
     .access(access_record(&sample_profile()))
     .asks(2, &request, list(2, &[]))
     .then_last(2)
-}
-
-/// An instance of this service to 24680 with rubbish past both counts.
-fn scribbled(service: i32) -> Cell {
-    let mut cell = cell(service, &to("24680"));
-    cell[DIGITS + 5..SUBADDRESS_COUNT].fill(0xEE);
-    cell[SUBADDRESS..].fill(0x3A);
-    cell
-}
-
-/// No instance, but rubbish in the address.
-fn rubbish() -> Cell {
-    let mut cell = [0xDD; CELL_OCTETS];
-    cell[0] = 0;
-    cell
 }
 
 /// Cells of cfb, of the first number's speech and the second number's service 3.
@@ -72,7 +53,12 @@ fn table_past_counts() -> Vec<Dialogue> {
         listed(first, &instance(CFB, 0, 1, "24680")),
         listed(second, &instance(CFB, 1, 3, "24680")),
     ];
-    let both = |last| with(last, &[(FIRST, scribbled(1)), (SECOND, scribbled(3))]);
+    let both = |last| {
+        with(
+            last,
+            &[(FIRST, scribbled_cell(1)), (SECOND, scribbled_cell(3))],
+        )
+    };
     let talk = |name| dialogue(name, &access).record(both(7));
     vec![
         talk("octets past a count: not judged, not listed, kept")
@@ -90,11 +76,11 @@ fn table_past_counts() -> Vec<Dialogue> {
             )
             .then_record(with(
                 8,
-                &[(FIRST, cell(1, &to("24680"))), (SECOND, scribbled(3))],
+                &[(FIRST, cell(1, &to("24680"))), (SECOND, scribbled_cell(3))],
             )),
         talk("octets past a count: a deactivation leaves zeros in its cells alone")
             .asks(8, &deactivation(CFB, 3, individual(second)), result(8))
-            .then_record(with(8, &[(FIRST, scribbled(1))])),
+            .then_record(with(8, &[(FIRST, scribbled_cell(1))])),
     ]
 }
 
@@ -108,7 +94,7 @@ fn empty_cells() -> Vec<Dialogue> {
         cell_place(2, 0, 0),
         FIRST,
     ];
-    let full_of_rubbish = |last| with(last, &unused.map(|place| (place, rubbish())));
+    let full_of_rubbish = |last| with(last, &unused.map(|place| (place, rubbish_cell())));
     let mut and_second = full_of_rubbish(8);
     and_second.cells[SECOND] = cell(3, &to("9"));
     let mut speech = full_of_rubbish(8);

@@ -16,13 +16,13 @@ mod refusals;
 mod room;
 mod rows_of_arguments;
 mod rows_of_shape;
-mod script;
+pub(crate) mod script;
 mod selection;
-mod words;
+pub(crate) mod words;
 
-use crate::transcript::{expected_line, Transcript};
+use crate::transcript::Transcript;
 
-pub use script::{Dialogue, Turn};
+pub use script::{Comes, Dialogue, Turn};
 
 pub fn dialogues() -> Vec<Dialogue> {
     [
@@ -48,18 +48,17 @@ pub fn dialogues() -> Vec<Dialogue> {
     .collect()
 }
 
-/// Where this program's own exchange says otherwise than the hand, or leaves another table.
+/// Where this program's own exchange says otherwise than the hand, leaves another table, or makes
+/// something else of a call.
 pub fn disagreements(dialogues: &[Dialogue]) -> Vec<String> {
     let mut found = Vec::new();
     for talk in dialogues {
         for (turn, at) in talk.turns.iter().zip(1..) {
-            let (said, next) = turn.before.answered(&turn.component);
-            if (&said, &next) != (&turn.said, &turn.next) {
-                let stated = expected_line(&turn.said, &turn.next);
-                let answered = expected_line(&said, &next);
+            let (stated, answered) = (turn.stated(), turn.answered());
+            if stated != answered {
                 let name = &talk.name;
                 found.push(format!(
-                    "{name}, component {at}:\nstated   {stated}\nanswered {answered}"
+                    "{name}, turn {at}:\nstated   {stated}\nanswered {answered}"
                 ));
             }
         }
@@ -73,8 +72,7 @@ pub fn transcript(dialogues: &[Dialogue]) -> Transcript {
     for talk in dialogues {
         lines.remark(&talk.name);
         for turn in &talk.turns {
-            lines.bring_about(&turn.before);
-            lines.component(&turn.component, &turn.said, &turn.next);
+            turn.write(&mut lines);
         }
     }
     lines

@@ -1,14 +1,17 @@
 //! A dialogue written out by hand: each component with what must be said to it and the table it
-//! must leave.
+//! must leave, each call with what must become of it.
 
 use crate::access_record::access_record;
+use crate::call_answer::CallAnswer;
+use crate::call_record::call_record;
+use crate::calls::Call;
 use crate::hexadecimal::octets;
 use crate::profile::Profile;
 use crate::request::Request;
 use crate::samples::table;
 use crate::table::Instance;
 use crate::table_record::TableRecord;
-use crate::transcript::{Said, Situation};
+use crate::transcript::{expected_line, Said, Situation, Transcript};
 
 pub struct Dialogue {
     pub name: String,
@@ -20,9 +23,49 @@ pub struct Dialogue {
 
 pub struct Turn {
     pub before: Situation,
-    pub component: Vec<u8>,
-    pub said: Said,
-    pub next: TableRecord,
+    pub comes: Comes,
+}
+
+/// What comes to the exchange, and what is stated by hand.
+pub enum Comes {
+    Component {
+        octets: Vec<u8>,
+        said: Said,
+        next: Box<TableRecord>,
+    },
+    Call {
+        octets: Vec<u8>,
+        answer: CallAnswer,
+    },
+}
+
+impl Turn {
+    /// The line of output stated by hand.
+    pub fn stated(&self) -> String {
+        match &self.comes {
+            Comes::Component { said, next, .. } => expected_line(said, next),
+            Comes::Call { answer, .. } => answer.line(),
+        }
+    }
+
+    /// The line that this program's own exchange gives.
+    pub fn answered(&self) -> String {
+        match &self.comes {
+            Comes::Component { octets, .. } => {
+                let (said, next) = self.before.answered(octets);
+                expected_line(&said, &next)
+            }
+            Comes::Call { octets, .. } => self.before.called(octets).line(),
+        }
+    }
+
+    pub fn write(&self, lines: &mut Transcript) {
+        lines.bring_about(&self.before);
+        match &self.comes {
+            Comes::Component { octets, said, next } => lines.component(octets, said, next),
+            Comes::Call { octets, answer } => lines.call(octets, answer),
+        }
+    }
 }
 
 /// A fresh table and 707 octets of output.
@@ -64,14 +107,28 @@ impl Dialogue {
     }
 
     /// A component arrives. The table stays, unless a `then_` says what it is afterwards.
-    pub fn hears(mut self, component: Vec<u8>, said: Said) -> Self {
-        self.turns.push(Turn {
-            before: self.now.clone(),
-            component,
+    pub fn hears(self, component: Vec<u8>, said: Said) -> Self {
+        let next = Box::new(self.now.table.clone());
+        self.turn(Comes::Component {
+            octets: component,
             said,
-            next: self.now.table.clone(),
-        });
+            next,
+        })
+    }
+
+    fn turn(mut self, comes: Comes) -> Self {
+        let before = self.now.clone();
+        self.turns.push(Turn { before, comes });
         self
+    }
+
+    pub fn calls(self, call: &Call, answer: CallAnswer) -> Self {
+        self.calls_octets(call_record(call), answer)
+    }
+
+    /// A call record of any size comes.
+    pub fn calls_octets(self, octets: Vec<u8>, answer: CallAnswer) -> Self {
+        self.turn(Comes::Call { octets, answer })
     }
 
     pub fn hears_hex(self, component: &str, said: Said) -> Self {
@@ -102,8 +159,9 @@ impl Dialogue {
     }
 
     pub fn then_record(mut self, record: TableRecord) -> Self {
-        if let Some(latest) = self.turns.last_mut() {
-            latest.next.clone_from(&record);
+        let latest = self.turns.last_mut().map(|turn| &mut turn.comes);
+        if let Some(Comes::Component { next, .. }) = latest {
+            **next = record.clone();
         }
         self.record(record)
     }

@@ -1,5 +1,6 @@
 //! The words dialogues are written in: accesses, requests, octets and what is said to them.
 
+use crate::access_record::{write_access, ACCESS_OCTETS};
 use crate::answer::{Answer, Entry, Problem};
 use crate::elements::{element, TAG_SEQUENCE};
 use crate::hexadecimal::octets;
@@ -8,6 +9,7 @@ use crate::profile::Profile;
 use crate::request::{Request, Served, TAG_INVOKE};
 use crate::samples::{self, sample_profile, wide_profile};
 use crate::table::Instance;
+use crate::table_record::{cell, Cell, CELL_OCTETS, DIGITS, SUBADDRESS, SUBADDRESS_COUNT};
 use crate::transcript::Said;
 
 pub const SPEECH: i32 = 1;
@@ -176,4 +178,26 @@ pub fn nine_cells() -> Profile {
         counted: 1,
         ..wide_profile()
     }
+}
+
+/// The record of a profile with rubbish past every count.
+pub fn scribbled_access(profile: &Profile) -> Vec<u8> {
+    let mut record = vec![0xFF; ACCESS_OCTETS];
+    write_access(&mut record, profile);
+    record
+}
+
+/// An instance of this service to 24680 with rubbish past both counts.
+pub fn scribbled_cell(service: i32) -> Cell {
+    let mut cell = cell(service, &to("24680"));
+    cell[DIGITS + 5..SUBADDRESS_COUNT].fill(0xEE);
+    cell[SUBADDRESS..].fill(0x3A);
+    cell
+}
+
+/// No instance, but rubbish in the address.
+pub fn rubbish_cell() -> Cell {
+    let mut cell = [0xDD; CELL_OCTETS];
+    cell[0] = 0;
+    cell
 }

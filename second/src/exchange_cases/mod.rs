@@ -5,36 +5,22 @@ mod makings;
 mod reached;
 
 use crate::access_record::access_record;
+use crate::cases::Cases;
 use crate::codes::{place, PROCEDURES};
 use crate::made;
 use crate::profile::Profile;
-use crate::random::Random;
 use crate::records_at_random::{access, bad_access, bad_table, table};
 use crate::refusal::COMPONENT_OUTPUT;
 use crate::table::{Table, MOST_INSTANCES};
 use crate::table_record::TableRecord;
-use crate::tally::Tally;
-use crate::transcript::{Situation, Transcript};
+use crate::transcript::Situation;
 
 pub use makings::Making;
 pub use reached::{Reached, KINDS};
 
-pub struct Cases {
-    pub lines: Transcript,
-    pub tally: Tally<Reached>,
-    random: Random,
-    /// How many are still to be made.
-    left: u64,
-}
-
 /// So many components, the same for the same seed.
-pub fn exchange_cases(seed: u64, count: u64) -> Cases {
-    let mut cases = Cases {
-        lines: Transcript::empty(),
-        tally: Tally::of(&KINDS),
-        random: Random::seeded(seed),
-        left: count,
-    };
+pub fn exchange_cases(seed: u64, count: u64) -> Cases<Reached> {
+    let mut cases = Cases::to_make(seed, count, &KINDS);
     while cases.left > 0 {
         // Refused episodes are short, so that most cases get past the refusals.
         match cases.random.below(12) {
@@ -47,7 +33,7 @@ pub fn exchange_cases(seed: u64, count: u64) -> Cases {
     cases
 }
 
-impl Cases {
+impl Cases<Reached> {
     /// A good access with a good table and enough output.
     fn good_situation(&mut self, profile: &Profile) -> Situation {
         let random = &mut self.random;

@@ -2,6 +2,7 @@
 #![allow(dead_code, unused_imports)]
 
 pub mod argument;
+pub mod lines;
 pub mod thrown;
 pub mod waiting;
 

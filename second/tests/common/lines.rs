@@ -1,0 +1,66 @@
+//! What holds of the lines of every set of dialogues and cases, and running the program.
+
+use std::fs;
+use std::path::{Path, PathBuf};
+use std::process::Command;
+
+use second::dialogues::{transcript, Dialogue};
+use second::transcript::Transcript;
+
+/// Every dialogue has its own name, begins with it, and says something.
+pub fn names_hold(all: &[Dialogue]) {
+    let mut names: Vec<&str> = all.iter().map(|talk| talk.name.as_str()).collect();
+    let lines = transcript(all);
+    let remarks = lines
+        .input
+        .lines()
+        .filter_map(|line| line.strip_prefix("# "));
+    assert!(remarks.eq(names.iter().copied()));
+    names.sort_unstable();
+    names.dedup();
+    assert_eq!(names.len(), all.len());
+    assert!(all.iter().all(|talk| !talk.turns.is_empty()));
+}
+
+/// Lines of input that begin with this word.
+pub fn count(lines: &Transcript, word: &str) -> usize {
+    let found = lines.input.lines();
+    found
+        .filter(|line| line.split(' ').next() == Some(word))
+        .count()
+}
+
+/// One line of output for each remark, component and call.
+pub fn outputs_hold(lines: &Transcript) {
+    let printing = ["#", "component", "call"].map(|word| count(lines, word));
+    assert_eq!(
+        printing.iter().sum::<usize>(),
+        lines.expected.lines().count()
+    );
+}
+
+pub fn sizes_hold(lines: &Transcript, most: usize) {
+    assert!(lines.input.len() < most);
+    let mut all = lines.input.lines().chain(lines.expected.lines());
+    assert!(all.all(|line| line.len() <= 7_000));
+}
+
+/// The exit code and standard output of the program.
+pub fn run(arguments: &[&str]) -> (Option<i32>, String) {
+    let mut command = Command::new(env!("CARGO_BIN_EXE_second"));
+    let output = command.args(arguments).output().expect("the program ends");
+    let printed = String::from_utf8_lossy(&output.stdout).into_owned();
+    (output.status.code(), printed)
+}
+
+/// A place for the program to write to.
+pub fn directory(name: &str) -> PathBuf {
+    Path::new(env!("CARGO_TARGET_TMPDIR")).join(name)
+}
+
+/// Both files hold these lines.
+pub fn files_hold(directory: &Path, lines: &Transcript) {
+    let read = |file| fs::read_to_string(directory.join(file)).expect("written");
+    assert!(read("stdin") == lines.input);
+    assert!(read("stdout") == lines.expected);
+}
