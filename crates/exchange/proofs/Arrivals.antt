@@ -34,7 +34,7 @@ use Rattle.rules.proofs.Judges.{judge-errors}
 use Rattle.answers.specs.Answer.{answerOctets, PutAnswer}
 use Rattle.answers.specs.declared.answer.Answer.{Answer}
 use Rattle.answers.proofs.Fits.{Fits, answer-most}
-use Rattle.exchange.specs.Table.{tableGood}
+use Rattle.exchange.specs.Table.{tableGood, withRow, withLast}
 use Rattle.exchange.specs.Question.{question}
 use Rattle.exchange.specs.Step.{Step, resultOf, verdictOf, handled, stepOf, step, Stepping}
 use Rattle.exchange.specs.Arrive.{toldBy, outputLeast, componentMost, Done, refused, answered, done, refusedBy, Arrives}
@@ -143,17 +143,19 @@ listed-all es few = rw (take-all limit es few) (take-append-seam es _)
 
 -- what is answered is written whole
 pub answered-arrives :
-    (access : List ℕ) (t : Table) (s xs : List ℕ) (x : Step) (d : Stepped) (n : ℕ) (ys : List ℕ) →
-    done access t s (length xs) ≡ answered x → StepFits x → Stepping x d → outputLeast ≤ length xs →
+    (access : List ℕ) (t : Table) (s xs : List ℕ) (x : Step) (procedure : ℕ) (d : Stepped) (n : ℕ) (ys : List ℕ) →
+    done access t s (length xs) ≡ answered x → StepFits x → Stepping t procedure x d → outputLeast ≤ length xs →
     PutAnswer xs (d .answer) (d .list) n ys →
-    Arrives access t s xs (record { table = d .table; outcome = Answers (d .answer); count = n }) ys
-answered-arrives access t s xs x d n ys is fits so room put =
+    Arrives access t s xs
+    (record { table = withLast (d .last) (withRow procedure (d .row) t); outcome = Answers (d .answer); count = n })
+    ys
+answered-arrives access t s xs x procedure d n ys is fits so room put =
     let octets = answer-most (x .answer) (x .entries) (fits .answer) (fits .good) (fits .few) in
     let same : answerOctets (d .answer) (listed (d .list)) ≡ answerOctets (x .answer) (x .entries) =
     rw (so .answer, so .list, listed-all (x .entries) (fits .few)) in
     let w = wrote (rw (same, zero-add) (omega arith)) put in
     record {
-      table = rw is (so .table);
+      table = rw is (so .next);
       told = rw is (ap (λ (a : Answer). toldBy (Answers a)) (so .answer));
       count = rw is (w .moved ∙ zero-add _ ∙ ap length same);
       lent = rw is (w .holds ∙ ap (over xs 0) same);

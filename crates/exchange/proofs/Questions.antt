@@ -172,6 +172,31 @@ pub record Asked (p : Profile) (last : ℕ) (q : Question) : Type 0 where
   pub to : q .operation ≡ activation → ToUnless (q .request .to)
   pub above : p .counted ≡ 1 → Above last (q .identifier)
 
+-- the procedure of its request is one of the three, also where nothing is asked
+argued-procedure :
+    (identifier : ℤ) (operation : Operation) (s : List ℕ) (at end : ℕ) (g : Got Request) → argumentAt operation s at end ≡ g →
+    argued identifier operation g .request .procedure < 3
+argued-procedure identifier operation s at end (got r next) read = argument-read operation s at end r next read .procedure
+argued-procedure identifier operation s at end wrong read = omega arith
+
+procedure-of : (p : Profile) (last : ℕ) (s : List ℕ) (h : Heard) → questionOf p last s h .request .procedure < 3
+unfolding invoked
+procedure-of p last s heard.NotOne = omega arith
+procedure-of p last s heard.Silent = omega arith
+procedure-of p last s heard.OtherTag = omega arith
+procedure-of p last s heard.NoIdentifier = omega arith
+procedure-of p last s (heard.NoOperation identifier) = omega arith
+procedure-of p last s (heard.Asks identifier operation at end) =
+    let P : Question → Type 0 = λ q. q .request .procedure < 3 in
+    pick-ind P (duplicate p last identifier) (λ _. omega arith)
+    (λ _. pick-ind P (known (operation .value))
+    (λ _. argued-procedure identifier operation s at end (argumentAt operation s at end) refl)
+    (λ _. omega arith))
+
+pub question-procedure : (p : Profile) (last : ℕ) (s : List ℕ) → question p last s .request .procedure < 3
+unfolding question
+question-procedure p last s = procedure-of p last s (heard s)
+
 argued-asks :
     (p : Profile) (last : ℕ) (identifier : ℤ) (operation : Operation) (s : List ℕ) (at end : ℕ) →
     duplicate p last identifier ≡ false → known (operation .value) ≡ true →

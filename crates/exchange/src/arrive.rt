@@ -1,4 +1,5 @@
 // Each arriving component turns a table into the next table and a reply (document 01, "Replies", "Local refusals").
+use crate::question::question_of;
 use crate::step::step_of;
 use crate::table::Table;
 use access::read_access;
@@ -62,13 +63,21 @@ impl Table {
         if !self.good(p) {
             return refuses(self, Refusal::BadTable);
         }
-        let done = step_of(p, self, component);
+        let q = question_of(p, self.last, component);
+        let procedure = q.request.procedure as usize;
+        let mut grid = self.grid;
+        let row = grid.rows[procedure];
+        let done = step_of(p, self.last, row, q);
+        let after = done.row;
+        grid.rows[procedure] = after;
         let answer = done.answer;
         let list = done.list;
-        let table = done.table;
         let count = put_answer(out, answer, list);
         Arrived {
-            table,
+            table: Table {
+                last: done.last,
+                grid,
+            },
             outcome: Outcome::Answers { answer },
             count,
         }

@@ -1,6 +1,5 @@
 // What the exchange does with a component that is not refused (document 01, "Replies, in the order checked").
-use crate::question::question_of;
-use crate::table::Table;
+use crate::question::Question;
 use access::Profile;
 use answers::Answer;
 use coding::INTERROGATION;
@@ -11,18 +10,17 @@ use rules::Verdict;
 use rules::apply_request;
 use rules::judge_request;
 use rules::places_of;
-use store::Places;
 use store::Row;
 ghost use mathlib.Core.Path.{_≡_};
-ghost use Prim.Native.Nat.{_<_};
 ghost use lib.Signed.{mag};
-ghost use Rattle.store.specs.Grid.{rowAt};
-ghost use Rattle.rules.specs.Selection.{placesOf};
-ghost use Rattle.exchange.specs.Step.{stays, moved, resultOf, handled, step, Stepping};
+ghost use lib.Dec.{eqb};
+ghost use Rattle.laws.specs.Pick.{pick};
+ghost use Rattle.exchange.specs.Step.{Handles, Steps};
 
-// The next table, the answer, and the entries of a list.
+// The last handled identifier afterwards, what becomes of the row of the request's procedure, the answer, and the entries of a list.
 pub(crate) struct Stepped {
-    pub(crate) table: Table,
+    pub(crate) last: u16,
+    pub(crate) row: Row,
     pub(crate) answer: Answer,
     pub(crate) list: Entries,
 }
@@ -38,93 +36,77 @@ fn last_of(identifier: i16) -> u16
 }
 
 // The last handled identifier moves on a counted end alone.
-fn move_last(p: Profile, identifier: i16, t: Table) -> Table
-    ensures { λ r. ⌜ r ≡ moved p identifier t ⌝ }
+fn last_after(p: Profile, identifier: i16, last: u16) -> u16
+    ensures { λ r. ⌜ r ≡ pick (eqb (p .counted) 1) (mag identifier) last ⌝ }
 {
     if p.counted == 1 {
-        let grid = t.grid;
-        return Table {
-            last: last_of(identifier),
-            grid,
-        };
+        return last_of(identifier);
     }
-    t
+    last
 }
 
-// An answer without a list.
-fn plain(table: Table, answer: Answer) -> Stepped
-    ensures { λ r. ⌜ Stepping (stays table answer) r ⌝ }
-{
-    let list = no_entries();
-    Stepped {
-        table,
-        answer,
-        list,
-    }
-}
-
-// A request that passes: the row of its procedure is listed or changed.
-fn result_of(
+// A request is judged, and gets its result or its error: the row of its procedure is listed or changed.
+fn handle(
     p: Profile,
-    t: Table,
+    last: u16,
+    row: Row,
     identifier: i16,
     operation: u8,
     r: Request,
-    w: Places,
-    row: Row,
 ) -> Stepped
-    requires { ⌜ (r .procedure < 3) × (w ≡ placesOf p r) × (row ≡ rowAt (t .grid) (r .procedure)) ⌝ }
-    ensures { λ s. ⌜ Stepping (resultOf p t identifier operation r) s ⌝ }
-{
-    if operation == INTERROGATION {
-        let list = row.entries(p, r.procedure, w);
-        let table = move_last(p, identifier, t);
-        return Stepped {
-            table,
-            answer: Answer::Listing { identifier },
-            list,
-        };
-    }
-    let after = apply_request(operation, r, w, row);
-    let mut grid = t.grid;
-    grid.rows[r.procedure as usize] = after;
-    let changed = Table { last: t.last, grid };
-    let table = move_last(p, identifier, changed);
-    plain(table, Answer::Result { identifier })
-}
-
-// A request is judged, and gets its result or its error.
-fn handle(p: Profile, t: Table, identifier: i16, operation: u8, r: Request) -> Stepped
-    requires { ⌜ r .procedure < 3 ⌝ }
-    ensures { λ s. ⌜ Stepping (handled p t identifier operation r) s ⌝ }
+    ensures { λ s. ⌜ Handles p last row identifier operation r s ⌝ }
 {
     let w = places_of(p, r);
-    let grid = t.grid;
-    let row = grid.rows[r.procedure as usize];
+    let last = last_after(p, identifier, last);
     match judge_request(p, operation, r, w, row) {
-        Verdict::Passes => result_of(p, t, identifier, operation, r, w, row),
         Verdict::Fails { error } => {
-            let table = move_last(p, identifier, t);
-            plain(
-                table,
-                Answer::Error {
+            let list = no_entries();
+            Stepped {
+                last,
+                row,
+                answer: Answer::Error {
                     identifier,
                     value: error,
                 },
-            )
+                list,
+            }
+        }
+        Verdict::Passes => {
+            if operation == INTERROGATION {
+                let list = row.entries(p, r.procedure, w);
+                return Stepped {
+                    last,
+                    row,
+                    answer: Answer::Listing { identifier },
+                    list,
+                };
+            }
+            let after = apply_request(operation, r, w, row);
+            let list = no_entries();
+            Stepped {
+                last,
+                row: after,
+                answer: Answer::Result { identifier },
+                list,
+            }
         }
     }
 }
 
-// What the exchange does with the component `s`.
-pub(crate) fn step_of(p: Profile, t: Table, s: &[u8]) -> Stepped
-    ensures { λ r. ⌜ Stepping (step p t (now (s .entry))) r ⌝ }
+// What the exchange does with a question: what asks for nothing gets its answer.
+pub(crate) fn step_of(p: Profile, last: u16, row: Row, q: Question) -> Stepped
+    ensures { λ s. ⌜ Steps p last row q s ⌝ }
 {
-    let q = question_of(p, t.last, s);
     if q.asked {
         let request = q.request;
-        return handle(p, t, q.identifier, q.operation, request);
+        return handle(p, last, row, q.identifier, q.operation, request);
     }
     let answer = q.answer;
-    plain(t, answer)
+    let list = no_entries();
+    Stepped {
+        last,
+        row,
+        answer,
+        list,
+    }
 }

@@ -30,7 +30,6 @@ impl Table {
         if LASTMOST < self.last {
             return false;
         }
-        let grid = self.grid;
-        grid.good(p)
+        self.grid.good(p)
     }
 }

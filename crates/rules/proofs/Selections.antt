@@ -1,17 +1,20 @@
 -- Laws of the places that a request selects, over plain values: what their loop needs, and what they give. Assumes nothing.
-use Prim.Native.Nat.{ℕ, _+_, _/_, _%_, _≤_, _<_}
+use Prim.Native.Nat.{ℕ, zero, suc, _+_, _*_, _-_, _/_, _%_, _≤_, _<_}
 use mathlib.Core.Path.{_≡_, refl, sym, ap, _∙_}
 use mathlib.Core.Bool.{Bool, true, false}
-use mathlib.Core.List.{List}
-use native.Mathlib.Nat.{zero-add}
+use mathlib.Core.List.{List, [], _∷_}
+use mathlib.Core.Logic.{_⊎_, inl, inr, ⊎-elim}
+use native.Mathlib.Nat.{add-zero, zero-add}
 use native.Mathlib.Omega.{arith}
-use lib.ListN.{length, take, getD, set, replicate, length-take, length-set}
-use lib.Seq.{getD-take}
+use lib.ListN.{length, take, getD, set, replicate, length-take, length-set, getD-replicate}
+use lib.Seq.{getD-take, getD-set-same, getD-set-other}
 use lib.Dec.{ltb, eqb}
-use borrow.Author.Tests.{eq-eqb, ne-eqb, ltb-true}
+use borrow.Author.Tests.{eq-eqb, ne-eqb, ltb-true, ltb-false}
 use Rattle.laws.specs.Pick.{pick}
+use Rattle.laws.specs.Over.{over}
 use Rattle.laws.specs.Places.{eachFrom}
-use Rattle.laws.proofs.Each.{each-spelled, getD-each, each-all, each-set, each-done}
+use Rattle.laws.proofs.Over.{over-nil, over-cons, length-over}
+use Rattle.laws.proofs.Each.{getD-each, length-each, each-all}
 use Rattle.laws.proofs.Picks.{pick-ind, pick-then, pick-first}
 use Rattle.access.specs.Profile.{numbersMost, servicesMost, servedNumbers, offered, placeIn, rising}
 use Rattle.access.specs.declared.profile.Profile.{Profile}
@@ -44,52 +47,108 @@ module _ (p : Profile) (s : Served) where
       omega (arith, place-most p (s .number) (servedNumbers p), length-take (p .numbercount) (p .numbers)) in
       rw (ne-eqb _ _ msn, ne-eqb _ _ one, ne-eqb asked 255 (omega arith), e)
 
--- ---- the codes: their array is filled from the front
+-- ---- the codes: each number that is chosen gets those of its services
 
 -- what `is_asked` promises
 abbrev pub isAsked : ℕ → ℕ → Bool
 isAsked asked k = pick (eqb asked 255) true (eqb asked k)
 
-module _ (asked numbers slots : ℕ) (services : List ℕ) (service : ℕ) where
-  -- what `in_profile` promises of a place
-  abbrev isKnown : ℕ → Bool
-  isKnown j = pick (ltb (numberOfPlace j) numbers) (ltb (serviceOfPlace j) slots) false
+-- what `number_chosen` promises
+abbrev isChosen : ℕ → ℕ → ℕ → Bool
+isChosen asked numbers k = pick (ltb k numbers) (isAsked asked k) false
 
-  -- what `code_chosen` promises of it
-  abbrev codeIf : Bool → Bool → ℕ → ℕ
-  codeIf known chosen j =
-      let code : ℕ = getD services (serviceOfPlace j) 0 in
-      pick known (pick chosen (pick (serviceChosen service code) code 0) 0) 0
+-- what `codes_of` promises of a service
+abbrev pub slotCode : ℕ → List ℕ → ℕ → ℕ → ℕ
+slotCode slots services service slot =
+    pick (ltb slot slots) (pick (serviceChosen service (getD services slot 0)) (getD services slot 0) 0) 0
 
+below-or-from : (j n : ℕ) → (j < n) ⊎ (n ≤ j)
+below-or-from j n =
+    pick-ind (λ (b : Bool). (j < n) ⊎ (n ≤ j)) (ltb j n) {x = true} {y = false} (λ is. inl (ltb-true j n is)) (λ is. inr (ltb-false j n is))
+
+-- a place before those that were written, or after them, holds what it held
+over-outside :
+    (xs : List ℕ) (at : ℕ) (ws : List ℕ) (j : ℕ) → (j < at) ⊎ (at + length ws ≤ j) → getD (over xs at ws) j 0 ≡ getD xs j 0
+over-outside xs at [] j h = rw over-nil
+over-outside xs at (w ∷ ws) j h =
+    rw over-cons
+    (over-outside (set xs at w) (at + 1) ws j (⊎-elim (λ (before : j < at). inl (omega arith)) (λ (after : at + length (w ∷ ws) ≤ j). inr (omega arith)) h)
+    ∙ getD-set-other xs at j w 0 (λ same. ⊎-elim (λ (before : j < at). omega (arith, same)) (λ (after : at + length (w ∷ ws) ≤ j). omega (arith, same)) h))
+
+-- and what was written stands there
+over-inside :
+    (xs : List ℕ) (at : ℕ) (ws : List ℕ) (i : ℕ) → at + length ws ≤ length xs → i < length ws →
+    getD (over xs at ws) (at + i) 0 ≡ getD ws i 0
+over-inside xs at [] i room h = absurd (omega arith)
+over-inside xs at (w ∷ ws) zero room h =
+    rw (over-cons, add-zero)
+    (over-outside (set xs at w) (at + 1) ws at (inl (omega arith)) ∙ getD-set-same xs at w 0 (omega arith))
+over-inside xs at (w ∷ ws) (suc i) room h =
+    let there : at + suc i ≡ at + 1 + i = omega arith in
+    rw (over-cons, there) (over-inside (set xs at w) (at + 1) ws i (omega (arith, length-set xs at w)) (omega arith))
+
+-- a place of the number k
+at-number : (j k : ℕ) → k * servicesMost ≤ j → j < (k + 1) * servicesMost → numberOfPlace j ≡ k
+at-number j k from to = omega arith
+
+at-slot : (j k i : ℕ) → j ≡ k * servicesMost + i → i < servicesMost → serviceOfPlace j ≡ i
+at-slot j k i is few = omega arith
+
+-- ws are the codes of a number that is chosen
+module _ (asked numbers : ℕ) (ws : List ℕ) where
   abbrev chosenAt : ℕ → ℕ
-  chosenAt j = codeIf (isKnown j) (isAsked asked (numberOfPlace j)) j
+  chosenAt j = pick (isChosen asked numbers (numberOfPlace j)) (getD ws (serviceOfPlace j) 0) 0
 
-  -- the first j places of the array hold their codes
-  abbrev pub Chosen : List ℕ → ℕ → Type 0
-  Chosen l j = (length l ≡ places) × (take j l ≡ eachFrom chosenAt j 0)
+  -- the places of the first k numbers hold their codes, the rest holds none
+  pub record Chosen (l : List ℕ) (k : ℕ) : Type 0 where
+    pub long : length l ≡ places
+    pub done : (j : ℕ) → j < k * servicesMost → getD l j 0 ≡ chosenAt j
+    pub rest : (j : ℕ) → k * servicesMost ≤ j → j < places → getD l j 0 ≡ 0
 
   pub chosen-first : Chosen (replicate places 0) 0
-  chosen-first = (refl, rw (each-spelled chosenAt 0 0))
+  chosen-first = record {
+    long = refl;
+    done = λ j h. absurd (omega arith);
+    rest = λ j _ h. getD-replicate places j 0 0 h;
+  }
 
-  pub chosen-next :
-      {known chosen : Bool} {code : ℕ} (l : List ℕ) (j : ℕ) → j < places →
-      known ≡ isKnown j →
-      chosen ≡ isAsked asked (numberOfPlace j) →
-      code ≡ codeIf known chosen j →
-      Chosen l j →
-      Chosen (set l j code) (j + 1)
-  chosen-next {code = code} l j h known chosen e c = (
-    length-set l j code ∙ c .0,
-    each-set chosenAt l j code (omega (arith, c .0)) (rw (known, chosen) at e) (c .1),
-  )
+  module _ (l : List ℕ) (k : ℕ) (h : k < numbersMost) (c : Chosen l k) where
+    -- a turn in which the number is not chosen, and one in which it is
+    pub chosen-skip : isChosen asked numbers k ≡ false → Chosen l (k + 1)
+    chosen-skip unchosen = record {
+      long = c .long;
+      done = λ j to.
+          ⊎-elim (λ (before : j < k * servicesMost). c .done j before)
+          (λ (from : k * servicesMost ≤ j). c .rest j from (omega arith) ∙ sym (rw (at-number j k from to, unchosen)))
+          (below-or-from j (k * servicesMost));
+      rest = λ j from to. c .rest j (omega arith) to;
+    }
+
+    pub chosen-put :
+        length ws ≡ servicesMost → isChosen asked numbers k ≡ true → Chosen (over l (k * servicesMost) ws) (k + 1)
+    chosen-put six chosen = record {
+      long = length-over l (k * servicesMost) ws ∙ c .long;
+      done = λ j to.
+          ⊎-elim
+          (λ (before : j < k * servicesMost). over-outside l (k * servicesMost) ws j (inl before) ∙ c .done j before)
+          (λ (from : k * servicesMost ≤ j).
+          let i : ℕ = j - k * servicesMost in
+          let there : j ≡ k * servicesMost + i = omega arith in
+          ap (λ (n : ℕ). getD (over l (k * servicesMost) ws) n 0) there
+          ∙ over-inside l (k * servicesMost) ws i (omega (arith, six, c .long)) (omega (arith, six))
+          ∙ sym (rw (at-number j k from to, chosen, at-slot j k i there (omega arith))))
+          (below-or-from j (k * servicesMost));
+      rest = λ j from to. over-outside l (k * servicesMost) ws j (inr (omega (arith, six))) ∙ c .rest j (omega arith) to;
+    }
 
 -- tests one after the other, and one test of them all
 pick-all :
     (a b c d : Bool) (code : ℕ) →
-    pick (pick a b false) (pick c (pick d code 0) 0) 0 ≡ pick (pick a (pick b (pick c d false) false) false) code 0
+    pick (pick a c false) (pick b (pick d code 0) 0) 0 ≡ pick (pick a (pick b (pick c d false) false) false) code 0
 pick-all true true true d code = refl
 pick-all true true false d code = refl
-pick-all true false c d code = refl
+pick-all true false true d code = refl
+pick-all true false false d code = refl
 pick-all false b c d code = refl
 
 module _ (p : Profile) (r : Request) where
@@ -97,13 +156,20 @@ module _ (p : Profile) (r : Request) where
   abbrev codeOf : ℕ → ℕ
   codeOf j = pick (selects p r j) (getD (p .services) (serviceOfPlace j) 0) 0
 
+  -- the codes of a number that is chosen
+  abbrev codesOf : List ℕ
+  codesOf = eachFrom (slotCode (p .servicecount) (p .services) (r .service)) servicesMost 0
+
   chosen-code :
-      (asked j : ℕ) → j < places → Asks p (r .served) asked →
-      chosenAt asked (p .numbercount) (p .servicecount) (p .services) (r .service) j ≡ codeOf j
+      (asked j : ℕ) → j < places → Asks p (r .served) asked → chosenAt asked (p .numbercount) codesOf j ≡ codeOf j
   unfolding selects
   chosen-code asked j h asks =
       let code : ℕ = getD (p .services) (serviceOfPlace j) 0 in
-      rw (← asks (numberOfPlace j) (omega arith))
+      rw (
+        getD-each (slotCode (p .servicecount) (p .services) (r .service)) servicesMost 0 (serviceOfPlace j) 0 (omega arith),
+        zero-add,
+        ← asks (numberOfPlace j) (omega arith),
+      )
       (pick-all
       (ltb (numberOfPlace j) (p .numbercount))
       (ltb (serviceOfPlace j) (p .servicecount))
@@ -112,16 +178,12 @@ module _ (p : Profile) (r : Request) where
       code)
 
   pub chosen-all :
-      (asked : ℕ) (l : List ℕ) → Asks p (r .served) asked →
-      Chosen asked (p .numbercount) (p .servicecount) (p .services) (r .service) l places →
+      (asked : ℕ) (l : List ℕ) → Asks p (r .served) asked → Chosen asked (p .numbercount) codesOf l numbersMost →
       _≡_ {A = Places} record { codes = l } (placesOf p r)
   unfolding placesOf
   chosen-all asked l asks c =
-      let f : ℕ → ℕ = chosenAt asked (p .numbercount) (p .servicecount) (p .services) (r .service) in
-      let whole = each-done f places l (c .0) (c .1) in
       let each : l ≡ eachFrom codeOf places 0 =
-      each-all codeOf places l 0 (c .0) (λ j h.
-      ap (λ (k : List ℕ). getD k j 0) whole ∙ rw zero-add at (getD-each f places 0 j 0 h) ∙ chosen-code asked j h asks) in
+      each-all codeOf places l 0 (c .long) (λ j h. c .done j h ∙ chosen-code asked j h asks) in
       rw each
 
   -- ---- what the places give

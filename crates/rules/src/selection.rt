@@ -1,14 +1,19 @@
 // Which numbers and services a request selects.
+use access::NUMBERS;
 use access::Profile;
 use access::SERVICES;
 use access::number_place;
 use coding::Request;
+use octets::put_all;
 use store::PLACES;
 use store::Places;
 ghost use mathlib.Core.Path.{_≡_};
 ghost use mathlib.Core.Bool.{true, false};
 ghost use lib.Dec.{ltb, eqb};
+ghost use lib.ListN.{getD};
 ghost use Rattle.laws.specs.Pick.{pick};
+ghost use Rattle.laws.specs.Places.{eachFrom};
+ghost use Rattle.access.specs.Profile.{servicesMost};
 ghost use Rattle.rules.specs.Selection.{Asks, serviceChosen, PlacesOf};
 
 // What `number_asked` answers where a request selects every number.
@@ -39,14 +44,21 @@ pub(crate) fn is_asked(asked: usize, k: usize) -> bool
     asked == k
 }
 
-// The service's code, where the profile has number and service and both are selected; 0 where not.
-fn code_chosen(known: bool, chosen: bool, service: u8, code: u8) -> u8
-    ensures { λ c. ⌜ c ≡ pick known (pick chosen (pick (serviceChosen service code) code 0) 0) 0 ⌝ }
+// Whether the profile has a number at the place `k`, and it is selected.
+fn number_chosen(asked: usize, numbers: usize, k: usize) -> bool
+    ensures { λ b. ⌜ b ≡ pick (ltb k numbers) (pick (eqb asked 255) true (eqb asked k)) false ⌝ }
+{
+    if k < numbers {
+        return is_asked(asked, k);
+    }
+    false
+}
+
+// The service's code, where the profile has it and it is selected; 0 where not.
+fn code_chosen(known: bool, service: u8, code: u8) -> u8
+    ensures { λ c. ⌜ c ≡ pick known (pick (serviceChosen service code) code 0) 0 ⌝ }
 {
     if !known {
-        return 0;
-    }
-    if !chosen {
         return 0;
     }
     if service == 0 {
@@ -55,34 +67,36 @@ fn code_chosen(known: bool, chosen: bool, service: u8, code: u8) -> u8
     if service == code { code } else { 0 }
 }
 
+// The codes of a number that is selected: of each service of the profile that is, 0 in the other places.
+fn codes_of(p: Profile, service: u8) -> [u8; SERVICES]
+    ensures { λ codes. ⌜ codes ≡ eachFrom (λ slot. pick (ltb slot (p .servicecount)) (pick (serviceChosen service (getD (p .services) slot 0)) (getD (p .services) slot 0) 0) 0) servicesMost 0 ⌝ }
+{
+    let offered = p.servicecount as usize;
+    let services = p.services;
+    let mut codes = [0u8; SERVICES];
+    let mut slot: usize = 0;
+    while slot < SERVICES {
+        let known = slot < offered;
+        codes[slot] = code_chosen(known, service, services[slot]);
+        slot += 1;
+    }
+    codes
+}
+
 // The places that a request selects, each by the code of its service.
 pub fn places_of(p: Profile, r: Request) -> Places
     ensures { λ w. ⌜ PlacesOf p r w ⌝ }
 {
     let asked = number_asked(p, r);
     let numbers = p.numbercount as usize;
-    let offered = p.servicecount as usize;
-    let services = p.services;
-    let service = r.service;
+    let services = codes_of(p, r.service);
     let mut codes = [0u8; PLACES];
-    let mut j: usize = 0;
-    while j < PLACES {
-        let k = j / SERVICES;
-        let slot = j % SERVICES;
-        let known = in_profile(k, numbers, slot, offered);
-        let chosen = is_asked(asked, k);
-        codes[j] = code_chosen(known, chosen, service, services[slot]);
-        j += 1;
+    let mut k: usize = 0;
+    while k < NUMBERS {
+        if number_chosen(asked, numbers, k) {
+            put_all(&mut codes, k * SERVICES, &services);
+        }
+        k += 1;
     }
     Places { codes }
-}
-
-// Whether the profile has so many numbers and services.
-fn in_profile(k: usize, numbers: usize, slot: usize, offered: usize) -> bool
-    ensures { λ b. ⌜ b ≡ pick (ltb k numbers) (ltb slot offered) false ⌝ }
-{
-    if k < numbers {
-        return slot < offered;
-    }
-    false
 }

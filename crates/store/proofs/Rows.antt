@@ -10,7 +10,7 @@ use native.Mathlib.Omega.{arith}
 use lib.ListN.{length, take, getD, List·getD-eq-default}
 use lib.Seq.{take-all}
 use lib.Dec.{eqb, ltb, leb}
-use borrow.Author.Tests.{eq-eqb, ne-eqb, eqb-false, lt-ltb, ltb-true, ltb-false, le-leb, leb-true}
+use borrow.Author.Tests.{eq-eqb, ne-eqb, eqb-false, lt-ltb, ltb-true, ltb-false, le-leb, lt-leb, leb-true}
 use Rattle.laws.specs.Pick.{pick}
 use Rattle.laws.specs.Places.{everyTo, countTo}
 use Rattle.laws.proofs.Picks.{pick-ind, pick-then, pick-else}
@@ -26,7 +26,7 @@ use Rattle.store.specs.Row.{places, numberOfPlace, serviceOfPlace, noCel
 use Rattle.store.specs.declared.row.Cell.{Cell}
 use Rattle.store.specs.declared.row.Row.{Row}
 use Rattle.store.specs.declared.row.Places.{Places}
-use Rattle.store.proofs.Turns.{withAt, putAt, clearAt, goodAt, entriesAt}
+use Rattle.store.proofs.Turns.{withAt, putAt, clearAt, goodAt, none-at, good-none, entriesAt}
 
 -- ---- a cell that may be changed
 
@@ -177,6 +177,24 @@ module _ (limit : ℕ) (p : Profile) (procedure : ℕ) where
   unfolding rowGood
   good-row row cells few =
       rw (every-all (goodAt p procedure row) places cells) (le-leb (countTo (active row) places) limit few)
+
+  -- by how many instances there are: a row without one breaks no rule
+  pub row-none : (row : Row) → countTo (active row) places ≡ 0 → rowGood limit p procedure row ≡ true
+  row-none row empty =
+      good-row row (λ j h. good-none p procedure row j (none-at (active row) places j h empty)) (omega (arith, empty))
+
+  pub row-many : (row : Row) → limit < countTo (active row) places → rowGood limit p procedure row ≡ false
+  unfolding rowGood
+  row-many row many =
+      rw (lt-leb (countTo (active row) places) limit many)
+      (pick-ind (λ t. t ≡ false) (everyTo (goodAt p procedure row) places) (λ _. refl) (λ _. refl))
+
+  pub row-few :
+      (row : Row) → countTo (active row) places ≤ limit → rowGood limit p procedure row ≡ everyTo (goodAt p procedure row) places
+  unfolding rowGood
+  row-few row few =
+      rw (le-leb (countTo (active row) places) limit few)
+      (pick-ind (λ t. t ≡ everyTo (goodAt p procedure row) places) (everyTo (goodAt p procedure row) places) sym sym)
 
   pub good-put :
       (w : Places) (address : Address) (row : Row) → rowGood limit p procedure row ≡ true → length (row .cells) ≡ places →

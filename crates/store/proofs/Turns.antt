@@ -1,14 +1,18 @@
 -- One turn of the loops over the places of a row, over plain values: what the code's tests say of a place. Assumes nothing.
-use Prim.Native.Nat.{ℕ, _+_}
-use mathlib.Core.Path.{_≡_, sym, _∙_}
-use mathlib.Core.Bool.{Bool, true, false}
+use Prim.Native.Nat.{ℕ, zero, suc, _+_, _<_}
+use mathlib.Core.Path.{_≡_, refl, sym, _∙_}
+use mathlib.Core.Bool.{Bool, true, false, false≢true}
+use mathlib.Core.Logic.{⊎-elim}
 use mathlib.Core.List.{List, [], _∷_, _++_, map}
 use native.Mathlib.Numerals.{add-one}
 use lib.ListN.{length, take, length-map}
+use native.Mathlib.Nat.{not-suc-le-zero, le-of-suc-le-suc, eq-or-lt-of-le}
+use native.Mathlib.Omega.{arith}
+use lib.Dec.{eqb}
 use borrow.Author.Tests.{eq-eqb, ne-eqb}
 use Rattle.laws.specs.Pick.{pick}
-use Rattle.laws.specs.Places.{gathered}
-use Rattle.laws.proofs.Walks.{gathered-more, Kept}
+use Rattle.laws.specs.Places.{countTo, gathered}
+use Rattle.laws.proofs.Walks.{count-more, gathered-more, Kept}
 use Rattle.numbers.specs.declared.address.Address.{Address}
 use Rattle.access.specs.declared.profile.Profile.{Profile}
 use Rattle.lists.specs.Entry.{noEntry}
@@ -23,6 +27,15 @@ use Rattle.store.specs.declared.row.Places.{Places}
 -- the length of a field that is an array of structs, which owning the struct tells of the list as the machine has it
 pub unmapped : {A B : Type 0} (f : A → B) (l : List A) (n : ℕ) → length (map f l) ≡ n → length l ≡ n
 unmapped f l n e = sym (length-map l f) ∙ e
+
+-- picks that say what their test says
+pick-off : (b : Bool) → pick b false true ≡ false → b ≡ true
+pick-off true h = refl
+pick-off false h = absurd (false≢true (sym h))
+
+pick-none : (b : Bool) → _≡_ {A = ℕ} (pick b 1 0) 0 → b ≡ false
+pick-none true h = absurd (omega arith)
+pick-none false h = refl
 
 -- what the code's tests say of a place
 pub is-active : (row : Row) (j : ℕ) → (cellAt row j .service ≡ 0 → ⊥) → active row j ≡ true
@@ -58,6 +71,20 @@ clearAt w j x = pick (selected w j) noCell x
 -- what `good` tests at a place
 abbrev pub goodAt : Profile → ℕ → Row → ℕ → Bool
 goodAt p procedure row j = cellGood p procedure j (cellAt row j)
+
+-- where none is counted, no place passes the test
+pub none-at : (f : ℕ → Bool) (n k : ℕ) → k < n → countTo f n ≡ 0 → f k ≡ false
+none-at f zero k h none = absurd (not-suc-le-zero h)
+none-at f (suc n) k h none =
+    let few : countTo f n + pick (f n) 1 0 ≡ 0 = sym (count-more f n) ∙ none in
+    ⊎-elim
+    (λ (same : k ≡ n). rw same (pick-none (f n) (omega arith)))
+    (λ (below : k < n). none-at f n k below (omega arith))
+    (eq-or-lt-of-le (le-of-suc-le-suc h))
+
+pub good-none : (p : Profile) (procedure : ℕ) (row : Row) (j : ℕ) → active row j ≡ false → goodAt p procedure row j ≡ true
+unfolding active cellGood
+good-none p procedure row j none = rw (pick-off (eqb (cellAt row j .service) 0) none)
 
 -- what `entries` adds of a place
 abbrev pub entriesAt : Profile → ℕ → Places → Row → ℕ → List Entry

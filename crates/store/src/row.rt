@@ -12,7 +12,8 @@ use numbers::address_good;
 ghost use mathlib.Core.Path.{_≡_};
 ghost use Prim.Native.Nat.{_<_};
 ghost use Rattle.lists.specs.Entries.{limit};
-ghost use Rattle.store.specs.Row.{places, noCell, cellGood, rowGood, CountWith, ActiveOf, PutIn, ClearIn};
+ghost use Rattle.laws.specs.Places.{countTo, everyTo};
+ghost use Rattle.store.specs.Row.{places, noCell, cellAt, active, cellGood, rowGood, CountWith, ActiveOf, PutIn, ClearIn};
 ghost use Rattle.store.specs.Grid.{EntriesIn};
 
 // The places of a row: a number's are together, by service code.
@@ -184,23 +185,50 @@ impl Row {
         list
     }
 
-    // Whether the row of a procedure breaks no rule.
-    pub(crate) fn good(self, p: Profile, procedure: u8) -> bool
-        requires { ⌜ procedure < 3 ⌝ }
-        ensures { λ r. ⌜ r ≡ rowGood limit p procedure self ⌝ }
+    // How many instances there are.
+    fn instances(self) -> usize
+        ensures { λ r. ⌜ r ≡ countTo (active self) places ⌝ }
     {
         let mut n: usize = 0;
+        let mut j: usize = 0;
+        while j < PLACES {
+            let x = self.cells[j];
+            if x.service != 0 {
+                n += 1;
+            }
+            j += 1;
+        }
+        n
+    }
+
+    // Whether every cell of the row of a procedure breaks no rule.
+    fn cells_good(self, p: Profile, procedure: u8) -> bool
+        requires { ⌜ procedure < 3 ⌝ }
+        ensures { λ r. ⌜ r ≡ everyTo (λ j. cellGood p procedure j (cellAt self j)) places ⌝ }
+    {
         let mut j: usize = 0;
         while j < PLACES {
             let x = self.cells[j];
             if !cell_good(p, procedure, j, x) {
                 return false;
             }
-            if x.service != 0 {
-                n += 1;
-            }
             j += 1;
         }
-        n <= LIMIT
+        true
+    }
+
+    // Whether the row of a procedure breaks no rule. Most rows hold nothing, and of those no cell is looked into.
+    pub(crate) fn good(self, p: Profile, procedure: u8) -> bool
+        requires { ⌜ procedure < 3 ⌝ }
+        ensures { λ r. ⌜ r ≡ rowGood limit p procedure self ⌝ }
+    {
+        let n = self.instances();
+        if n == 0 {
+            return true;
+        }
+        if LIMIT < n {
+            return false;
+        }
+        self.cells_good(p, procedure)
     }
 }

@@ -1,4 +1,4 @@
-use Rattle.exchange.proofs.Steps.{handled-passes, handled-fails}
+use Rattle.exchange.proofs.Steps.{handled-fails, handled-listed, handled-changed}
 use mir.Facts.{toZ-ofZ}
 use mathlib.Core.Path.{sym, _∙_}
 use borrow.Author.Needs.{needs}
@@ -8,67 +8,82 @@ use Rattle.exchange.proofs.step.handle.Tie as tie
 places-of-requires : tie.Need-places-of-requires
 places-of-requires c κs = search needs
 
-cast-row : tie.Need-cast-row
-cast-row c = search needs
-
-mul-row : tie.Need-mul-row
-mul-row c = search needs
-
-element-copy-out-row : tie.Need-element-copy-out-row
-element-copy-out-row c = search needs
+last-after-requires : tie.Need-last-after-requires
+last-after-requires c κs = search needs
 
 judge-request-requires : tie.Need-judge-request-requires
 judge-request-requires c κs = search needs
 
-enum-told : tie.Need-enum-told
-enum-told c = search needs
-
-result-of-requires : tie.Need-result-of-requires
-result-of-requires c κs = search needs
-
 enum-known-error : tie.Need-enum-known-error
 enum-known-error c = search needs
 
-move-last-requires : tie.Need-move-last-requires
-move-last-requires c κs = search needs
+no-entries-requires : tie.Need-no-entries-requires
+no-entries-requires c κs = search needs
 
-plain-requires : tie.Need-plain-requires
-plain-requires c κs = search needs
+enum-told : tie.Need-enum-told
+enum-told c = search needs
+
+entries-requires : tie.Need-entries-requires
+entries-requires c κs = search needs
 
 returns : tie.Need-returns
 returns c =
-    let j = c .before .before .before in
-    let w = j .before .before .before .before in
-    let k = w .before in
+    let j = c .before .before .before .before in
+    let k = j .before .before .before in
     let a = k .args in
-    rw (handled-passes (a .p) (a .t) (a .identifier) (a .operation) (a .r) (w .places-of .result) (w .places-of .ensures)
-    (sym (j .judge-request .ensures) ∙ c .before .enum-told .given .1))
-    (rw (toZ-ofZ (k .fits .identifier)) at (c .result-of .ensures))
+    rw (toZ-ofZ (k .fits .identifier))
+    (handled-listed (a .p) (a .identifier) (a .operation) (a .r) (a .last) (j .before .before .places-of .result) (a .row)
+    (j .before .before .places-of .ensures)
+    _ (rw (toZ-ofZ (k .fits .identifier)) at (j .before .last-after .ensures))
+    (sym (j .judge-request .ensures) ∙ c .before .before .enum-told .given .1)
+    (c .before .if1 .taken)
+    _ (c .entries .ensures))
+
+apply-request-requires : tie.Need-apply-request-requires
+apply-request-requires c κs = search needs
+
+no-entries-requires-2 : tie.Need-no-entries-requires-2
+no-entries-requires-2 c κs = search needs
 
 returns-2 : tie.Need-returns-2
 returns-2 c =
-    let j = c .before .before .before .before .before in
-    let w = j .before .before .before .before in
-    let k = w .before in
+    let j = c .before .before .before .before in
+    let k = j .before .before .before in
     let a = k .args in
-    handled-fails (a .p) (a .t) (a .identifier) (a .operation) (a .r) (w .places-of .result) (w .places-of .ensures)
-    _ (sym (j .judge-request .ensures) ∙ c .before .before .before .error .given .1)
-    _ (rw (toZ-ofZ (k .fits .identifier)) at (c .before .move-last .ensures))
-    _ (rw (toZ-ofZ (k .fits .identifier)) at (c .plain .ensures))
+    rw (toZ-ofZ (k .fits .identifier))
+    (handled-fails (a .p) (a .identifier) (a .operation) (a .r) (a .last) (j .before .before .places-of .result) (a .row)
+    (j .before .before .places-of .ensures)
+    _ (rw (toZ-ofZ (k .fits .identifier)) at (j .before .last-after .ensures))
+    _ (sym (j .judge-request .ensures) ∙ c .before .before .error .given .1)
+    _ (c .no-entries .ensures))
+
+returns-3 : tie.Need-returns-3
+returns-3 c =
+    let j = c .before .before .before .before .before in
+    let k = j .before .before .before in
+    let a = k .args in
+    rw (toZ-ofZ (k .fits .identifier))
+    (handled-changed (a .p) (a .identifier) (a .operation) (a .r) (a .last) (j .before .before .places-of .result) (a .row)
+    (j .before .before .places-of .ensures)
+    _ (rw (toZ-ofZ (k .fits .identifier)) at (j .before .last-after .ensures))
+    (sym (j .judge-request .ensures) ∙ c .before .before .before .enum-told .given .1)
+    (c .before .before .if1 .left)
+    _ (c .before .apply-request .ensures)
+    _ (c .no-entries2 .ensures))
 
 pub handle-spec : {M : Type 1} → statement M
 handle-spec =
     tie.close
     (tie.spec
     places-of-requires
-    cast-row
-    mul-row
-    element-copy-out-row
+    last-after-requires
     judge-request-requires
-    enum-told
-    result-of-requires
     enum-known-error
-    move-last-requires
-    plain-requires
+    no-entries-requires
+    enum-told
+    entries-requires
     returns
-    returns-2)
+    apply-request-requires
+    no-entries-requires-2
+    returns-2
+    returns-3)

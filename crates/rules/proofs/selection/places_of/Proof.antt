@@ -1,18 +1,21 @@
-use Rattle.rules.proofs.Selections.{Chosen, chosen-first, chosen-next, chosen-all}
-use Rattle.store.specs.Row.{places}
+use Rattle.rules.proofs.Selections.{Chosen, chosen-first, chosen-skip, chosen-put, chosen-all}
+use Rattle.access.specs.Profile.{numbersMost, servicesMost}
+use Rattle.laws.proofs.Over.{wrote}
+use Rattle.laws.proofs.Each.{length-each}
+use lib.ListN.{length}
 use borrow.Author.Needs.{needs}
 use native.Mathlib.Omega.{arith}
 use Prim.Native.Nat.{_-_, _≤_}
-use mathlib.Core.Path.{_≡_}
+use mathlib.Core.Logic.{⊎-elim}
+use mathlib.Core.Path.{_≡_, sym, _∙_}
 use Rattle.rules.proofs.selection.places_of.Statement.{statement}
 use Rattle.rules.proofs.selection.places_of.Tie as tie
 
 abbrev Inv-loop : tie.InvT-loop
-Inv-loop asked numbers offered services service codes₀ j₀ codes j =
-    (j ≤ places) × Chosen asked numbers offered services service codes j
+Inv-loop asked numbers services codes₀ k₀ codes k = (k ≤ numbersMost) × Chosen asked numbers services codes k
 
 abbrev μ-loop : tie.MeasureT-loop
-μ-loop asked numbers offered services service codes₀ j₀ codes j = places - j
+μ-loop asked numbers services codes₀ k₀ codes k = numbersMost - k
 
 number-asked-requires : tie.Need-number-asked-requires Inv-loop μ-loop
 number-asked-requires c κs = search needs
@@ -20,38 +23,55 @@ number-asked-requires c κs = search needs
 cast-numbers : tie.Need-cast-numbers Inv-loop μ-loop
 cast-numbers c = search needs
 
-cast-offered : tie.Need-cast-offered Inv-loop μ-loop
-cast-offered c = search needs
+codes-of-requires : tie.Need-codes-of-requires Inv-loop μ-loop
+codes-of-requires c κs = search needs
 
 loop-holds : tie.Need-loop-holds Inv-loop μ-loop
-loop-holds c = let s = c .before .before .before .before .args in (omega arith, chosen-first (c .before .before .before .number-asked .result) (s .p .numbercount) (s .p .servicecount) (s .p .services) (s .r .service))
+loop-holds c = (omega arith, chosen-first _ _ _)
 
-in-profile-requires : tie.Need-in-profile-requires Inv-loop μ-loop
-in-profile-requires c κs = search needs
+number-chosen-requires : tie.Need-number-chosen-requires Inv-loop μ-loop
+number-chosen-requires c κs = search needs
 
-is-asked-requires : tie.Need-is-asked-requires Inv-loop μ-loop
-is-asked-requires c κs = search needs
+slice-aggregate-put-all : tie.Need-slice-aggregate-put-all Inv-loop μ-loop
+slice-aggregate-put-all c = search needs
 
-array-read-code-chosen : tie.Need-array-read-code-chosen Inv-loop μ-loop
-array-read-code-chosen c = search needs
+mul-put-all : tie.Need-mul-put-all Inv-loop μ-loop
+mul-put-all c = search needs
 
-code-chosen-requires : tie.Need-code-chosen-requires Inv-loop μ-loop
-code-chosen-requires c κs = search needs
+slice-aggregate-put-all-2 : tie.Need-slice-aggregate-put-all-2 Inv-loop μ-loop
+slice-aggregate-put-all-2 c = search needs
 
-array-write-codes : tie.Need-array-write-codes Inv-loop μ-loop
-array-write-codes c = search needs
+put-all-requires : tie.Need-put-all-requires Inv-loop μ-loop
+put-all-requires c κs = search needs
 
-add-j : tie.Need-add-j Inv-loop μ-loop
-add-j c = search needs
+add-k : tie.Need-add-k Inv-loop μ-loop
+add-k c = search needs
 
 loop-less : tie.Need-loop-less Inv-loop μ-loop
 loop-less c = search needs
 
 loop-again : tie.Need-loop-again Inv-loop μ-loop
-loop-again c = let l = c .before .before .before .before in let a = l .before .before .before .before in let s = a .before .args in (omega arith, chosen-next (a .number-asked .result) (s .p .numbercount) (s .p .servicecount) (s .p .services) (s .r .service) (l .loop .codes) (l .loop .j) (omega arith) (c .before .before .in-profile .ensures) (c .before .is-asked .ensures) (c .code-chosen .ensures) (l .loop .inv .1))
+loop-again c =
+    let l = c .before .before .before in
+    let so = l .loop .inv in
+    let chosen = c .before .number-chosen .ensures in
+    let ws = l .before .codes-of .result in
+    let six : length ws ≡ servicesMost = rw (l .before .codes-of .ensures) (length-each _ servicesMost 0) in
+    ⊎-elim
+    (λ v.
+    let put = wrote (omega (arith, six, so .1 .long)) (v .3 .ensures) in
+    (omega arith, rw (v .5, put .holds) (chosen-put _ _ ws (l .loop .codes) (l .loop .k) (omega arith) (so .1) six (sym chosen ∙ v .0 .taken))))
+    (λ v. (omega arith, rw (v .1) (chosen-skip _ _ ws (l .loop .codes) (l .loop .k) (omega arith) (so .1) (sym chosen ∙ v .0 .left))))
+    (c .if1 .came)
 
 returns : tie.Need-returns Inv-loop μ-loop
-returns c = let l = c .before in let a = l .before .before .before .before in let s = a .before .args in let e : l .loop .j ≡ places = omega arith in chosen-all (s .p) (s .r) (a .number-asked .result) (l .loop .codes) (a .number-asked .ensures) (rw e at (l .loop .inv .1))
+returns c =
+    let l = c .before in
+    let a = l .before .before .before in
+    let s = a .before .args in
+    let end : l .loop .k ≡ numbersMost = omega arith in
+    chosen-all (s .p) (s .r) (a .number-asked .result) (l .loop .codes) (a .number-asked .ensures)
+    (rw (end, l .before .codes-of .ensures) at (l .loop .inv .1))
 
 pub places-of-spec : {M : Type 1} → statement M
 places-of-spec =
@@ -61,14 +81,14 @@ places-of-spec =
     μ-loop
     number-asked-requires
     cast-numbers
-    cast-offered
+    codes-of-requires
     loop-holds
-    in-profile-requires
-    is-asked-requires
-    array-read-code-chosen
-    code-chosen-requires
-    array-write-codes
-    add-j
+    number-chosen-requires
+    slice-aggregate-put-all
+    mul-put-all
+    slice-aggregate-put-all-2
+    put-all-requires
+    add-k
     loop-less
     loop-again
     returns)

@@ -1,11 +1,15 @@
+use Rattle.laws.proofs.Parts.{unmapped}
 use Rattle.access.proofs.Records.{access-good}
 use Rattle.access.specs.declared.access.AccessRead.{AccessRead}
 use Rattle.exchange.proofs.Arrivals.{done-short, done-long, done-profile, done-table, done-answers, refused-arrives, step-fits, answered-arrives}
 use Rattle.exchange.specs.declared.arrive.Refusal.the-variants.{ShortOutput, LongComponent, BadProfile, BadTable}
+use Rattle.exchange.proofs.Questions.{question-procedure}
+use Rattle.exchange.proofs.Steps.{step-of}
+use Rattle.exchange.specs.Step.{step, Stepping}
 use Rattle.exchange.specs.Arrive.{outputLeast}
-use Prim.Native.Nat.{_≤_}
+use Prim.Native.Nat.{_≤_, _<_}
 use lib.ListN.{length}
-use mathlib.Core.Path.{sym, ap, _∙_}
+use mathlib.Core.Path.{_≡_, refl, sym, ap, _∙_}
 use native.Mathlib.Omega.{arith}
 use borrow.Author.Tests.{not-true, not-false}
 use borrow.Author.Needs.{needs}
@@ -62,8 +66,30 @@ returns-4 c =
     (rw read at (sym (c .before .before .good2 .ensures) ∙ not-true _ (c .before .if4 .taken))))
     (c .refuses4 .ensures)
 
+question-of-requires : tie.Need-question-of-requires
+question-of-requires c κs = search needs
+
+cast-procedure : tie.Need-cast-procedure
+cast-procedure c = search needs
+
+mul-row : tie.Need-mul-row
+mul-row c = search needs
+
+element-copy-out-row : tie.Need-element-copy-out-row
+element-copy-out-row c =
+    let small : c .before .before .question-of .result .request .procedure < 3 = rw (c .before .before .question-of .ensures) (question-procedure _ _ _) in
+    search needs
+
 step-of-requires : tie.Need-step-of-requires
 step-of-requires c κs = search needs
+
+mul-after : tie.Need-mul-after
+mul-after c = search needs
+
+element-set-from-after : tie.Need-element-set-from-after
+element-set-from-after c =
+    let small : c .before .before .before .before .before .question-of .result .request .procedure < 3 = rw (c .before .before .before .before .before .question-of .ensures) (question-procedure _ _ _) in
+    search needs
 
 put-answer-requires : tie.Need-put-answer-requires
 put-answer-requires c κs = search needs
@@ -73,15 +99,22 @@ same-length c = search needs
 
 returns-5 : tie.Need-returns-5
 returns-5 c =
-    let a = c .before .before .before .before .before .before .before .before .before .before .before .before .before .before .before .before .before .before .args in
-    let read = c .before .before .before .before .before .before .before .before .before .before .before .before .read-access .ensures in
-    let ok = ap (λ (r : AccessRead). r .ok) (sym read) ∙ not-false _ (c .before .before .before .before .before .before .before .before .before .before .if3 .left) in
-    let good = rw read at (sym (c .before .before .before .before .before .before .before .before .good2 .ensures) ∙ not-false _ (c .before .before .before .before .before .before .before .if4 .left)) in
-    let room : outputLeast ≤ length (a .out .now) = omega (arith, c .before .before .before .before .before .before .before .before .before .before .before .before .before .before .if1 .left) in
-    answered-arrives (a .access .now) (a .self) (a .component .now) (a .out .now) _ _ _ _
-    (done-answers (a .access .now) (a .self) (a .component .now) (length (a .out .now)) room (omega (arith, c .before .before .before .before .before .before .before .before .before .before .before .before .before .if2 .left)) ok good)
+    let a = c .before .before .before .before .before .before .before .before .before .before .before .before .before .before .before .before .before .before .before .before .before .before .args in
+    let read = c .before .before .before .before .before .before .before .before .before .before .before .before .before .before .before .before .read-access .ensures in
+    let ok = ap (λ (r : AccessRead). r .ok) (sym read) ∙ not-false _ (c .before .before .before .before .before .before .before .before .before .before .before .before .before .before .if3 .left) in
+    let good = rw read at (sym (c .before .before .before .before .before .before .before .before .before .before .before .before .good2 .ensures) ∙ not-false _ (c .before .before .before .before .before .before .before .before .before .before .before .if4 .left)) in
+    let room : outputLeast ≤ length (a .out .now) = omega (arith, c .before .before .before .before .before .before .before .before .before .before .before .before .before .before .before .before .before .before .if1 .left) in
+    let q = c .before .before .before .before .before .before .before .before .before .before .question-of .result in
+    let small : q .request .procedure < 3 = rw (c .before .before .before .before .before .before .before .before .before .before .question-of .ensures) (question-procedure _ _ _) in
+    let start = c .before .before .before .before .before .before .before .before .before .before .before .before .before .before .before .before .before .before .before .before .before .before in
+    let rows : length (start .args .self .grid .rows) ≡ 3 = search (unmapped, needs, start .good) in
+    let steps : Stepping (a .self) (q .request .procedure) (step (c .before .before .before .before .before .before .before .before .before .before .before .before .before .before .before .before .read-access .result .profile) (a .self) (a .component .now)) (c .before .before .before .before .before .before .step-of .result) =
+    rw (step-of _ (a .self) (a .component .now) _ (c .before .before .before .before .before .before .before .before .before .before .question-of .ensures))
+    (c .before .before .before .before .before .before .step-of .ensures (a .self) refl refl (omega (arith, rows))) in
+    answered-arrives (a .access .now) (a .self) (a .component .now) (a .out .now) _ _ _ _ _
+    (done-answers (a .access .now) (a .self) (a .component .now) (length (a .out .now)) room (omega (arith, c .before .before .before .before .before .before .before .before .before .before .before .before .before .before .before .before .before .if2 .left)) ok good)
     (step-fits _ (a .self) (access-good (a .access .now) ok) good (a .component .now))
-    (rw read at (c .before .before .before .before .before .before .step-of .ensures))
+    (rw read at steps)
     room
     (c .before .before .put-answer .ensures)
 
@@ -99,7 +132,13 @@ arrive-spec =
     good-requires
     refuses-requires-4
     returns-4
+    question-of-requires
+    cast-procedure
+    mul-row
+    element-copy-out-row
     step-of-requires
+    mul-after
+    element-set-from-after
     put-answer-requires
     same-length
     returns-5)

@@ -14,8 +14,8 @@ good-requires c κs = search needs
 
 returns-2 : tie.Need-returns-2
 returns-2 c =
-    let a = c .before .before .before .before .args in
-    c .good2 .ensures ∙ sym (table-grid limit (a .p) (a .self) (c .before .before .if1 .left))
+    let a = c .before .before .before .args in
+    c .good2 .ensures ∙ sym (table-grid limit (a .p) (a .self) (c .before .if1 .left))
 
 pub good-spec : {M : Type 1} → statement M
 good-spec = tie.close (tie.spec returns good-requires returns-2)
