@@ -1,6 +1,6 @@
 //! What an exchange makes of a call record, against the access and table records there are.
 
-use crate::access_record::{number_octets, read_access};
+use crate::access_record::number_octets;
 use crate::call_record::read_call;
 use crate::calls::{call, Call, CallOutcome, Diverted, Notice};
 use crate::hexadecimal::joined;
@@ -80,8 +80,7 @@ impl Situation {
 
     /// Refusals 3, 4 and 5, lowest first: each record is judged before the next one is read.
     pub fn lent(&self, record: &[u8]) -> Result<Lent, Refusal> {
-        let profile = read_access(&self.access)?;
-        profile.check()?;
+        let profile = self.profile()?;
         let table = self.table.read(&profile)?;
         table.check(&profile)?;
         let call = read_call(record)?;

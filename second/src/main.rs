@@ -12,8 +12,10 @@ use second::dialogues::{dialogues, disagreements, transcript, Dialogue};
 use second::exchange_cases::exchange_cases;
 use second::list_cases::list_cases;
 use second::listing::printed;
+use second::sheet_cases::sheet_cases;
+use second::sheet_dialogues::sheet_dialogues;
 use second::soak::soak;
-use second::tally::Tally;
+use second::tally::MustReach;
 
 const HELP: &str = "\
 second list < SHEET        list a night sheet, or print: refused 9
@@ -34,6 +36,12 @@ second call-dialogues DIR  write dialogues of calls, what becomes of each stated
 second call-cases SEED COUNT DIR
                            write so many calls made from the seed, with what this program makes of
                            them; files, tally and exit code as for exchange-cases
+second sheet-dialogues DIR write dialogues about night sheets, what comes of writing, reading and
+                           listing them stated by hand; files and exit code as for dialogues
+second sheet-cases SEED COUNT DIR
+                           write so many lines of sheets written, read and listed, made from the
+                           seed, with the answers of this program's sheets; files, tally and exit
+                           code as for exchange-cases
 second help                this text
 ";
 
@@ -52,11 +60,15 @@ fn main() -> ExitCode {
         ["list-cases", directory] => write_list_cases(Path::new(directory)),
         ["dialogues", directory] => write_dialogues(&dialogues(), Path::new(directory)),
         ["call-dialogues", directory] => write_dialogues(&call_dialogues(), Path::new(directory)),
+        ["sheet-dialogues", directory] => write_dialogues(&sheet_dialogues(), Path::new(directory)),
         ["exchange-cases", seed, count, directory] => {
             write_cases(exchange_cases, "components", [seed, count], directory)
         }
         ["call-cases", seed, count, directory] => {
             write_cases(call_cases, "calls", [seed, count], directory)
+        }
+        ["sheet-cases", seed, count, directory] => {
+            write_cases(sheet_cases, "lines about sheets", [seed, count], directory)
         }
         ["help"] => print(HELP).map(|()| ExitCode::SUCCESS),
         _ => misused(),
@@ -113,8 +125,8 @@ fn write_dialogues(all: &[Dialogue], directory: &Path) -> io::Result<ExitCode> {
 }
 
 /// The numbers are the seed, and how many cases to make.
-fn write_cases<K: PartialEq>(
-    make: fn(u64, u64) -> Cases<K>,
+fn write_cases<T: MustReach>(
+    make: fn(u64, u64) -> Cases<T>,
     what: &str,
     numbers: [&str; 2],
     directory: &str,
@@ -146,7 +158,7 @@ fn run_soak(seeds: u64, steps: u64) -> io::Result<ExitCode> {
 }
 
 /// Exit code 1 where a kind was never reached.
-fn print_tally<K: PartialEq>(tally: &Tally<K>) -> io::Result<ExitCode> {
+fn print_tally(tally: &impl MustReach) -> io::Result<ExitCode> {
     print(&tally.to_string())?;
     let never = tally.never_reached();
     for kind in &never {

@@ -5,9 +5,9 @@ use crate::codes::{is_procedure, is_service};
 use crate::numbers::{Address, Number, Subaddress};
 use crate::profile::Profile;
 use crate::refusal::{require, write_into, Refusal, SHEET_OUTPUT};
-use crate::table::{few_enough, good_last, sorted, Instance, Table};
+use crate::sheet_fields::{SheetFields, FORM};
+use crate::table::{few_enough, good_last, Instance, Table};
 
-const FORM: u64 = 1;
 const MORE_FOLLOW: u8 = 0x80;
 const GROUP: u8 = 0x7F;
 
@@ -52,48 +52,21 @@ pub fn read_groups(octets: &mut &[u8]) -> Option<u64> {
 
 /// Refusals 1, 3, 4.
 pub fn write(output: &mut [u8], profile: &Profile, table: &Table) -> Result<usize, Refusal> {
-    require(output.len() >= SHEET_OUTPUT, Refusal::OutputTooSmall)?;
+    size_fits(output)?;
     profile.check()?;
     table.check(profile)?;
-    Ok(write_into(output, &written(table)))
+    Ok(write_into(output, &written(&SheetFields::of(table))))
 }
 
-fn written(table: &Table) -> Vec<u8> {
-    let mut octets = groups(FORM);
-    octets.extend(groups(field(table.last)));
-    octets.extend(groups(table.instances.len() as u64));
-    for instance in sorted(table.instances.clone()) {
-        write_instance(&mut octets, &instance);
-    }
-    octets
+/// Refusal 1, whatever the sheet's own length.
+pub fn size_fits(output: &[u8]) -> Result<(), Refusal> {
+    require(output.len() >= SHEET_OUTPUT, Refusal::OutputTooSmall)
 }
 
-fn write_instance(octets: &mut Vec<u8>, instance: &Instance) {
-    let number = &instance.address.number;
-    for value in [
-        instance.procedure,
-        instance.number,
-        instance.service,
-        number.form,
-        number.number_type,
-    ] {
-        octets.extend(groups(field(value)));
-    }
-    octets.extend(groups(number.digits.len() as u64));
-    // A68: digits are values, not characters.
-    for digit in &number.digits {
-        octets.extend(groups(u64::from(digit.wrapping_sub(b'0'))));
-    }
-    let subaddress = instance.address.subaddress.octets();
-    octets.extend(groups(subaddress.len() as u64));
-    for octet in subaddress {
-        octets.extend(groups(u64::from(*octet)));
-    }
-}
-
-/// Only good tables are written, so no field is negative.
-fn field(value: i32) -> u64 {
-    u64::try_from(value).unwrap_or(u64::MAX)
+/// Every field in groups, one after the other.
+pub fn written(sheet: &SheetFields) -> Vec<u8> {
+    let fields = sheet.in_order().into_iter();
+    fields.flat_map(|(_, value)| groups(value)).collect()
 }
 
 /// Refusals 3, 9.

@@ -5,6 +5,12 @@ use std::fmt;
 /// Each kind and its name.
 pub type Kinds<K> = &'static [(K, &'static str)];
 
+/// Counts as they are printed, of kinds that must all be reached.
+pub trait MustReach: fmt::Display {
+    /// The names of the kinds never reached.
+    fn never_reached(&self) -> Vec<String>;
+}
+
 #[derive(Clone, Debug, PartialEq, Eq)]
 pub struct Tally<K: 'static> {
     kinds: Kinds<K>,
@@ -33,13 +39,14 @@ impl<K: PartialEq> Tally<K> {
             .find(|(_, (listed, _))| *listed == kind)
             .map_or(0, |(count, _)| *count)
     }
+}
 
-    /// The names of the kinds never reached.
-    pub fn never_reached(&self) -> Vec<&'static str> {
+impl<K> MustReach for Tally<K> {
+    fn never_reached(&self) -> Vec<String> {
         let counted = self.counts.iter().zip(self.kinds);
         counted
             .filter(|(count, _)| **count == 0)
-            .map(|(_, (_, name))| *name)
+            .map(|(_, (_, name))| name.to_string())
             .collect()
     }
 }

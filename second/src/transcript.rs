@@ -5,6 +5,7 @@ use crate::answer::Answer;
 use crate::call_answer::CallAnswer;
 use crate::exchange::{arrive, sizes_fit, Arrived};
 use crate::hexadecimal::joined;
+use crate::profile::Profile;
 use crate::refusal::{Refusal, COMPONENT_OUTPUT};
 use crate::table_record::TableRecord;
 
@@ -16,7 +17,7 @@ pub enum Said {
     Replied(Vec<u8>),
 }
 
-/// What there is when a component arrives, or a call comes.
+/// What there is when a component arrives, a call comes, or a sheet is written or read.
 #[derive(Clone, Debug, PartialEq, Eq)]
 pub struct Situation {
     /// The access record, of any size.
@@ -58,12 +59,18 @@ impl Situation {
     pub fn arrived(&self, component: &[u8]) -> Outcome {
         let mut output = vec![0; self.output];
         sizes_fit(&output, component)?;
-        let profile = read_access(&self.access)?;
-        profile.check()?;
+        let profile = self.profile()?;
         let table = self.table.read(&profile)?;
         let arrived = arrive(&mut output, component, &profile, &table)?;
         let next = self.table.after(&profile, &arrived);
         Ok((arrived, next))
+    }
+
+    /// The profile of the access record; refusal 3.
+    pub fn profile(&self) -> Result<Profile, Refusal> {
+        let profile = read_access(&self.access)?;
+        profile.check()?;
+        Ok(profile)
     }
 }
 
@@ -111,17 +118,25 @@ impl Transcript {
 
     /// A component arrives; the next table is the one there is from now on.
     pub fn component(&mut self, octets: &[u8], said: &Said, next: &TableRecord) {
-        self.line("component", &joined(octets));
-        self.expected.push_str(&expected_line(said, next));
+        self.asked("component", octets, &expected_line(said, next));
+        self.now_holds(next);
+    }
+
+    /// A line that prints something.
+    pub fn asked(&mut self, word: &str, octets: &[u8], printed: &str) {
+        self.line(word, &joined(octets));
+        self.expected.push_str(printed);
         self.expected.push('\n');
-        self.now.table.clone_from(next);
+    }
+
+    /// The line before has brought about this table.
+    pub fn now_holds(&mut self, table: &TableRecord) {
+        self.now.table.clone_from(table);
     }
 
     /// A call comes; the table stays.
     pub fn call(&mut self, octets: &[u8], answer: &CallAnswer) {
-        self.line("call", &joined(octets));
-        self.expected.push_str(&answer.line());
-        self.expected.push('\n');
+        self.asked("call", octets, &answer.line());
     }
 
     /// A word with nothing after it ends the line.

@@ -2,11 +2,15 @@
 
 mod common;
 
-use common::lines::{count, directory, files_hold, names_hold, outputs_hold, run, sizes_hold};
+use common::lines::{
+    both_files_are_written, count, directory, files_hold, names_hold, outputs_hold, run,
+    seed_decides, sizes_hold,
+};
 use second::call_answer::CallAnswer;
 use second::call_cases::{call_cases, Reached};
 use second::call_dialogues::call_dialogues;
-use second::dialogues::{disagreements, transcript, Comes};
+use second::dialogues::{disagreements, transcript, Line};
+use second::tally::MustReach;
 
 #[test]
 fn this_programs_calls_agree_with_the_hand() {
@@ -16,7 +20,7 @@ fn this_programs_calls_agree_with_the_hand() {
 #[test]
 fn a_wrong_statement_is_found_by_its_name() {
     let mut all = call_dialogues();
-    let Comes::Call { answer, .. } = &mut all[4].turns[1].comes else {
+    let Line::Call { answer, .. } = &mut all[4].turns[1].line else {
         panic!("a call")
     };
     assert_ne!(*answer, CallAnswer::Passed);
@@ -50,15 +54,7 @@ fn dialogues_are_short_enough_to_be_kept() {
 
 #[test]
 fn cases_are_the_same_for_the_same_seed() {
-    let (one, again, other) = (
-        call_cases(9, 1_000),
-        call_cases(9, 1_000),
-        call_cases(10, 1_000),
-    );
-    assert_eq!(one.lines.input, again.lines.input);
-    assert_eq!(one.lines.expected, again.lines.expected);
-    assert_eq!(one.tally, again.tally);
-    assert_ne!(one.lines.input, other.lines.input);
+    seed_decides(call_cases, 1_000);
 }
 
 #[test]
@@ -66,7 +62,7 @@ fn cases_reach_every_kind_and_most_meet_an_instance() {
     for seed in [1, 2, 3] {
         let cases = call_cases(seed, 8_000);
         assert_eq!(count(&cases.lines, "call"), 8_000);
-        assert_eq!(cases.tally.never_reached(), Vec::<&str>::new());
+        assert_eq!(cases.tally.never_reached(), Vec::<String>::new());
         let reached = |kind| cases.tally.count(kind);
         let refused = reached(Reached::Refusal(3)) + reached(Reached::Refusal(4));
         assert!(refused <= 8_000 / 4, "{refused}");
@@ -78,10 +74,7 @@ fn cases_reach_every_kind_and_most_meet_an_instance() {
 
 #[test]
 fn the_program_writes_both_files() {
-    let directory = directory("call-dialogues");
-    let name = directory.to_string_lossy();
-    assert_eq!(run(&["call-dialogues", &name]), (Some(0), String::new()));
-    files_hold(&directory, &transcript(&call_dialogues()));
+    both_files_are_written("call-dialogues", &call_dialogues());
 }
 
 #[test]

@@ -10,11 +10,12 @@ use second::refusal::Refusal;
 use second::request::Served;
 use second::soak::soak;
 use second::table::Table;
+use second::tally::MustReach;
 
 #[test]
 fn at_every_moment_each_known_procedure_equals_the_table() {
     let tally = soak(300, 500).unwrap_or_else(|fault| panic!("{fault:?}"));
-    assert_eq!(tally.never_reached(), Vec::<&str>::new());
+    assert_eq!(tally.never_reached(), Vec::<String>::new());
 }
 
 #[test]

@@ -2,10 +2,14 @@
 
 mod common;
 
-use common::lines::{count, directory, files_hold, names_hold, outputs_hold, run, sizes_hold};
-use second::dialogues::{dialogues, disagreements, transcript, Comes, Turn};
+use common::lines::{
+    both_files_are_written, count, directory, files_hold, names_hold, outputs_hold, run,
+    seed_decides, sizes_hold,
+};
+use second::dialogues::{dialogues, disagreements, transcript, Line, Turn};
 use second::exchange_cases::{exchange_cases, Reached};
 use second::table_record::TableRecord;
+use second::tally::MustReach;
 use second::transcript::Said;
 
 #[test]
@@ -14,10 +18,10 @@ fn this_programs_exchange_agrees_with_the_hand() {
 }
 
 fn stated(turn: &mut Turn) -> (&mut Said, &mut TableRecord) {
-    match &mut turn.comes {
-        Comes::Component { said, next, .. } => (said, next),
-        Comes::Call { .. } => panic!("a component"),
-    }
+    let Line::Component { said, next, .. } = &mut turn.line else {
+        panic!("a component")
+    };
+    (said, next)
 }
 
 #[test]
@@ -52,15 +56,7 @@ fn dialogues_are_short_enough_to_be_kept() {
 
 #[test]
 fn cases_are_the_same_for_the_same_seed() {
-    let (one, again, other) = (
-        exchange_cases(9, 2_000),
-        exchange_cases(9, 2_000),
-        exchange_cases(10, 2_000),
-    );
-    assert_eq!(one.lines.input, again.lines.input);
-    assert_eq!(one.lines.expected, again.lines.expected);
-    assert_eq!(one.tally, again.tally);
-    assert_ne!(one.lines.input, other.lines.input);
+    seed_decides(exchange_cases, 2_000);
 }
 
 #[test]
@@ -68,7 +64,7 @@ fn cases_reach_every_kind_and_few_are_refused() {
     for seed in [1, 2, 3] {
         let cases = exchange_cases(seed, 24_000);
         assert_eq!(count(&cases.lines, "component"), 24_000);
-        assert_eq!(cases.tally.never_reached(), Vec::<&str>::new());
+        assert_eq!(cases.tally.never_reached(), Vec::<String>::new());
         let refused: u64 = (1..=4)
             .map(|number| cases.tally.count(Reached::Refusal(number)))
             .sum();
@@ -78,10 +74,7 @@ fn cases_reach_every_kind_and_few_are_refused() {
 
 #[test]
 fn the_program_writes_both_files() {
-    let directory = directory("dialogues");
-    let name = directory.to_string_lossy();
-    assert_eq!(run(&["dialogues", &name]), (Some(0), String::new()));
-    files_hold(&directory, &transcript(&dialogues()));
+    both_files_are_written("dialogues", &dialogues());
 }
 
 #[test]

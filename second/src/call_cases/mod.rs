@@ -12,13 +12,14 @@ use crate::random::Random;
 use crate::records_at_random::{access, bad_access, bad_table, table};
 use crate::table::Table;
 use crate::table_record::TableRecord;
+use crate::tally::Tally;
 use crate::transcript::Situation;
 
 pub use kinds::{Reached, KINDS};
 
 /// So many calls, the same for the same seed.
-pub fn call_cases(seed: u64, count: u64) -> Cases<Reached> {
-    let mut cases = Cases::to_make(seed, count, &KINDS);
+pub fn call_cases(seed: u64, count: u64) -> Cases<Tally<Reached>> {
+    let mut cases = Cases::to_make(seed, count, Tally::of(&KINDS));
     while cases.left > 0 {
         // Refused episodes are short, so that most calls get past refusals 3 and 4.
         if cases.random.once_in(3) {
@@ -30,7 +31,7 @@ pub fn call_cases(seed: u64, count: u64) -> Cases<Reached> {
     cases
 }
 
-impl Cases<Reached> {
+impl Cases<Tally<Reached>> {
     /// Seldom a table without instances.
     fn profile_and_table(&mut self) -> (Profile, Table) {
         let random = &mut self.random;
@@ -85,10 +86,9 @@ impl Cases<Reached> {
 
     /// A call comes, unless there are cases enough.
     fn case(&mut self, profile: &Profile, held: &Table) {
-        if self.left == 0 {
+        if !self.one_more() {
             return;
         }
-        self.left -= 1;
         let (making, record) = makings::any(&mut self.random, profile, held);
         let now = self.lines.now();
         for kind in reached::by(now, making, &record) {

@@ -1,8 +1,7 @@
 //! Tables that break one rule each, refusal 4, and tables that just keep them.
 
 use crate::codes::{CFB, CFU};
-use crate::profile::Profile;
-use crate::samples::{instance, wide_profile};
+use crate::samples::instance;
 use crate::table::Table;
 use crate::table_record::{
     cell, cell_place, TableRecord, DIGITS, DIGIT_COUNT, FORM, SUBADDRESS_COUNT, TYPE,
@@ -10,8 +9,8 @@ use crate::table_record::{
 
 use super::script::{dialogue, Dialogue};
 use super::words::{
-    all_numbers, interrogation, list, listed, refused, silent, to, to_public, with_subaddress,
-    TWENTY,
+    all_numbers, interrogation, list, listed, narrow_access, refused, silent, to, to_public,
+    with_subaddress, TWENTY,
 };
 
 pub fn dialogues() -> Vec<Dialogue> {
@@ -23,18 +22,8 @@ pub fn dialogues() -> Vec<Dialogue> {
     all
 }
 
-/// Three numbers, services 1, 2, 3 and 32; cfnr is not subscribed.
-fn access() -> Profile {
-    Profile {
-        numbers: wide_profile().numbers[..3].to_vec(),
-        services: vec![1, 2, 3, 32],
-        subscribed: [1, 1, 0],
-        ..wide_profile()
-    }
-}
-
 fn refuses(name: &str, records: Vec<TableRecord>) -> Dialogue {
-    let talk = dialogue(format!("bad table: {name}"), &access());
+    let talk = dialogue(format!("bad table: {name}"), &narrow_access());
     records.into_iter().fold(talk, |talk, record| {
         talk.record(record).hears_hex("A2 00", refused(4))
     })
@@ -117,7 +106,7 @@ fn bad_octets() -> Vec<Dialogue> {
 
 fn nine_instances() -> Dialogue {
     let mut record = TableRecord::fresh();
-    for (place, code) in access().services.iter().enumerate().take(3) {
+    for (place, code) in narrow_access().services.iter().enumerate().take(3) {
         for number in 0..3 {
             record.cells[cell_place(1, number, place)] = cell(*code, &to("1"));
         }
@@ -137,16 +126,19 @@ fn just_good() -> Vec<Dialogue> {
     };
     let mut longest = instance(CFB, 2, 32, "1");
     longest.address = with_subaddress(to(TWENTY), &[0; 20]);
-    let entry = listed(&access().numbers[2], &longest);
+    let entry = listed(&narrow_access().numbers[2], &longest);
     vec![
         dialogue(
             "good table: eight of each procedure, last 32,767",
-            &access(),
+            &narrow_access(),
         )
-        .record(TableRecord::of(&access(), &full))
+        .record(TableRecord::of(&narrow_access(), &full))
         .hears_hex("A2 00", silent()),
-        dialogue("good table: 20 digits, subaddress of 20 octets", &access())
-            .table(0, &[longest])
-            .asks(1, &interrogation(CFB, 0, all_numbers()), list(1, &[entry])),
+        dialogue(
+            "good table: 20 digits, subaddress of 20 octets",
+            &narrow_access(),
+        )
+        .table(0, &[longest])
+        .asks(1, &interrogation(CFB, 0, all_numbers()), list(1, &[entry])),
     ]
 }

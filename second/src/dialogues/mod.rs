@@ -7,7 +7,7 @@ mod edges_of_errors;
 mod errors_of_activation;
 mod errors_of_all;
 mod good_codings;
-mod guarded;
+pub(crate) mod guarded;
 mod identifiers;
 mod lists;
 mod of_document;
@@ -18,11 +18,13 @@ mod rows_of_arguments;
 mod rows_of_shape;
 pub(crate) mod script;
 mod selection;
+mod turn;
 pub(crate) mod words;
 
 use crate::transcript::Transcript;
 
-pub use script::{Comes, Dialogue, Turn};
+pub use script::{dialogue, Dialogue};
+pub use turn::{Line, Turn};
 
 pub fn dialogues() -> Vec<Dialogue> {
     [
@@ -48,15 +50,13 @@ pub fn dialogues() -> Vec<Dialogue> {
     .collect()
 }
 
-/// Where this program's own exchange says otherwise than the hand, leaves another table, or makes
-/// something else of a call.
+/// Where this program says otherwise than the hand, or leaves another table.
 pub fn disagreements(dialogues: &[Dialogue]) -> Vec<String> {
     let mut found = Vec::new();
     for talk in dialogues {
         for (turn, at) in talk.turns.iter().zip(1..) {
-            let (stated, answered) = (turn.stated(), turn.answered());
+            let (name, stated, answered) = (&talk.name, turn.stated(), turn.answered());
             if stated != answered {
-                let name = &talk.name;
                 found.push(format!(
                     "{name}, turn {at}:\nstated   {stated}\nanswered {answered}"
                 ));
@@ -72,7 +72,7 @@ pub fn transcript(dialogues: &[Dialogue]) -> Transcript {
     for talk in dialogues {
         lines.remark(&talk.name);
         for turn in &talk.turns {
-            turn.write(&mut lines);
+            turn.tell(&mut lines);
         }
     }
     lines

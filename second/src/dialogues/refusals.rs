@@ -5,11 +5,11 @@ use crate::codes::CFB;
 use crate::elements::element;
 use crate::filled::filled;
 use crate::samples::{instance, sample_profile};
-use crate::table_record::TableRecord;
 
 use super::script::{dialogue, Dialogue};
 use super::words::{
-    all_numbers, deactivation, interrogation, list, refused, reject_null, result, silent, SPEECH,
+    all_numbers, bad_table, deactivation, interrogation, list, refused, reject_null, result,
+    silent, SPEECH,
 };
 
 pub fn dialogues() -> Vec<Dialogue> {
@@ -79,10 +79,6 @@ fn component_sizes() -> Vec<Dialogue> {
 }
 
 fn lowest_first() -> Vec<Dialogue> {
-    let bad_table = TableRecord {
-        last: 32_768,
-        ..TableRecord::fresh()
-    };
     let long = vec![0; 1_025];
     let whole = || vec![0xA2, 0];
     let good = |name| dialogue(name, &sample_profile());
@@ -95,25 +91,25 @@ fn lowest_first() -> Vec<Dialogue> {
             .output(706)
             .hears(whole(), refused(1)),
         good("refusal 1 before 4")
-            .record(bad_table.clone())
+            .record(bad_table())
             .output(706)
             .hears(whole(), refused(1)),
         bad_access("refusal 2 before 3").hears(long.clone(), refused(2)),
         good("refusal 2 before 4")
-            .record(bad_table.clone())
+            .record(bad_table())
             .hears(long.clone(), refused(2)),
         bad_access("refusal 3 before 4")
-            .record(bad_table.clone())
+            .record(bad_table())
             .hears(whole(), refused(3)),
         bad_access("refusal 1 before 2, 3 and 4")
-            .record(bad_table.clone())
+            .record(bad_table())
             .output(706)
             .hears(long.clone(), refused(1))
             .output(707)
             .hears(long, refused(2)),
         bad_access("refusal 3 before any reply").hears(vec![], refused(3)),
         good("refusal 4 before any reply")
-            .record(bad_table)
+            .record(bad_table())
             .hears(vec![], refused(4)),
     ]
 }

@@ -8,7 +8,8 @@ use crate::table::Instance;
 
 use super::script::{dialogue, Dialogue};
 use super::words::{
-    activation, all_numbers, deactivation, error, individual, nine_cells, result, to,
+    activation, all_numbers, deactivation, error, grid, individual, instances, nine_cells, result,
+    to,
 };
 
 pub fn dialogues() -> Vec<Dialogue> {
@@ -27,22 +28,6 @@ fn eight_cells() -> Profile {
         services: vec![1, 2, 3, 4],
         ..nine_cells()
     }
-}
-
-fn instances(procedure: i32, cells: &[(i32, i32)], digits: &str) -> Vec<Instance> {
-    let cells = cells.iter();
-    cells
-        .map(|(number, service)| instance(procedure, *number, *service, digits))
-        .collect()
-}
-
-/// Every number with each of these services.
-fn grid(procedure: i32, numbers: &[i32], services: &[i32], digits: &str) -> Vec<Instance> {
-    let cells: Vec<(i32, i32)> = numbers
-        .iter()
-        .flat_map(|number| services.iter().map(|service| (*number, *service)))
-        .collect();
-    instances(procedure, &cells, digits)
 }
 
 fn fits_exactly() -> Vec<Dialogue> {

@@ -1,5 +1,6 @@
-//! A dialogue written out by hand: each component with what must be said to it and the table it
-//! must leave, each call with what must become of it.
+//! A dialogue written out by hand, turn by turn: each component with what must be said to it and
+//! the table it must leave, each call with what must become of it, each night sheet with what must
+//! come of writing, reading or listing it.
 
 use crate::access_record::access_record;
 use crate::call_answer::CallAnswer;
@@ -9,64 +10,23 @@ use crate::hexadecimal::octets;
 use crate::profile::Profile;
 use crate::request::Request;
 use crate::samples::table;
+use crate::sheet_line::SheetLine;
 use crate::table::Instance;
 use crate::table_record::TableRecord;
-use crate::transcript::{expected_line, Said, Situation, Transcript};
+use crate::transcript::{Said, Situation};
+
+use super::turn::{Line, Turn};
 
 pub struct Dialogue {
     pub name: String,
     pub turns: Vec<Turn>,
-    /// Says where the services named in `then_holds` stand.
+    /// Says where the services of the tables stated stand.
     profile: Profile,
     now: Situation,
 }
 
-pub struct Turn {
-    pub before: Situation,
-    pub comes: Comes,
-}
-
-/// What comes to the exchange, and what is stated by hand.
-pub enum Comes {
-    Component {
-        octets: Vec<u8>,
-        said: Said,
-        next: Box<TableRecord>,
-    },
-    Call {
-        octets: Vec<u8>,
-        answer: CallAnswer,
-    },
-}
-
-impl Turn {
-    /// The line of output stated by hand.
-    pub fn stated(&self) -> String {
-        match &self.comes {
-            Comes::Component { said, next, .. } => expected_line(said, next),
-            Comes::Call { answer, .. } => answer.line(),
-        }
-    }
-
-    /// The line that this program's own exchange gives.
-    pub fn answered(&self) -> String {
-        match &self.comes {
-            Comes::Component { octets, .. } => {
-                let (said, next) = self.before.answered(octets);
-                expected_line(&said, &next)
-            }
-            Comes::Call { octets, .. } => self.before.called(octets).line(),
-        }
-    }
-
-    pub fn write(&self, lines: &mut Transcript) {
-        lines.bring_about(&self.before);
-        match &self.comes {
-            Comes::Component { octets, said, next } => lines.component(octets, said, next),
-            Comes::Call { octets, answer } => lines.call(octets, answer),
-        }
-    }
-}
+/// Document 01's number of "sheet not a form 1 sheet".
+const NOT_A_SHEET: u8 = 9;
 
 /// A fresh table and 707 octets of output.
 pub fn dialogue(name: impl Into<String>, profile: &Profile) -> Dialogue {
@@ -79,8 +39,9 @@ pub fn dialogue(name: impl Into<String>, profile: &Profile) -> Dialogue {
     start.moves_to(profile)
 }
 
+/// What there is from now on.
 impl Dialogue {
-    /// From now on another profile, while the table stays.
+    /// Another profile, while the table stays.
     pub fn moves_to(mut self, profile: &Profile) -> Self {
         self.profile = profile.clone();
         self.access(access_record(profile))
@@ -92,8 +53,12 @@ impl Dialogue {
     }
 
     pub fn table(self, last: i32, instances: &[Instance]) -> Self {
-        let record = TableRecord::of(&self.profile, &table(last, instances));
+        let record = self.stated_table(last, instances);
         self.record(record)
+    }
+
+    fn stated_table(&self, last: i32, instances: &[Instance]) -> TableRecord {
+        TableRecord::of(&self.profile, &table(last, instances))
     }
 
     pub fn record(mut self, record: TableRecord) -> Self {
@@ -106,29 +71,23 @@ impl Dialogue {
         self
     }
 
+    fn turn(mut self, line: Line) -> Self {
+        let before = self.now.clone();
+        self.turns.push(Turn { before, line });
+        self
+    }
+}
+
+/// Components.
+impl Dialogue {
     /// A component arrives. The table stays, unless a `then_` says what it is afterwards.
     pub fn hears(self, component: Vec<u8>, said: Said) -> Self {
         let next = Box::new(self.now.table.clone());
-        self.turn(Comes::Component {
+        self.turn(Line::Component {
             octets: component,
             said,
             next,
         })
-    }
-
-    fn turn(mut self, comes: Comes) -> Self {
-        let before = self.now.clone();
-        self.turns.push(Turn { before, comes });
-        self
-    }
-
-    pub fn calls(self, call: &Call, answer: CallAnswer) -> Self {
-        self.calls_octets(call_record(call), answer)
-    }
-
-    /// A call record of any size comes.
-    pub fn calls_octets(self, octets: Vec<u8>, answer: CallAnswer) -> Self {
-        self.turn(Comes::Call { octets, answer })
     }
 
     pub fn hears_hex(self, component: &str, said: Said) -> Self {
@@ -147,7 +106,7 @@ impl Dialogue {
 
     /// The table the latest component leaves.
     pub fn then_holds(self, last: i32, instances: &[Instance]) -> Self {
-        let record = TableRecord::of(&self.profile, &table(last, instances));
+        let record = self.stated_table(last, instances);
         self.then_record(record)
     }
 
@@ -159,10 +118,70 @@ impl Dialogue {
     }
 
     pub fn then_record(mut self, record: TableRecord) -> Self {
-        let latest = self.turns.last_mut().map(|turn| &mut turn.comes);
-        if let Some(Comes::Component { next, .. }) = latest {
+        let latest = self.turns.last_mut().map(|turn| &mut turn.line);
+        if let Some(Line::Component { next, .. }) = latest {
             **next = record.clone();
         }
         self.record(record)
+    }
+}
+
+/// Calls; the table stays.
+impl Dialogue {
+    pub fn calls(self, call: &Call, answer: CallAnswer) -> Self {
+        self.calls_octets(call_record(call), answer)
+    }
+
+    /// A call record of any size comes.
+    pub fn calls_octets(self, octets: Vec<u8>, answer: CallAnswer) -> Self {
+        self.turn(Line::Call { octets, answer })
+    }
+}
+
+/// Night sheets, as hexadecimal text.
+impl Dialogue {
+    fn sheet(self, line: SheetLine) -> Self {
+        self.turn(Line::Sheet(line))
+    }
+
+    pub fn writes(self, sheet: &str) -> Self {
+        self.sheet(SheetLine::Write(Ok(octets(sheet))))
+    }
+
+    pub fn write_refused(self, number: u8) -> Self {
+        self.sheet(SheetLine::Write(Err(number)))
+    }
+
+    /// The sheet gives this table, which is the one there is from now on.
+    pub fn reads(self, sheet: &str, last: i32, instances: &[Instance]) -> Self {
+        let read = self.stated_table(last, instances);
+        let line = SheetLine::Read(octets(sheet), Ok(Box::new(read.clone())));
+        self.sheet(line).record(read)
+    }
+
+    /// The table there is stays.
+    pub fn read_refused(self, number: u8, sheet: &str) -> Self {
+        self.sheet(SheetLine::Read(octets(sheet), Err(number)))
+    }
+
+    pub fn lists(self, sheet: &str, listing: &str) -> Self {
+        self.sheet(SheetLine::List(octets(sheet), Ok(listing.to_string())))
+    }
+
+    pub fn list_refused(self, sheet: &str) -> Self {
+        self.sheet(SheetLine::List(octets(sheet), Err(NOT_A_SHEET)))
+    }
+
+    /// Read or listed, it is no sheet.
+    pub fn refuses(self, sheet: &str) -> Self {
+        self.read_refused(NOT_A_SHEET, sheet).list_refused(sheet)
+    }
+
+    /// Written from this table, read back, listed.
+    pub fn turns_over(self, last: i32, instances: &[Instance], sheet: &str, listing: &str) -> Self {
+        self.table(last, instances)
+            .writes(sheet)
+            .reads(sheet, last, instances)
+            .lists(sheet, listing)
     }
 }

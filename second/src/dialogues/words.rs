@@ -7,9 +7,11 @@ use crate::hexadecimal::octets;
 use crate::numbers::{Address, Number, Subaddress};
 use crate::profile::Profile;
 use crate::request::{Request, Served, TAG_INVOKE};
-use crate::samples::{self, sample_profile, wide_profile};
+use crate::samples::{self, instance, sample_profile, wide_profile};
 use crate::table::Instance;
-use crate::table_record::{cell, Cell, CELL_OCTETS, DIGITS, SUBADDRESS, SUBADDRESS_COUNT};
+use crate::table_record::{
+    cell, Cell, TableRecord, CELL_OCTETS, DIGITS, SUBADDRESS, SUBADDRESS_COUNT,
+};
 use crate::transcript::Said;
 
 pub const SPEECH: i32 = 1;
@@ -81,6 +83,23 @@ pub fn held(procedure: i32, number: i32, service: i32, address: Address) -> Inst
         service,
         address,
     }
+}
+
+/// Instances of one procedure for these numbers and services, each to the same digits.
+pub fn instances(procedure: i32, cells: &[(i32, i32)], digits: &str) -> Vec<Instance> {
+    let cells = cells.iter();
+    cells
+        .map(|(number, service)| instance(procedure, *number, *service, digits))
+        .collect()
+}
+
+/// Every number with each of these services.
+pub fn grid(procedure: i32, numbers: &[i32], services: &[i32], digits: &str) -> Vec<Instance> {
+    let cells: Vec<(i32, i32)> = numbers
+        .iter()
+        .flat_map(|number| services.iter().map(|service| (*number, *service)))
+        .collect();
+    instances(procedure, &cells, digits)
 }
 
 pub fn activation(procedure: i32, service: i32, address: Address, served: Served) -> Request {
@@ -180,6 +199,16 @@ pub fn nine_cells() -> Profile {
     }
 }
 
+/// Three numbers, services 1, 2, 3 and 32; cfnr is not subscribed.
+pub fn narrow_access() -> Profile {
+    Profile {
+        numbers: wide_profile().numbers[..3].to_vec(),
+        services: vec![1, 2, 3, 32],
+        subscribed: [1, 1, 0],
+        ..wide_profile()
+    }
+}
+
 /// The record of a profile with rubbish past every count.
 pub fn scribbled_access(profile: &Profile) -> Vec<u8> {
     let mut record = vec![0xFF; ACCESS_OCTETS];
@@ -200,4 +229,12 @@ pub fn rubbish_cell() -> Cell {
     let mut cell = [0xDD; CELL_OCTETS];
     cell[0] = 0;
     cell
+}
+
+/// Its last handled identifier is one too many.
+pub fn bad_table() -> TableRecord {
+    TableRecord {
+        last: 32_768,
+        ..TableRecord::fresh()
+    }
 }

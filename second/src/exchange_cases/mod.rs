@@ -9,18 +9,19 @@ use crate::cases::Cases;
 use crate::codes::{place, PROCEDURES};
 use crate::made;
 use crate::profile::Profile;
-use crate::records_at_random::{access, bad_access, bad_table, table};
+use crate::records_at_random::{access, table};
 use crate::refusal::COMPONENT_OUTPUT;
 use crate::table::{Table, MOST_INSTANCES};
 use crate::table_record::TableRecord;
+use crate::tally::Tally;
 use crate::transcript::Situation;
 
 pub use makings::Making;
 pub use reached::{Reached, KINDS};
 
 /// So many components, the same for the same seed.
-pub fn exchange_cases(seed: u64, count: u64) -> Cases<Reached> {
-    let mut cases = Cases::to_make(seed, count, &KINDS);
+pub fn exchange_cases(seed: u64, count: u64) -> Cases<Tally<Reached>> {
+    let mut cases = Cases::to_make(seed, count, Tally::of(&KINDS));
     while cases.left > 0 {
         // Refused episodes are short, so that most cases get past the refusals.
         match cases.random.below(12) {
@@ -33,7 +34,7 @@ pub fn exchange_cases(seed: u64, count: u64) -> Cases<Reached> {
     cases
 }
 
-impl Cases<Reached> {
+impl Cases<Tally<Reached>> {
     /// A good access with a good table and enough output.
     fn good_situation(&mut self, profile: &Profile) -> Situation {
         let random = &mut self.random;
@@ -49,18 +50,8 @@ impl Cases<Reached> {
     fn refused_episode(&mut self) {
         let profile = made::profile(&mut self.random);
         let mut situation = self.good_situation(&profile);
-        let random = &mut self.random;
-        let faults = random.one_of(&[1, 2, 2, 4, 4, 3, 6, 7]);
-        if faults & 1 != 0 {
-            situation.output = random.one_of(&[0, 1, 706, 706]);
-        }
-        if faults & 2 != 0 {
-            situation.access = bad_access(random, &profile);
-        }
-        if faults & 4 != 0 {
-            let held = made::table(random, &profile);
-            situation.table = bad_table(random, &profile, &held);
-        }
+        let faults = self.random.one_of(&[1, 2, 2, 4, 4, 3, 6, 7]);
+        self.spoil(&mut situation, &profile, faults, &[0, 1, 706, 706]);
         self.lines.bring_about(&situation);
         for _ in 0..=self.random.below(3) {
             self.any_component(&profile);
@@ -121,10 +112,9 @@ impl Cases<Reached> {
 
     /// The component arrives, unless there are cases enough.
     fn case(&mut self, profile: &Profile, making: Making, component: &[u8]) {
-        if self.left == 0 {
+        if !self.one_more() {
             return;
         }
-        self.left -= 1;
         let now = self.lines.now();
         let outcome = now.arrived(component);
         let mut reached = vec![Reached::Made(making), Reached::Output(now.output)];

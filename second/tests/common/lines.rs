@@ -1,9 +1,11 @@
 //! What holds of the lines of every set of dialogues and cases, and running the program.
 
+use std::fmt::Debug;
 use std::fs;
 use std::path::{Path, PathBuf};
 use std::process::Command;
 
+use second::cases::Cases;
 use second::dialogues::{transcript, Dialogue};
 use second::transcript::Transcript;
 
@@ -45,6 +47,15 @@ pub fn sizes_hold(lines: &Transcript, most: usize) {
     assert!(all.all(|line| line.len() <= 7_000));
 }
 
+/// The same cases for the same seed, others for another.
+pub fn seed_decides<T: PartialEq + Debug>(make: fn(u64, u64) -> Cases<T>, count: u64) {
+    let (one, again, other) = (make(9, count), make(9, count), make(10, count));
+    assert_eq!(one.lines.input, again.lines.input);
+    assert_eq!(one.lines.expected, again.lines.expected);
+    assert_eq!(one.tally, again.tally);
+    assert_ne!(one.lines.input, other.lines.input);
+}
+
 /// The exit code and standard output of the program.
 pub fn run(arguments: &[&str]) -> (Option<i32>, String) {
     let mut command = Command::new(env!("CARGO_BIN_EXE_second"));
@@ -63,4 +74,12 @@ pub fn files_hold(directory: &Path, lines: &Transcript) {
     let read = |file| fs::read_to_string(directory.join(file)).expect("written");
     assert!(read("stdin") == lines.input);
     assert!(read("stdout") == lines.expected);
+}
+
+/// The command writes these dialogues and prints nothing.
+pub fn both_files_are_written(command: &str, all: &[Dialogue]) {
+    let directory = directory(command);
+    let name = directory.to_string_lossy();
+    assert_eq!(run(&[command, &name]), (Some(0), String::new()));
+    files_hold(&directory, &transcript(all));
 }

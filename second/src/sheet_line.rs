@@ -1,0 +1,90 @@
+//! Lines about night sheets in a dialogue (`write`, `read` and `list`), with what they print.
+
+use crate::hexadecimal::joined;
+use crate::listing;
+use crate::refusal::Refusal;
+use crate::sheet;
+use crate::table_record::TableRecord;
+use crate::transcript::{Situation, Transcript};
+
+/// What is asked for, and what comes of it: a refusal by its number otherwise.
+#[derive(Clone, Debug, PartialEq, Eq)]
+pub enum SheetLine {
+    /// The table there is, as a sheet.
+    Write(Result<Vec<u8>, u8>),
+    /// A sheet, and the table it gives against the access record.
+    Read(Vec<u8>, Result<Box<TableRecord>, u8>),
+    /// A sheet, and its listing.
+    List(Vec<u8>, Result<String, u8>),
+}
+
+impl SheetLine {
+    /// As this program writes it.
+    pub fn write(now: &Situation) -> Self {
+        SheetLine::Write(written(now).map_err(Refusal::number))
+    }
+
+    /// As this program reads it.
+    pub fn read(now: &Situation, sheet: &[u8]) -> Self {
+        let table = read(now, sheet).map(Box::new);
+        SheetLine::Read(sheet.to_vec(), table.map_err(Refusal::number))
+    }
+
+    /// As this program lists it.
+    pub fn list(sheet: &[u8]) -> Self {
+        let listing = listing::list(sheet);
+        SheetLine::List(sheet.to_vec(), listing.map_err(Refusal::number))
+    }
+
+    /// The same line with what this program makes of it.
+    pub fn answered(&self, now: &Situation) -> Self {
+        match self {
+            SheetLine::Write(_) => SheetLine::write(now),
+            SheetLine::Read(sheet, _) => SheetLine::read(now, sheet),
+            SheetLine::List(sheet, _) => SheetLine::list(sheet),
+        }
+    }
+
+    /// What is printed, without the newline at its end. Nothing may touch the output outside the
+    /// sheet, so `kept` is always expected.
+    pub fn printed(&self) -> String {
+        match self {
+            SheetLine::Write(Ok(sheet)) => format!("wrote {} kept", joined(sheet)),
+            SheetLine::Write(Err(number)) => format!("refused {number} kept"),
+            SheetLine::Read(_, Ok(table)) => format!("read table {}", joined(&table.octets())),
+            SheetLine::List(_, Ok(listing)) => listing.trim_end_matches('\n').to_string(),
+            SheetLine::Read(_, Err(number)) | SheetLine::List(_, Err(number)) => {
+                format!("refused {number}")
+            }
+        }
+    }
+
+    pub fn tell(&self, lines: &mut Transcript) {
+        let (word, sheet) = match self {
+            SheetLine::Write(_) => ("write", &[][..]),
+            SheetLine::Read(sheet, _) => ("read", &sheet[..]),
+            SheetLine::List(sheet, _) => ("list", &sheet[..]),
+        };
+        lines.asked(word, sheet, &self.printed());
+        if let SheetLine::Read(_, Ok(table)) = self {
+            lines.now_holds(table);
+        }
+    }
+}
+
+/// Refusals lowest number first: a record is read only after the output is judged.
+fn written(now: &Situation) -> Result<Vec<u8>, Refusal> {
+    let mut output = vec![0; now.output];
+    sheet::size_fits(&output)?;
+    let profile = now.profile()?;
+    let table = now.table.read(&profile)?;
+    let length = sheet::write(&mut output, &profile, &table)?;
+    output.truncate(length);
+    Ok(output)
+}
+
+fn read(now: &Situation, sheet: &[u8]) -> Result<TableRecord, Refusal> {
+    let profile = now.profile()?;
+    let table = sheet::read(&profile, sheet)?;
+    Ok(TableRecord::of(&profile, &table))
+}

@@ -1,0 +1,58 @@
+//! Turns of every kind in one dialogue, each against the table that those before it have left.
+
+mod common;
+
+use common::{instance, octets, sample_profile, ACTIVATION_OF_CFB};
+use second::call_answer::CallAnswer;
+use second::calls::{Call, BUSY, PREFERRED};
+use second::dialogues::{dialogue, disagreements, transcript, Dialogue};
+use second::transcript::Said;
+
+const SHEET: &str = "01 02 01 01 00 01 00 00 05 02 04 06 08 00 00";
+const LISTING: &str = "form 1 last 2 count 1\ncfb 0 1 u 24680 -\n";
+
+fn busy_at_the_limit() -> Call {
+    Call {
+        number: 0,
+        service: 1,
+        event: BUSY,
+        counter: 5,
+        option: 2,
+        original: vec![],
+        original_allowed: 0,
+        preference: PREFERRED,
+    }
+}
+
+/// The sample's instance is activated, taken away, and brought back by its sheet.
+fn of_every_kind() -> Dialogue {
+    let active = [instance(1, 0, 1, "24680")];
+    let replied = |hex| Said::Replied(octets(hex));
+    dialogue("turns of every kind", &sample_profile())
+        .output(1_613)
+        .hears_hex(ACTIVATION_OF_CFB, replied("A2 03 02 01 02"))
+        .then_holds(2, &active)
+        .writes(SHEET)
+        .calls(&busy_at_the_limit(), CallAnswer::Refused(6))
+        .table(2, &[])
+        .calls(&busy_at_the_limit(), CallAnswer::Passed)
+        .reads(SHEET, 2, &active)
+        .calls(&busy_at_the_limit(), CallAnswer::Refused(6))
+        .lists(SHEET, LISTING)
+        .hears_hex(ACTIVATION_OF_CFB, replied("A4 06 02 01 02 81 01 00"))
+}
+
+#[test]
+fn this_program_agrees_with_the_hand() {
+    assert_eq!(disagreements(&[of_every_kind()]), Vec::<String>::new());
+}
+
+/// Only what no turn has brought about is told.
+#[test]
+fn the_lines_come_in_the_order_of_the_turns() {
+    let lines = transcript(&[of_every_kind()]);
+    let words = lines.input.lines().map(|line| line.split(' ').next());
+    let words: Vec<&str> = words.map(Option::unwrap_or_default).collect();
+    let expected = "# access output component write call table call read call list component";
+    assert_eq!(words.join(" "), expected);
+}
