@@ -1,2 +1,5 @@
 pub mod Profiles
 pub mod Records
+pub mod Services
+pub mod Diversions
+pub mod Rising

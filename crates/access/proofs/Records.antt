@@ -131,6 +131,14 @@ access-good s =
     (λ _. pick-ind P (profileGood (profileFrom s)) (λ good _. good) (λ _ h. absurd (false≢true h)))
     (λ _ h. absurd (false≢true h))
 
+-- and its record has the record's size
+pub access-size : (s : List ℕ) → accessRead s .ok ≡ true → length s ≡ accessSize
+unfolding accessRead
+access-size s =
+    pick-ind (λ (r : AccessRead). r .ok ≡ true → length s ≡ accessSize) (eqb (length s) accessSize)
+    (λ e _. eqb-true (length s) accessSize e)
+    (λ _ h. absurd (false≢true h))
+
 -- its array of services has all its places
 pub access-services : (s : List ℕ) → length (accessRead s .profile .services) ≡ servicesMost
 unfolding accessRead profileFrom

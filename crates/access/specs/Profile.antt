@@ -7,7 +7,7 @@ use lib.ListN.{take, getD}
 use lib.Dec.{ltb, eqb}
 use Rattle.laws.specs.Pick.{pick}
 use Rattle.laws.specs.Places.{everyTo}
-use Rattle.numbers.specs.Codes.{serviceCode}
+use Rattle.numbers.specs.Codes.{placeOf, serviceCode}
 use Rattle.numbers.specs.Number.{digitsOf, numberGood}
 use Rattle.numbers.specs.declared.number.Number.{Number}
 use Rattle.access.specs.declared.profile.Prefix.{Prefix}
@@ -144,3 +144,7 @@ SameNumber a b r = r ≡ sameNumber a b
 -- what `number_place` promises
 abbrev pub NumberPlace : Profile → Number → ℕ → Type 0
 NumberPlace p n r = r ≡ placeIn p n (servedNumbers p)
+
+-- what `service_slot` promises: the place of the service among those subscribed; how many there are where it is none of them
+abbrev pub ServiceSlot : Profile → ℕ → ℕ → Type 0
+ServiceSlot p service r = r ≡ placeOf service (offered p)

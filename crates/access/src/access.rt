@@ -14,9 +14,9 @@ ghost use lib.Seq.{slice};
 ghost use Rattle.access.specs.Access.{accessSize, noAccess, numberFrom, prefixFrom, prefixesFrom, profileFrom, ReadAccess};
 
 // Where the fields of the record stand, and their sizes.
-const NUMBERSAT: usize = 1;
+pub const NUMBERSAT: usize = 1;
 
-const NUMBERSIZE: usize = 23;
+pub const NUMBERSIZE: usize = 23;
 
 const SERVICESAT: usize = 94;
 

@@ -3,6 +3,8 @@ mod access;
 mod profile;
 
 pub use access::AccessRead;
+pub use access::NUMBERSAT;
+pub use access::NUMBERSIZE;
 pub use access::read_access;
 pub use profile::NUMBERS;
 pub use profile::Prefix;
@@ -10,3 +12,4 @@ pub use profile::Profile;
 pub use profile::SERVICES;
 pub use profile::number_place;
 pub use profile::same_number;
+pub use profile::service_slot;

@@ -5,7 +5,7 @@ use numbers::service_code;
 ghost use mathlib.Core.Path.{_≡_};
 ghost use Prim.Native.Nat.{_≤_};
 ghost use lib.ListN.{take};
-ghost use Rattle.access.specs.Profile.{sameDigits, prefixGood, numbersGood, servicesGood, subscriptionsGood, usesGood, diversionGood, prefixesGood, profileGood, SameNumber, NumberPlace};
+ghost use Rattle.access.specs.Profile.{sameDigits, prefixGood, numbersGood, servicesGood, subscriptionsGood, usesGood, diversionGood, prefixesGood, profileGood, SameNumber, NumberPlace, ServiceSlot};
 
 // The most numbers, services and prefixes of a profile, and the most digits of one.
 pub const NUMBERS: usize = 4;
@@ -92,6 +92,25 @@ pub fn number_place(p: Profile, n: Number) -> usize
         }
         let x = numbers[k];
         if same_number(x, n) {
+            return k;
+        }
+        k += 1;
+    }
+    k
+}
+
+// The place of the service among those of the profile; how many there are where it is none of them.
+pub fn service_slot(p: Profile, service: u8) -> usize
+    ensures { λ r. ⌜ ServiceSlot p service r ⌝ }
+{
+    let count = p.servicecount as usize;
+    let services = p.services;
+    let mut k: usize = 0;
+    while k < SERVICES {
+        if count <= k {
+            return k;
+        }
+        if services[k] == service {
             return k;
         }
         k += 1;

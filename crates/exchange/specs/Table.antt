@@ -6,6 +6,7 @@ use lib.ListN.{set}
 use lib.Dec.{leb}
 use Rattle.laws.specs.Pick.{pick}
 use Rattle.access.specs.declared.profile.Profile.{Profile}
+use Rattle.lists.specs.Entries.{limit}
 use Rattle.store.specs.Grid.{noGrid, gridGood}
 use Rattle.store.specs.declared.row.Row.{Row}
 use Rattle.exchange.specs.declared.table.Table.{Table}
@@ -32,3 +33,7 @@ withLast last t = record { last = last; grid = t .grid }
 -- what `fresh_table` promises
 abbrev pub FreshTable : Table → Type 0
 FreshTable r = r ≡ freshTable
+
+-- what `good` promises
+abbrev pub TableGood : Profile → Table → Bool → Type 0
+TableGood p t r = r ≡ tableGood limit p t

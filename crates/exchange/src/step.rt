@@ -46,14 +46,7 @@ fn last_after(p: Profile, identifier: i16, last: u16) -> u16
 }
 
 // A request is judged, and gets its result or its error: the row of its procedure is listed or changed.
-fn handle(
-    p: Profile,
-    last: u16,
-    row: Row,
-    identifier: i16,
-    operation: u8,
-    r: Request,
-) -> Stepped
+fn handle(p: Profile, last: u16, row: Row, identifier: i16, operation: u8, r: Request) -> Stepped
     ensures { λ s. ⌜ Handles p last row identifier operation r s ⌝ }
 {
     let w = places_of(p, r);

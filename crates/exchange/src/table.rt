@@ -2,9 +2,7 @@
 use access::Profile;
 use store::Grid;
 use store::fresh_grid;
-ghost use mathlib.Core.Path.{_≡_};
-ghost use Rattle.lists.specs.Entries.{limit};
-ghost use Rattle.exchange.specs.Table.{tableGood, FreshTable};
+ghost use Rattle.exchange.specs.Table.{FreshTable, TableGood};
 
 const LASTMOST: u16 = 32767;
 
@@ -24,8 +22,8 @@ pub fn fresh_table() -> Table
 
 impl Table {
     // Whether a table breaks no rule of the profile.
-    pub(crate) fn good(self, p: Profile) -> bool
-        ensures { λ r. ⌜ r ≡ tableGood limit p self ⌝ }
+    pub fn good(self, p: Profile) -> bool
+        ensures { λ r. ⌜ TableGood p self r ⌝ }
     {
         if LASTMOST < self.last {
             return false;

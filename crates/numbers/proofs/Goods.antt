@@ -1,12 +1,12 @@
 -- What it means that a record is a number, or an address, as a table holds it: `numberGood` and `addressGood` part by part; and
 -- that what is read is one. Assumes nothing.
-use Prim.Native.Nat.{ℕ, _-_, _≤_}
+use Prim.Native.Nat.{ℕ, zero, suc, _-_, _≤_, _<_}
 use mathlib.Core.Path.{_≡_, refl, _∙_}
 use mathlib.Core.Bool.{Bool, true, false}
-use mathlib.Core.List.{List}
+use mathlib.Core.List.{List, [], _∷_}
 use mathlib.Core.Logic.{_⊎_, inl, inr, ⊎-elim}
 use native.Mathlib.Omega.{arith}
-use lib.ListN.{length, take, replicate, length-take, length-drop}
+use lib.ListN.{length, take, getD, replicate, length-take, length-drop}
 use lib.Seq.{take-append-le, take-length, slice}
 use lib.Dec.{ltb, leb, eqb}
 use borrow.Author.Tests.{le-ltb, le-leb, eq-eqb, ltb-false, leb-true, eqb-true}
@@ -37,10 +37,34 @@ pub some-fair : (n : ℕ) → 1 ≤ n → n ≤ most → fair n ≡ true
 unfolding fair
 some-fair n h k = rw (le-ltb n 1 h) (le-leb n most k)
 
+-- the first of some digits, and the others
+digits-parts : (c : ℕ) (cs : List ℕ) → allDigits (c ∷ cs) ≡ true → (48 ≤ c) × (c ≤ 57) × (allDigits cs ≡ true)
+unfolding allDigits
+digits-parts c cs h =
+    let low = pick-else (ltb c 48) (pick (ltb 57 c) false (allDigits cs)) h in
+    let high = pick-else (ltb 57 c) (allDigits cs) (low .1) in
+    (ltb-false c 48 (low .0), ltb-false 57 c (high .0), high .1)
+
+all-each : (cs : List ℕ) → allDigits cs ≡ true → (i : ℕ) → i < length cs → (48 ≤ getD cs i 0) × (getD cs i 0 ≤ 57)
+all-each [] h i lt = absurd (omega arith)
+all-each (c ∷ cs) h zero lt = let p = digits-parts c cs h in (p .0, p .1)
+all-each (c ∷ cs) h (suc i) lt = all-each cs (digits-parts c cs h .2) i (omega arith)
+
 -- good digits are 1 to 20
 pub digits-fair : (cs : List ℕ) → digitsGood cs ≡ true → (1 ≤ length cs) × (length cs ≤ most)
 unfolding digitsGood
 digits-fair cs h = fair-some (length cs) (pick-then (fair (length cs)) (allDigits cs) h .0)
+
+-- each is one of the characters 48 to 57
+pub digits-each :
+    (cs : List ℕ) → digitsGood cs ≡ true → (i : ℕ) → i < length cs → (48 ≤ getD cs i 0) × (getD cs i 0 ≤ 57)
+unfolding digitsGood
+digits-each cs h = all-each cs (pick-then (fair (length cs)) (allDigits cs) h .1)
+
+-- the types go up to 6
+pub type-most : (kind : ℕ) → typeGood kind ≡ true → kind ≤ 6
+unfolding typeGood
+type-most kind h = ltb-false 6 kind (pick-else (ltb 6 kind) (pick (eqb kind 5) false true) h .0)
 
 -- of unknown form with type 0, or of public form with one of its types
 abbrev pub Shape : Number → Type 0

@@ -4,6 +4,8 @@ use Prim.Native.Nat.{ℕ, zero, suc, _<_, _≤_}
 use mathlib.Core.Path.{_≡_, refl, sym, ap}
 use mathlib.Core.Bool.{true}
 use mathlib.Core.List.{List, [], _∷_}
+use mathlib.Core.Logic.{⊎-elim}
+use native.Mathlib.Nat.{eq-or-lt-of-le}
 use native.Mathlib.Omega.{arith}
 use lib.ListN.{length, getD}
 use lib.Dec.{ltb, eqb}
@@ -106,6 +108,19 @@ place-of i k = apart-place services services-apart i k
 pub service-all : serviceCode 0 ≡ true
 unfolding serviceCode
 service-all = refl
+
+-- the sixteen services go up to 42
+pub service-most : (code : ℕ) → serviceCode code ≡ true → code ≤ 42
+unfolding serviceCode
+service-most code =
+    pick-ind (λ t. t ≡ true → code ≤ 42) (eqb code 0) (λ all _. omega (arith, eqb-true code 0 all))
+    (λ _ h.
+    let inside = ltb-true (placeOf code services) (length services) h in
+    let e = place-code code inside in
+    ⊎-elim
+    (λ (last : placeOf code services ≡ 15). omega (arith, rw last at e))
+    (λ (lt : placeOf code services < 15). omega (arith, e, service-above (placeOf code services) 15 lt (omega arith)))
+    (eq-or-lt-of-le (omega arith)))
 
 -- ---- the procedures
 

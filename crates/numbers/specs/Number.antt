@@ -129,6 +129,10 @@ numberOctets n =
     pick (eqb (n .form) unknown) (element 0x80 (digitsOf n))
     (element 0xA1 (enumeratedOctets (n .kind) ++ element 0x12 (digitsOf n)))
 
+-- what `all_digits` promises
+abbrev pub AllDigits : List ℕ → Bool → Type 0
+AllDigits s r = r ≡ allDigits s
+
 -- what `number_at` promises
 abbrev pub NumberAt : ℕ → List ℕ → ℕ → ℕ → NumberRead → Type 0
 NumberAt depth s at end r = r ≡ numberRead (numberAt depth s at end)

@@ -15,6 +15,7 @@ pub use codes::service_place;
 pub use codes::trunkreason;
 pub use number::Number;
 pub use number::NumberRead;
+pub use number::all_digits;
 pub use number::number_at;
 pub use number::number_good;
 pub use write::address_size;

@@ -9,7 +9,7 @@ ghost use Prim.Native.Nat.{_≤_};
 ghost use lib.ListN.{length};
 ghost use mathlib.Core.List.{[]};
 ghost use Rattle.laws.specs.Got.{got, wrong};
-ghost use Rattle.numbers.specs.Number.{allDigits, typeGood, otherTag, padded, digitsIn, stringAt, publicIn, numberOf, other, numberRead, NumberAt, NumberGood};
+ghost use Rattle.numbers.specs.Number.{typeGood, otherTag, padded, digitsIn, stringAt, publicIn, numberOf, other, numberRead, AllDigits, NumberAt, NumberGood};
 
 // The most digits of a number, which are also the most octets of a subaddress, and the forms of its record.
 pub(crate) const MOST: usize = 20;
@@ -37,8 +37,8 @@ pub struct NumberRead {
 }
 
 // Whether all octets of `s` are the characters 0 to 9.
-fn all_digits(s: &[u8]) -> bool
-    ensures { λ r. ⌜ r ≡ allDigits (now (s .entry)) ⌝ }
+pub fn all_digits(s: &[u8]) -> bool
+    ensures { λ r. ⌜ AllDigits (now (s .entry)) r ⌝ }
 {
     let mut i = 0;
     while i < s.len() {

@@ -12,8 +12,9 @@ use Rattle.laws.specs.Pick.{pick}
 use Rattle.laws.specs.Stands.{Stands}
 use Rattle.laws.proofs.Picks.{pick-ind}
 use Rattle.laws.proofs.Stands.{stands-first, stands-right, stands-nil, stands-cons}
-use Rattle.octets.specs.Groups.{Found, found, nothing, infront, groupsIn, groupsAt, groupsWith, groups}
-use Rattle.octets.specs.declared.groups.Groups.the-variants.{Is}
+use Rattle.octets.specs.Groups.{Found, found, nothing, infront, groupsIn, told, groupsAt, groupsWith, groups}
+use Rattle.octets.specs.declared.groups.Groups.{Groups}
+use Rattle.octets.specs.declared.groups.Groups.the-variants.{Is, Large, Bad}
 
 -- ---- what is read
 
@@ -240,3 +241,30 @@ pub groups-only :
     (k : ℕ) (s : List ℕ) (at v next : ℕ) → ((i : ℕ) → at ≤ i → i < next → getD s i 0 < 256) →
     groupsIn k s at ≡ found v next → StandsTo s at (groups v) next
 groups-only k s at v next o e = rw e at (only-if k s at) o
+
+abbrev valueOr : ℕ → Groups → ℕ
+valueOr d (Is v next) = v
+valueOr d (Large next) = d
+valueOr d Bad = d
+
+abbrev nextOr : ℕ → Groups → ℕ
+nextOr d (Is v next) = next
+nextOr d (Large next) = d
+nextOr d Bad = d
+
+told-found : (x : Found) (v next : ℕ) → told x ≡ Is v next → x ≡ found v next
+told-found (found w p) v next =
+    pick-ind (λ y. y ≡ Is v next → found w p ≡ found v next) (ltb w (2 ^ 32))
+    (λ _ e. rw (ap (valueOr w) e, ap (nextOr p) e))
+    (λ _ e. let z : _≡_ {A = ℕ} 0 1 = cc in absurd (omega arith))
+told-found nothing v next = λ e. let z : _≡_ {A = ℕ} 0 1 = cc in absurd (omega arith)
+
+-- the same of a number that is told
+pub groups-at-only :
+    (s : List ℕ) (at end v next : ℕ) → ((i : ℕ) → at ≤ i → i < next → getD s i 0 < 256) →
+    groupsAt s at end ≡ Is v next → StandsTo s at (groups v) next
+unfolding groupsAt
+groups-at-only s at end v next o =
+    pick-ind (λ x. x ≡ Is v next → StandsTo s at (groups v) next) (ltb (length s) end)
+    (λ _ e. let z : _≡_ {A = ℕ} 0 1 = cc in absurd (omega arith))
+    (λ _ e. groups-only (end - at) s at v next o (told-found (groupsIn (end - at) s at) v next e))

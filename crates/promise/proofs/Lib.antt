@@ -1,6 +1,7 @@
 pub mod Samples
 pub mod OnlyAccess
 pub mod OnlyAnswers
+pub mod OnlyCalls
 pub mod OnlyCard
 pub mod OnlyCoding
 pub mod OnlyExchange
@@ -8,5 +9,6 @@ pub mod OnlyLists
 pub mod OnlyNumbers
 pub mod OnlyOctets
 pub mod OnlyRules
+pub mod OnlySheet
 pub mod OnlyStore
 pub mod OnlyText

@@ -5,7 +5,7 @@ use mathlib.Core.Bool.{Bool}
 use mathlib.Core.List.{List}
 use Rattle.laws.proofs.Picks.{both}
 use Rattle.numbers.specs.declared.number.Number.{Number}
-use Rattle.access.specs.Profile.{SameNumber, NumberPlace}
+use Rattle.access.specs.Profile.{SameNumber, NumberPlace, ServiceSlot}
 use Rattle.access.specs.Access.{ReadAccess}
 use Rattle.access.specs.declared.profile.Profile.{Profile}
 use Rattle.access.specs.declared.access.AccessRead.{AccessRead}
@@ -16,6 +16,10 @@ only-same-number m n = both
 pub only-number-place :
     (p : Profile) (n : Number) {a b : ℕ} → NumberPlace p n a → NumberPlace p n b → a ≡ b
 only-number-place p n = both
+
+pub only-service-slot :
+    (p : Profile) (service : ℕ) {a b : ℕ} → ServiceSlot p service a → ServiceSlot p service b → a ≡ b
+only-service-slot p service = both
 
 pub only-read-access : (s : List ℕ) {a b : AccessRead} → ReadAccess s a → ReadAccess s b → a ≡ b
 only-read-access s = both

@@ -1,9 +1,11 @@
 -- Each promise of the crate exchange admits one answer, and one lent output afterwards. Assumes nothing.
 use Prim.Native.Nat.{ℕ}
 use mathlib.Core.Path.{_≡_, ap, _∙_}
+use mathlib.Core.Bool.{Bool}
 use mathlib.Core.List.{List}
 use Rattle.laws.proofs.Picks.{both}
-use Rattle.exchange.specs.Table.{FreshTable}
+use Rattle.access.specs.declared.profile.Profile.{Profile}
+use Rattle.exchange.specs.Table.{FreshTable, TableGood}
 use Rattle.exchange.specs.Arrive.{Arrives}
 use Rattle.exchange.specs.declared.table.Table.{Table}
 use Rattle.exchange.specs.declared.arrive.Outcome.{Outcome}
@@ -12,6 +14,9 @@ use Rattle.exchange.proofs.Outcomes.{told-same}
 
 pub only-fresh-table : {a b : Table} → FreshTable a → FreshTable b → a ≡ b
 only-fresh-table = both
+
+pub only-table-good : (p : Profile) (t : Table) {a b : Bool} → TableGood p t a → TableGood p t b → a ≡ b
+only-table-good p t = both
 
 abbrev arrivedOf : Table → Outcome → ℕ → Arrived
 arrivedOf table outcome count = record { table = table; outcome = outcome; count = count }

@@ -6,7 +6,7 @@ use mathlib.Core.List.{List}
 use Rattle.laws.proofs.Picks.{both}
 use Rattle.laws.proofs.Over.{only-puts}
 use Rattle.numbers.specs.Codes.{ServicePlace, TrunkReason, ServiceCode}
-use Rattle.numbers.specs.Number.{NumberAt, NumberGood, NumberSize, PutNumber}
+use Rattle.numbers.specs.Number.{AllDigits, NumberAt, NumberGood, NumberSize, PutNumber}
 use Rattle.numbers.specs.Address.{AddressAt, AddressGood, AddressSize, PutAddress}
 use Rattle.numbers.specs.declared.number.Number.{Number}
 use Rattle.numbers.specs.declared.number.NumberRead.{NumberRead}
@@ -21,6 +21,9 @@ only-service-code code = both
 
 pub only-trunkreason : (reason : ℕ) {a b : ℕ} → TrunkReason reason a → TrunkReason reason b → a ≡ b
 only-trunkreason reason = both
+
+pub only-all-digits : (s : List ℕ) {a b : Bool} → AllDigits s a → AllDigits s b → a ≡ b
+only-all-digits s = both
 
 pub only-number-good : (n : Number) {a b : Bool} → NumberGood n a → NumberGood n b → a ≡ b
 only-number-good n = both

@@ -24,6 +24,7 @@ use Rattle.store.specs.Grid.{noRow}
 use Rattle.exchange.specs.Table.{freshTable, withRow, withLast}
 use Rattle.exchange.specs.Arrive.{outputLeast, done}
 use Rattle.exchange.specs.declared.table.Table.{Table}
+use Rattle.calls.specs.Divert.{Told, refuses, passes, diverts, comes}
 use Rattle.coding.specs.Heard.{local, heard}
 use Rattle.coding.specs.Request.{activation, interrogation, allNumbers, nowhere, requestOf, argumentAt}
 use Rattle.coding.specs.Sent.{requestOctets}
@@ -47,6 +48,7 @@ pub data Sample : Type 0 where
   told : (identifier : ℤ) (operation : ℕ) → List ℕ → Reply → Sample
   lists-entries : List ℕ → (at end : ℕ) → List Entry → Sample
   arrives : (access : List ℕ) → Table → List ℕ → (reply : List ℕ) → (next : Table) → Sample
+  diverts-to : (access : List ℕ) → Table → (call : List ℕ) → Told → (counter option : ℕ) → Sample
 
 -- what a sample says: octets are read from the first to the end, and the output lent to the exchange is the least there may be
 abbrev pub Says : Sample → Type 0
@@ -62,6 +64,8 @@ Says (told identifier operation s r) = reply identifier operation s ≡ r
 Says (lists-entries s at end es) = entriesFrom limit s at end ≡ got es end
 Says (arrives access t s reply next) =
     (done access t s outputLeast .octets ≡ reply) × (done access t s outputLeast .table ≡ next)
+Says (diverts-to access t s is counter option) =
+    (comes access t s .told ≡ is) × (comes access t s .call .counter ≡ counter) × (comes access t s .call .option ≡ option)
 
 abbrev pub Each : List Sample → Type 0
 Each [] = Unit {0}
@@ -89,11 +93,15 @@ activationOfCfb =
     requestOf 1 1 (forwardedOf (numberOf unknown 0 (0x32 ∷ 0x34 ∷ 0x36 ∷ 0x38 ∷ 0x30 ∷ [])) (subOf [])) allNumbers
 
 -- "Profile: unknown 13579 alone, no MSN, speech, cfb, in use, counted, no prefix": the record as docs/RECORDS.md lays it out
-abbrev pub sampleAccess : List ℕ
-sampleAccess =
+-- over its notification option
+abbrev pub accessWith : ℕ → List ℕ
+accessWith option =
     1 ∷ 0 ∷ 0 ∷ 5 ∷ 0x31 ∷ 0x33 ∷ 0x35 ∷ 0x37 ∷ 0x39 ∷ replicate 84 0
     ++ (1 ∷ 1 ∷ replicate 5 0)
-    ++ (0 ∷ 1 ∷ 0 ∷ 0 ∷ 0 ∷ 1 ∷ 1 ∷ 0 ∷ 0 ∷ 5 ∷ 0 ∷ replicate 336 0)
+    ++ (0 ∷ 1 ∷ 0 ∷ 0 ∷ 0 ∷ 1 ∷ 1 ∷ option ∷ 0 ∷ 5 ∷ 0 ∷ replicate 336 0)
+
+abbrev pub sampleAccess : List ℕ
+sampleAccess = accessWith 0
 
 -- "not subscribed, identifier 1": an interrogation of cfu
 abbrev pub otherOctets : List ℕ
@@ -105,6 +113,10 @@ abbrev pub activatedTable : Table
 activatedTable =
     withLast 2
     (withRow 1 (record { cells = set (noRow .cells) 0 (cellOf 1 (activationOfCfb .to .address)) }) freshTable)
+
+-- a call of speech for 13579 that met busy, over its counter and the chain's notification option
+abbrev pub callWith : ℕ → ℕ → List ℕ
+callWith counter option = 0 ∷ 1 ∷ 1 ∷ counter ∷ option ∷ 0 ∷ 0 ∷ 0 ∷ replicate 20 0
 
 abbrev pub samples : List Sample
 samples =
@@ -150,4 +162,10 @@ samples =
     ∷ arrives sampleAccess freshTable otherOctets
     (0xA3 ∷ 0x06 ∷ 0x02 ∷ 0x01 ∷ 0x01 ∷ 0x02 ∷ 0x01 ∷ 0x00 ∷ []) (withLast 1 freshTable)
     ∷ arrives sampleAccess freshTable [] (0xA4 ∷ 0x05 ∷ 0x05 ∷ 0x00 ∷ 0x80 ∷ 0x01 ∷ 0x02 ∷ []) freshTable
+    -- "counter 4, limit 5: diverted, counter 5"; "counter 5: refusal 6; no instance: not diverted"
+    ∷ diverts-to sampleAccess activatedTable (callWith 4 0) (diverts 2 0) 5 0
+    ∷ diverts-to sampleAccess activatedTable (callWith 5 0) (refuses 6) 0 0
+    ∷ diverts-to sampleAccess freshTable (callWith 5 0) passes 0 0
+    -- "option 2 received, profile 1, counter 1: 1"
+    ∷ diverts-to (accessWith 1) activatedTable (callWith 1 2) (diverts 2 1) 2 1
     ∷ []

@@ -1,6 +1,6 @@
 -- Laws of the tests of registration, over plain values: what their loops need. Assumes nothing.
 use Prim.Native.Nat.{ℕ, suc, min, _+_, _≤_, _<_}
-use mathlib.Core.Path.{_≡_, sym, _∙_}
+use mathlib.Core.Path.{_≡_, _∙_}
 use mathlib.Core.Bool.{Bool, true, false}
 use mathlib.Core.List.{List, [], _∷_}
 use native.Mathlib.Numerals.{add-one, one-add}
@@ -10,9 +10,7 @@ use lib.Seq.{drop-cons, getD-take}
 use lib.Dec.{eqb}
 use borrow.Author.Tests.{eq-eqb, ne-eqb}
 use Rattle.laws.specs.Pick.{pick}
-use Rattle.numbers.specs.Codes.{placeOf}
 use Rattle.numbers.specs.declared.number.Number.{Number}
-use Rattle.numbers.proofs.Readers.{place-here, place-next, place-none}
 use Rattle.access.specs.Profile.{sameNumber, noNumber, noPrefix}
 use Rattle.access.specs.declared.profile.Prefix.{Prefix}
 use Rattle.access.specs.declared.profile.Profile.{Profile}
@@ -35,36 +33,6 @@ module _ {A : Type 0} (count : ℕ) (l : List A) where
   left-none k h =
       let past : length (take count l) ≤ k = omega (arith, length-take count l) in
       drop-of-length-le (take count l) past
-
--- ---- the place of a service
-
-module _ (service count : ℕ) (services : List ℕ) where
-  -- a search that has come to k
-  abbrev pub Come : ℕ → Type 0
-  Come k = placeOf service (take count services) ≡ k + placeOf service (drop k (take count services))
-
-  -- finds the service there
-  pub slot-here :
-      (k : ℕ) → k < count → k < length services → getD services k 0 ≡ service → Come k →
-      k ≡ placeOf service (take count services)
-  slot-here k h long e =
-      place-here service (take count services) k (omega (arith, length-take count services))
-      (getD-take count services k 0 h ∙ e)
-
-  -- goes on where another service stands
-  pub slot-next :
-      (k : ℕ) → k < count → k < length services → (getD services k 0 ≡ service → ⊥) → Come k → Come (k + 1)
-  slot-next k h long e =
-      place-next service (take count services) k (omega (arith, length-take count services))
-      (λ q. e (sym (getD-take count services k 0 h) ∙ q))
-
-  -- finds nothing where there are no more services
-  pub slot-none :
-      (k : ℕ) → min count (length services) ≤ k → Come k → k ≡ placeOf service (take count services)
-  slot-none k h come =
-      let none : 0 ≡ placeOf service [] = place-none service [] (omega arith) in
-      let z : placeOf service (drop k (take count services)) ≡ 0 = rw (left-none count services k h, ← none) in
-      omega arith
 
 -- ---- digits that begin with a prefix
 

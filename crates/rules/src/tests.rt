@@ -4,15 +4,14 @@ use crate::selection::number_asked;
 use access::NUMBERS;
 use access::Prefix;
 use access::Profile;
-use access::SERVICES;
 use access::number_place;
 use access::same_number;
+use access::service_slot;
 use coding::Request;
 use numbers::Number;
 ghost use mathlib.Core.Path.{_≡_};
-ghost use Rattle.numbers.specs.Codes.{placeOf};
 ghost use Rattle.numbers.specs.Number.{digitsOf};
-ghost use Rattle.access.specs.Profile.{servedNumbers, offered, barred};
+ghost use Rattle.access.specs.Profile.{servedNumbers, barred};
 ghost use lib.ListN.{take};
 ghost use Rattle.rules.specs.Judge.{servedInvalid, notProvided, otherKind, begins, beginsAny, selectedSame};
 
@@ -44,25 +43,6 @@ pub(crate) fn served_invalid(p: Profile, r: Request) -> bool
     let number = served.number;
     let count = p.numbercount as usize;
     count <= number_place(p, number)
-}
-
-// The place of the service among those of the profile; how many there are where it is none of them.
-fn service_slot(p: Profile, service: u8) -> usize
-    ensures { λ k. ⌜ k ≡ placeOf service (offered p) ⌝ }
-{
-    let count = p.servicecount as usize;
-    let services = p.services;
-    let mut k: usize = 0;
-    while k < SERVICES {
-        if count <= k {
-            return k;
-        }
-        if services[k] == service {
-            return k;
-        }
-        k += 1;
-    }
-    k
 }
 
 pub(crate) fn not_provided(p: Profile, r: Request) -> bool

@@ -10,7 +10,7 @@ use native.Mathlib.Omega.{arith}
 use lib.ListN.{length, take, getD, List·getD-eq-default}
 use lib.Seq.{take-all}
 use lib.Dec.{eqb, ltb, leb}
-use borrow.Author.Tests.{eq-eqb, ne-eqb, eqb-false, lt-ltb, ltb-true, ltb-false, le-leb, lt-leb, leb-true}
+use borrow.Author.Tests.{eq-eqb, ne-eqb, eqb-true, eqb-false, lt-ltb, ltb-true, ltb-false, le-leb, lt-leb, leb-true}
 use Rattle.laws.specs.Pick.{pick}
 use Rattle.laws.specs.Places.{everyTo, countTo}
 use Rattle.laws.proofs.Picks.{pick-ind, pick-then, pick-else}
@@ -26,7 +26,7 @@ use Rattle.store.specs.Row.{places, numberOfPlace, serviceOfPlace, noCel
 use Rattle.store.specs.declared.row.Cell.{Cell}
 use Rattle.store.specs.declared.row.Row.{Row}
 use Rattle.store.specs.declared.row.Places.{Places}
-use Rattle.store.proofs.Turns.{withAt, putAt, clearAt, goodAt, none-at, good-none, entriesAt}
+use Rattle.store.proofs.Turns.{not-selected, withAt, putAt, clearAt, goodAt, none-at, good-none, entriesAt}
 
 -- ---- a cell that may be changed
 
@@ -97,6 +97,14 @@ module _ (w : Places) (address : Address) (row : Row) where
   count-put long =
       count-same (active (putIn w address row)) (withAt w row) places (λ j h.
       active-put j (omega arith) ∙ pick-or (selected w j) (active row j))
+
+-- where nothing is selected, the instances there are are counted
+pub count-nowhere :
+    (w : Places) (row : Row) → ((j : ℕ) → j < places → codeAt w j ≡ 0) → countWith w row ≡ countTo (active row) places
+unfolding countWith
+count-nowhere w row nowhere =
+    count-same (withAt w row) (active row) places (λ j h.
+    rw (not-selected w j (nowhere j h)) (pick-or (active row j) false))
 
 -- ---- a row that is cleared
 
@@ -246,35 +254,56 @@ module _ (p : Profile) (procedure : ℕ) (w : Places) (row : Row) where
   entries-all limit good =
       take-all limit (entriesIn p procedure w row) (omega (arith, entries-few, good-few limit p procedure row good))
 
--- where the cell of a place breaks no rule and holds an instance, its number is one of the profile's, and its address is good
+-- what the rules say of an instance in the cell of a place
+pub record Ruled (p : Profile) (procedure j : ℕ) (x : Cell) : Type 0 where
+  pub subscribed : getD (p .subscribed) procedure 0 ≡ 1
+  pub number : numberOfPlace j < p .numbercount
+  pub slot : serviceOfPlace j < p .servicecount
+  pub service : x .service ≡ getD (p .services) (serviceOfPlace j) 0
+  pub address : addressGood (x .address) ≡ true
+
 cell-rules :
-    (p : Profile) (procedure j : ℕ) (x : Cell) → cellGood p procedure j x ≡ true → used x ≡ true →
-    (numberOfPlace j < p .numbercount) × (addressGood (x .address) ≡ true)
+    (p : Profile) (procedure j : ℕ) (x : Cell) → cellGood p procedure j x ≡ true → used x ≡ true → Ruled p procedure j x
 unfolding cellGood
 cell-rules p procedure j x good there =
-    let kind : Bool = pick (eqb (x .service) (getD (p .services) (serviceOfPlace j) 0)) (addressGood (x .address)) false in
+    let code : ℕ = getD (p .services) (serviceOfPlace j) 0 in
+    let kind : Bool = pick (eqb (x .service) code) (addressGood (x .address)) false in
     let slot : Bool = pick (ltb (serviceOfPlace j) (p .servicecount)) kind false in
     let number : Bool = pick (ltb (numberOfPlace j) (p .numbercount)) slot false in
     let a = pick-then (eqb (getD (p .subscribed) procedure 0) 1) number (rw (pick-else (eqb (x .service) 0) true there .0) at good) in
     let b = pick-then (ltb (numberOfPlace j) (p .numbercount)) slot (a .1) in
     let c = pick-then (ltb (serviceOfPlace j) (p .servicecount)) kind (b .1) in
-    let d = pick-then (eqb (x .service) (getD (p .services) (serviceOfPlace j) 0)) (addressGood (x .address)) (c .1) in
-    (ltb-true (numberOfPlace j) (p .numbercount) (b .0), d .1)
+    let d = pick-then (eqb (x .service) code) (addressGood (x .address)) (c .1) in
+    record {
+      subscribed = eqb-true (getD (p .subscribed) procedure 0) 1 (a .0);
+      number = ltb-true (numberOfPlace j) (p .numbercount) (b .0);
+      slot = ltb-true (serviceOfPlace j) (p .servicecount) (c .0);
+      service = eqb-true (x .service) code (d .0);
+      address = d .1;
+    }
+
+pub active-rules :
+    (limit : ℕ) (p : Profile) (procedure : ℕ) (row : Row) → rowGood limit p procedure row ≡ true → (j : ℕ) → j < places →
+    active row j ≡ true →
+    Ruled p procedure j (cellAt row j)
+unfolding active
+active-rules limit p procedure row good j h there =
+    cell-rules p procedure j (cellAt row j) (good-cells limit p procedure row good j h) there
 
 -- the entries of a row that breaks no rule read back, where the profile's numbers do
 pub entries-good :
     (limit : ℕ) (p : Profile) (procedure : ℕ) (w : Places) (row : Row) → rowGood limit p procedure row ≡ true →
     ((k : ℕ) → k < p .numbercount → numberGood (getD (p .numbers) k (record { form = 0; kind = 0; count = 0; digits = [] })) ≡ true) →
     allGood (entriesIn p procedure w row) ≡ true
-unfolding entriesIn entryOfPlace active
+unfolding entriesIn entryOfPlace
 entries-good limit p procedure w row good numbers =
     gathered-ind (λ es. allGood es ≡ true) all-none all-both (entriesAt p procedure w row) places (λ j h.
     pick-ind (λ es. allGood es ≡ true) (selected w j)
     (λ _.
     pick-ind (λ es. allGood es ≡ true) (active row j)
     (λ there.
-    let rules = cell-rules p procedure j (cellAt row j) (good-cells limit p procedure row good j h) there in
+    let rules = active-rules limit p procedure row good j h there in
     all-one (entryOfPlace p procedure row j)
-    (entry-good (entryOfPlace p procedure row j) (numbers (numberOfPlace j) (rules .0)) (rules .1)))
+    (entry-good (entryOfPlace p procedure row j) (numbers (numberOfPlace j) (rules .number)) (rules .address)))
     (λ _. all-none))
     (λ _. all-none))

@@ -18,6 +18,7 @@ use Rattle.access.specs.declared.profile.Profile.{Profile}
 use Rattle.lists.specs.Entry.{entryOf}
 use Rattle.lists.specs.declared.entry.Entry.{Entry}
 use Rattle.store.specs.declared.row.Cell.{Cell}
+use Rattle.store.specs.declared.row.Instance.{Instance}
 use Rattle.store.specs.declared.row.Row.{Row}
 use Rattle.store.specs.declared.row.Places.{Places}
 
@@ -57,6 +58,13 @@ View = ℕ → Option Address
 
 unfoldable pub held : Row → View
 held row j = pick (active row j) (some (tidyAddress (cellAt row j .address))) none
+
+-- the instance at a place: its address where one is active
+abbrev pub noInstance : Instance
+noInstance = record { ok = false; address = noCell .address }
+
+unfoldable pub instanceAt : Row → ℕ → Instance
+instanceAt row j = pick (active row j) (record { ok = true; address = cellAt row j .address }) noInstance
 
 -- ---- places that are selected
 
@@ -128,3 +136,6 @@ PutIn w address row r = r ≡ putIn w address row
 
 abbrev pub ClearIn : Places → Row → Row → Type 0
 ClearIn w row r = r ≡ clearIn w row
+
+abbrev pub InstanceAt : Row → ℕ → Instance → Type 0
+InstanceAt row j r = r ≡ instanceAt row j

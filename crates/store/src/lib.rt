@@ -6,6 +6,7 @@ pub use grid::Grid;
 pub use grid::PROCEDURES;
 pub use grid::fresh_grid;
 pub use row::Cell;
+pub use row::Instance;
 pub use row::PLACES;
 pub use row::Places;
 pub use row::Row;

@@ -13,7 +13,7 @@ ghost use mathlib.Core.Path.{_≡_};
 ghost use Prim.Native.Nat.{_<_};
 ghost use Rattle.lists.specs.Entries.{limit};
 ghost use Rattle.laws.specs.Places.{countTo, everyTo};
-ghost use Rattle.store.specs.Row.{places, noCell, cellAt, active, cellGood, rowGood, CountWith, ActiveOf, PutIn, ClearIn};
+ghost use Rattle.store.specs.Row.{places, noCell, noInstance, cellAt, active, cellGood, rowGood, CountWith, ActiveOf, PutIn, ClearIn, InstanceAt};
 ghost use Rattle.store.specs.Grid.{EntriesIn};
 
 // The places of a row: a number's are together, by service code.
@@ -37,6 +37,12 @@ pub struct Places {
     pub codes: [u8; PLACES],
 }
 
+// The address of an instance; or `ok` is false.
+pub struct Instance {
+    pub ok: bool,
+    pub address: Address,
+}
+
 pub(crate) fn no_cell() -> Cell
     ensures { λ r. ⌜ r ≡ noCell ⌝ }
 {
@@ -53,6 +59,14 @@ pub(crate) fn no_cell() -> Cell
             sub: [0; 20],
         },
     }
+}
+
+fn no_instance() -> Instance
+    ensures { λ r. ⌜ r ≡ noInstance ⌝ }
+{
+    let none = no_cell();
+    let address = none.address;
+    Instance { ok: false, address }
 }
 
 // Whether the cell at a place breaks no rule.
@@ -183,6 +197,21 @@ impl Row {
         }
         list.count = count as u8;
         list
+    }
+
+    // The instance that is active at a place.
+    pub fn instance_at(self, j: usize) -> Instance
+        ensures { λ r. ⌜ InstanceAt self j r ⌝ }
+    {
+        if PLACES <= j {
+            return no_instance();
+        }
+        let x = self.cells[j];
+        if x.service == 0 {
+            return no_instance();
+        }
+        let address = x.address;
+        Instance { ok: true, address }
     }
 
     // How many instances there are.

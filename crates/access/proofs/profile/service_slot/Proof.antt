@@ -1,12 +1,12 @@
-use Rattle.rules.proofs.TestLaws.{Come, slot-here, slot-next, slot-none}
+use Rattle.access.proofs.Services.{Come, slot-here, slot-next, slot-none}
 use Rattle.access.specs.Profile.{servicesMost}
 use borrow.Author.Needs.{needs}
 use native.Mathlib.Omega.{arith}
 use lib.ListN.{length}
 use Prim.Native.Nat.{_-_, _≤_}
 use mathlib.Core.Path.{_≡_}
-use Rattle.rules.proofs.tests.service_slot.Statement.{statement}
-use Rattle.rules.proofs.tests.service_slot.Tie as tie
+use Rattle.access.proofs.profile.service_slot.Statement.{statement}
+use Rattle.access.proofs.profile.service_slot.Tie as tie
 
 abbrev Inv-loop : tie.InvT-loop
 Inv-loop service count services k₀ k = (k ≤ servicesMost) × Come service count services k

@@ -1,0 +1,98 @@
+-- How far a call is diverted: its counter and the diversion limit, its option and the profile's (document 01, "Calls").
+-- Assumes nothing.
+use Prim.Native.Nat.{ℕ, _≤_, _<_}
+use mathlib.Core.Path.{_≡_, ap}
+use mathlib.Core.List.{List}
+use mathlib.Core.Option.{Option, none, some}
+use native.Mathlib.Omega.{arith}
+use lib.Dec.{ltb, eqb}
+use borrow.Author.Tests.{ne-eqb, ltb-true, ltb-false}
+use Rattle.laws.proofs.Picks.{pick-ind}
+use Rattle.numbers.specs.declared.address.Address.{Address}
+use Rattle.access.specs.Access.{accessRead}
+use Rattle.access.specs.declared.profile.Profile.{Profile}
+use Rattle.lists.specs.Entries.{limit}
+use Rattle.exchange.specs.Table.{tableGood}
+use Rattle.exchange.specs.declared.table.Table.{Table}
+use Rattle.calls.specs.Call.{callFrom, callGood}
+use Rattle.calls.specs.Divert.{Told, refuses, passes, diverts, applying, optionAfter, onward, Comes, nowhere, byInstance, byCall, comes}
+use Rattle.calls.specs.declared.call.Call.{Call}
+
+-- ---- the option: "the profile's on the first, afterwards the smaller of received and profile's"
+
+module _ (p : Profile) (c : Call) where
+  -- it is never above the profile's
+  pub option-least : optionAfter p c ≤ p .option
+  unfolding optionAfter
+  option-least =
+      let P : ℕ → Type 0 = λ k. k ≤ p .option in
+      pick-ind P (eqb (c .counter) 0) (λ _. omega arith)
+      (λ _. pick-ind P (ltb (c .option) (p .option))
+      (λ below. omega (arith, ltb-true (c .option) (p .option) below))
+      (λ _. omega arith))
+
+  -- nor above the one received, on a later diversion
+  pub option-received : (c .counter ≡ 0 → ⊥) → optionAfter p c ≤ c .option
+  unfolding optionAfter
+  option-received later =
+      rw (ne-eqb (c .counter) 0 later)
+      (pick-ind (λ k. k ≤ c .option) (ltb (c .option) (p .option))
+      (λ _. omega arith)
+      (λ above. omega (arith, ltb-false (c .option) (p .option) above)))
+
+-- ---- the counter: "one more", and "An instance and counter not below the limit: refusal 6"
+
+instance-counter :
+    (p : Profile) (c : Call) (o : Option Address) → byInstance p c o .call .counter ≤ p .limit
+unfolding onward nowhere
+instance-counter p c none = omega arith
+instance-counter p c (some called) =
+    pick-ind (λ (x : Comes). x .call .counter ≤ p .limit) (ltb (c .counter) (p .limit))
+    (λ below. omega (arith, ltb-true (c .counter) (p .limit) below))
+    (λ _. omega arith)
+
+-- the counter that goes on never passes the profile's limit
+pub counter-most :
+    (access : List ℕ) (t : Table) (s : List ℕ) → comes access t s .call .counter ≤ accessRead access .profile .limit
+unfolding comes nowhere
+counter-most access t s =
+    let p : Profile = accessRead access .profile in
+    let P : Comes → Type 0 = λ x. x .call .counter ≤ p .limit in
+    pick-ind P (accessRead access .ok)
+    (λ _. pick-ind P (tableGood limit p t)
+    (λ _. pick-ind P (callGood p s)
+    (λ _. instance-counter p (callFrom s) (applying p (t .grid) (callFrom s)))
+    (λ _. omega arith))
+    (λ _. omega arith))
+    (λ _. omega arith)
+
+-- ---- "No instance, or the access not in use: not diverted, whatever the counter"
+
+pub none-passes : (p : Profile) (t : Table) (c : Call) → applying p (t .grid) c ≡ none → byCall p t c .told ≡ passes
+none-passes p t c h = rw h
+
+-- the number of a refusal, 0 where there is none
+abbrev pub refusalIn : Told → ℕ
+refusalIn (refuses number) = number
+refusalIn passes = 0
+refusalIn (diverts reasonNumber noticeNumber) = 0
+
+-- such a call is never refused 6
+pub none-unrefused :
+    (access : List ℕ) (t : Table) (s : List ℕ) →
+    applying (accessRead access .profile) (t .grid) (callFrom s) ≡ none →
+    comes access t s .told ≡ refuses 6 →
+    ⊥
+unfolding comes
+none-unrefused access t s h e =
+    let p : Profile = accessRead access .profile in
+    let P : Comes → Type 0 = λ x. refusalIn (x .told) < 6 in
+    let low : refusalIn (comes access t s .told) < 6 =
+    pick-ind P (accessRead access .ok)
+    (λ _. pick-ind P (tableGood limit p t)
+    (λ _. pick-ind P (callGood p s)
+    (λ _. rw (none-passes p t (callFrom s) h) (omega arith))
+    (λ _. omega arith))
+    (λ _. omega arith))
+    (λ _. omega arith) in
+    omega (arith, low, ap refusalIn e)

@@ -1,0 +1,68 @@
+-- "With resulting option 0 or 1, two good tables that differ only in the digits and subaddress of the applying instance give the
+-- same notice, counter and reason" (document 01, "Calls"). Assumes nothing.
+use Prim.Native.Nat.{ℕ, _<_}
+use mathlib.Core.Path.{_≡_, refl, sym, _∙_}
+use mathlib.Core.Bool.{Bool, true, false}
+use mathlib.Core.List.{List, []}
+use mathlib.Core.Option.{some}
+use native.Mathlib.Omega.{arith}
+use lib.Dec.{ltb}
+use borrow.Author.Tests.{ne-eqb}
+use Rattle.laws.specs.Pick.{pick}
+use Rattle.numbers.specs.Number.{numberOf}
+use Rattle.numbers.specs.declared.address.Address.{Address}
+use Rattle.access.specs.Access.{accessRead}
+use Rattle.access.specs.declared.profile.Profile.{Profile}
+use Rattle.lists.specs.Entries.{limit}
+use Rattle.exchange.specs.Table.{tableGood}
+use Rattle.exchange.specs.declared.table.Table.{Table}
+use Rattle.calls.specs.Call.{callFrom, callGood}
+use Rattle.calls.specs.Divert.{applying, optionAfter, noticed, onward, Comes, goes, byCall, comes}
+use Rattle.calls.specs.declared.call.Call.{Call}
+
+-- what comes of two calls is told alike: the reason and the notice, the counter, and the number of the notice
+pub record Alike (x y : Comes) : Type 0 where
+  pub told : x .told ≡ y .told
+  pub counter : x .call .counter ≡ y .call .counter
+  pub noticed : x .call .noticed ≡ y .call .noticed
+
+-- the same test of both
+alike-both : (b : Bool) (x y z : Comes) → Alike x y → Alike (pick b x z) (pick b y z)
+alike-both true x y z so = so
+alike-both false x y z so = record { told = refl; counter = refl; noticed = refl }
+
+-- a notice without number
+noticed-none : (option : ℕ) (called : Address) → option < 2 → noticed option called ≡ numberOf 0 0 []
+unfolding noticed
+noticed-none option called low = rw (ne-eqb option 2 (λ e. omega (arith, e)))
+
+module _ (p : Profile) (c : Call) (low : optionAfter p c < 2) where
+  goes-alike : (a b : Address) → Alike (goes p c a) (goes p c b)
+  unfolding onward
+  goes-alike a b = record {
+    told = refl;
+    counter = refl;
+    noticed = noticed-none (optionAfter p c) a low ∙ sym (noticed-none (optionAfter p c) b low);
+  }
+
+  -- whatever the two addresses are
+  pub instances-alike :
+      (t u : Table) (a b : Address) → applying p (t .grid) c ≡ some a → applying p (u .grid) c ≡ some b →
+      Alike (byCall p t c) (byCall p u c)
+  instances-alike t u a b first second = rw (first, second) (alike-both (ltb (c .counter) (p .limit)) _ _ _ (goes-alike a b))
+
+-- the same of a call as it comes, for two tables that break no rule
+pub digits-withheld :
+    (access s : List ℕ) (t u : Table) (a b : Address) →
+    optionAfter (accessRead access .profile) (callFrom s) < 2 →
+    tableGood limit (accessRead access .profile) t ≡ true →
+    tableGood limit (accessRead access .profile) u ≡ true →
+    applying (accessRead access .profile) (t .grid) (callFrom s) ≡ some a →
+    applying (accessRead access .profile) (u .grid) (callFrom s) ≡ some b →
+    Alike (comes access t s) (comes access u s)
+unfolding comes
+digits-withheld access s t u a b low one two first second =
+    let p : Profile = accessRead access .profile in
+    rw (one, two)
+    (alike-both (accessRead access .ok) _ _ _
+    (alike-both (callGood p s) _ _ _ (instances-alike p (callFrom s) low t u a b first second)))

@@ -1,0 +1,68 @@
+-- A call as it comes to the access: lent octets at fixed offsets, laid out in docs/RECORDS.md (document 01, "Calls").
+use Prim.Native.Nat.{ℕ, _+_}
+use mathlib.Core.Bool.{Bool, false}
+use mathlib.Core.List.{List}
+use lib.ListN.{length, getD}
+use lib.Seq.{slice}
+use lib.Dec.{ltb, leb, eqb}
+use Rattle.laws.specs.Pick.{pick}
+use Rattle.numbers.specs.Codes.{serviceCode}
+use Rattle.numbers.specs.Number.{most, allDigits}
+use Rattle.access.specs.declared.profile.Profile.{Profile}
+use Rattle.calls.specs.declared.call.Call.{Call}
+
+-- where the digits of the original number stand, and the size of the record
+abbrev pub originalAt : ℕ
+originalAt = 8
+
+abbrev pub callSize : ℕ
+callSize = 28
+
+unfoldable pub callFrom : List ℕ → Call
+callFrom s = record {
+  number = getD s 0 0;
+  service = getD s 1 0;
+  event = getD s 2 0;
+  counter = getD s 3 0;
+  option = getD s 4 0;
+  presentation = getD s 5 0;
+  preference = getD s 6 0;
+  count = getD s 7 0;
+}
+
+-- "an event (offered, busy, no reply)"
+abbrev pub offered : ℕ
+offered = 0
+
+abbrev pub busy : ℕ
+busy = 1
+
+abbrev pub noReply : ℕ
+noReply = 2
+
+-- "names a profile number, a service": one of the sixteen, whether or not it is subscribed
+unfoldable pub namesGood : Profile → Call → Bool
+namesGood p c =
+    pick (ltb (c .number) (p .numbercount)) (pick (eqb (c .service) 0) false (serviceCode (c .service))) false
+
+-- "a counter 0 to 5, the chain's notification option, .. its presentation .. and the preference indicator 0 to 2"
+unfoldable pub valuesGood : Call → Bool
+valuesGood c =
+    pick (leb (c .event) noReply)
+    (pick (leb (c .counter) 5)
+    (pick (leb (c .option) 2) (pick (leb (c .presentation) 1) (leb (c .preference) 2) false) false)
+    false)
+    false
+
+-- "a digit string over 20 or not digits"; "empty: absent"
+unfoldable pub originalGood : List ℕ → ℕ → Bool
+originalGood s count = pick (leb count most) (allDigits (slice originalAt (originalAt + count) s)) false
+
+-- "Refusal 5: a value outside these"; a record of another size too
+unfoldable pub callGood : Profile → List ℕ → Bool
+callGood p s =
+    pick (eqb (length s) callSize)
+    (pick (namesGood p (callFrom s))
+    (pick (valuesGood (callFrom s)) (originalGood s (callFrom s .count)) false)
+    false)
+    false

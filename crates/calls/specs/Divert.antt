@@ -1,0 +1,183 @@
+-- What becomes of a call: diverted, not diverted or refused (document 01, "Calls"; Q.732.2-5, 2.5.2.5.1.2).
+use Prim.Native.Nat.{ℕ, _+_, _*_}
+use mathlib.Core.Path.{_≡_}
+use mathlib.Core.List.{List, []}
+use mathlib.Core.Option.{Option, none, some}
+use lib.ListN.{getD, replicate}
+use lib.Dec.{ltb, leb, eqb}
+use Rattle.laws.specs.Pick.{pick}
+use Rattle.numbers.specs.Codes.{placeOf}
+use Rattle.numbers.specs.Number.{numberOf}
+use Rattle.numbers.specs.declared.number.Number.{Number}
+use Rattle.numbers.specs.declared.address.Address.{Address}
+use Rattle.access.specs.Access.{accessRead}
+use Rattle.access.specs.Profile.{servicesMost, offered as subscribedServices, noNumber}
+use Rattle.access.specs.declared.profile.Profile.{Profile}
+use Rattle.lists.specs.Entries.{limit}
+use Rattle.store.specs.Row.{cellAt, active}
+use Rattle.store.specs.Grid.{rowAt}
+use Rattle.store.specs.declared.grid.Grid.{Grid}
+use Rattle.exchange.specs.Table.{tableGood}
+use Rattle.exchange.specs.declared.table.Table.{Table}
+use Rattle.calls.specs.Call.{offered, busy, callFrom, callGood}
+use Rattle.calls.specs.declared.call.Call.{Call}
+use Rattle.calls.specs.declared.diverting.Reason.{Reason}
+use Rattle.calls.specs.declared.diverting.Reason.the-variants as reason
+use Rattle.calls.specs.declared.diverting.Notice.{Notice}
+use Rattle.calls.specs.declared.diverting.Notice.the-variants as notice
+use Rattle.calls.specs.declared.diverting.Refusal.{Refusal}
+use Rattle.calls.specs.declared.diverting.Refusal.the-variants as refusal
+use Rattle.calls.specs.declared.diverting.Outcome.{Outcome}
+use Rattle.calls.specs.declared.diverting.Outcome.the-variants.{Refuses, Passes, Diverts}
+use Rattle.calls.specs.declared.diverting.Onward.{Onward}
+use Rattle.calls.specs.declared.diverting.Diversion.{Diversion}
+
+-- ---- document 01's numbers
+
+-- "reason cfu 1, cfb 2, cfnr 3"
+abbrev pub reasonNo : Reason → ℕ
+reasonNo reason.Cfu = 1
+reasonNo reason.Cfb = 2
+reasonNo reason.Cfnr = 3
+
+-- "none at 0; 'call is diverting' without number at 1; with forwarded-to number at 2"
+abbrev pub noticeNo : Notice → ℕ
+noticeNo notice.Silent = 0
+noticeNo notice.Diverting = 1
+noticeNo notice.DivertingTo = 2
+
+-- the numbers of "Local refusals"
+abbrev pub refusalNo : Refusal → ℕ
+refusalNo refusal.BadProfile = 3
+refusalNo refusal.BadTable = 4
+refusalNo refusal.BadCall = 5
+refusalNo refusal.LimitReached = 6
+
+-- what is told, by these numbers: a refusal, that the call is not diverted, or the reason and the notice
+pub data Told : Type 0 where
+  refuses : (number : ℕ) → Told
+  passes : Told
+  diverts : (reasonNumber noticeNumber : ℕ) → Told
+
+abbrev pub toldBy : Outcome → Told
+toldBy (Refuses r) = refuses (refusalNo r)
+toldBy Passes = passes
+toldBy (Diverts r n) = diverts (reasonNo r) (noticeNo n)
+
+-- ---- which instance applies
+
+-- "Offered looks at cfu, busy at cfb, no reply at cfnr"
+abbrev pub procedureOf : ℕ → ℕ
+procedureOf event = pick (eqb event offered) 0 (pick (eqb event busy) 1 2)
+
+-- the place of the call's service among those subscribed, and of its number and service in a row
+abbrev pub slotOf : Profile → Call → ℕ
+slotOf p c = placeOf (c .service) (subscribedServices p)
+
+abbrev pub placeOfCall : Profile → Call → ℕ
+placeOfCall p c = servicesMost * c .number + slotOf p c
+
+-- "for that number and service. No instance, or the access not in use: not diverted"
+unfoldable pub applying : Profile → Grid → Call → Option Address
+applying p grid c =
+    pick (eqb (p .inuse) 0) none
+    (pick (leb (p .servicecount) (slotOf p c)) none
+    (pick (active (rowAt grid (procedureOf (c .event))) (placeOfCall p c))
+    (some (cellAt (rowAt grid (procedureOf (c .event))) (placeOfCall p c) .address))
+    none))
+
+-- ---- what a diverted call becomes
+
+-- "option: the profile's on the first, afterwards the smaller of received and profile's"
+unfoldable pub optionAfter : Profile → Call → ℕ
+optionAfter p c =
+    pick (eqb (c .counter) 0) (p .option) (pick (ltb (c .option) (p .option)) (c .option) (p .option))
+
+-- "preference 1 becomes 0 on the first diversion only"
+unfoldable pub preferenceAfter : Call → ℕ
+preferenceAfter c = pick (eqb (c .counter) 0) (pick (eqb (c .preference) 1) 0 (c .preference)) (c .preference)
+
+-- "original: on the first diversion (counter 0) the served number, presentation likewise; later as received"
+unfoldable pub originalShown : Profile → Call → ℕ
+originalShown p c = pick (eqb (c .counter) 0) (p .release) (c .presentation)
+
+-- the served number
+unfoldable pub servedOf : Profile → Call → Number
+servedOf p c = getD (p .numbers) (c .number) noNumber
+
+-- "The caller's notice: .. with forwarded-to number at 2", and no number else
+unfoldable pub noticed : ℕ → Address → Number
+noticed option called = pick (eqb option 2) (called .number) (numberOf 0 0 [])
+
+-- "counter one more"; "called number: the forwarded-to address; redirecting number: the served number, presentation allowed only if
+-- released"
+unfoldable pub onward : Profile → Call → Address → Onward
+onward p c called = record {
+  counter = c .counter + 1;
+  called = called;
+  redirecting = servedOf p c;
+  redirectingshown = p .release;
+  originalshown = originalShown p c;
+  preference = preferenceAfter c;
+  option = optionAfter p c;
+  noticed = noticed (optionAfter p c) called;
+}
+
+-- ---- the whole
+
+-- what comes of a call: what is told, and the call that goes on; nothing of it where none does
+pub record Comes : Type 0 where
+  pub told : Told
+  pub call : Onward
+
+unfoldable pub nowhere : Onward
+nowhere = record {
+  counter = 0;
+  called = record { number = numberOf 0 0 []; subcount = 0; sub = replicate 20 0 };
+  redirecting = numberOf 0 0 [];
+  redirectingshown = 0;
+  originalshown = 0;
+  preference = 0;
+  option = 0;
+  noticed = numberOf 0 0 [];
+}
+
+abbrev pub stays : Outcome → Comes
+stays outcome = record { told = toldBy outcome; call = nowhere }
+
+abbrev pub refused : Refusal → Comes
+refused r = stays (Refuses r)
+
+-- the reason, and the notice whose number is the resulting option
+unfoldable pub reasonOf : ℕ → ℕ
+reasonOf event =
+    pick (eqb event offered) (reasonNo reason.Cfu) (pick (eqb event busy) (reasonNo reason.Cfb) (reasonNo reason.Cfnr))
+
+abbrev pub goes : Profile → Call → Address → Comes
+goes p c called = record { told = diverts (reasonOf (c .event)) (optionAfter p c); call = onward p c called }
+
+-- "No instance .. : not diverted, whatever the counter. An instance and counter not below the limit: refusal 6."
+abbrev pub byInstance : Profile → Call → Option Address → Comes
+byInstance p c none = stays Passes
+byInstance p c (some called) = pick (ltb (c .counter) (p .limit)) (goes p c called) (refused refusal.LimitReached)
+
+abbrev pub byCall : Profile → Table → Call → Comes
+byCall p t c = byInstance p c (applying p (t .grid) c)
+
+-- "Lowest number first, 6 last"
+unfoldable pub comes : List ℕ → Table → List ℕ → Comes
+comes access t s =
+    pick (accessRead access .ok)
+    (pick (tableGood limit (accessRead access .profile) t)
+    (pick (callGood (accessRead access .profile) s) (byCall (accessRead access .profile) t (callFrom s)) (refused refusal.BadCall))
+    (refused refusal.BadTable))
+    (refused refusal.BadProfile)
+
+-- what the functions promise: what is told by its numbers, and all of the call that goes on
+pub record Becomes (x : Comes) (d : Diversion) : Type 0 where
+  pub told : toldBy (d .outcome) ≡ x .told
+  pub call : d .call ≡ x .call
+
+-- what `divert` promises
+abbrev pub DivertsTo : List ℕ → Table → List ℕ → Diversion → Type 0
+DivertsTo access t s d = Becomes (comes access t s) d

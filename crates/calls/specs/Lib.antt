@@ -1,0 +1,3 @@
+pub mod Call
+pub mod Divert
+pub mod Original

@@ -1,0 +1,39 @@
+-- "The original called number handed on is a stretch of one of two lent records, the call's or the access's" (document 01, "Calls").
+use Prim.Native.Nat.{ℕ, _+_, _*_}
+use mathlib.Core.Path.{_≡_}
+use mathlib.Core.Bool.{Bool, true, false}
+use mathlib.Core.List.{List, []}
+use lib.Seq.{slice}
+use lib.Dec.{eqb}
+use Rattle.laws.specs.Pick.{pick}
+use Rattle.access.specs.Access.{accessRead, numbersAt, numberSize}
+use Rattle.access.specs.declared.profile.Profile.{Profile}
+use Rattle.exchange.specs.declared.table.Table.{Table}
+use Rattle.calls.specs.Call.{originalAt, callFrom}
+use Rattle.calls.specs.Divert.{Told, refuses, passes, diverts, servedOf, comes}
+use Rattle.calls.specs.declared.call.Call.{Call}
+
+-- where the digits of a number stand in the access record: after its form, type and count
+abbrev pub servedAt : ℕ → ℕ
+servedAt number = numbersAt + numberSize * number + 3
+
+-- "on the first diversion (counter 0) the served number .. later as received"
+unfoldable pub handedOn : List ℕ → List ℕ → Profile → Call → List ℕ
+handedOn access s p c =
+    pick (eqb (c .counter) 0)
+    (slice (servedAt (c .number)) (servedAt (c .number) + servedOf p c .count) access)
+    (slice originalAt (originalAt + c .count) s)
+
+abbrev pub goesOn : Told → Bool
+goesOn (refuses number) = false
+goesOn passes = false
+goesOn (diverts reasonNumber noticeNumber) = true
+
+-- no stretch where no call goes on
+unfoldable pub originalIn : List ℕ → Table → List ℕ → List ℕ
+originalIn access t s =
+    pick (goesOn (comes access t s .told)) (handedOn access s (accessRead access .profile) (callFrom s)) []
+
+-- what `original` promises
+abbrev pub OriginalIn : List ℕ → Table → List ℕ → List ℕ → Type 0
+OriginalIn access t s r = r ≡ originalIn access t s

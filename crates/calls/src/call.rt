@@ -1,0 +1,106 @@
+// A call as it comes to the access: lent octets at fixed offsets (docs/RECORDS.md).
+use access::Profile;
+use numbers::all_digits;
+use numbers::service_code;
+ghost use mathlib.Core.Path.{_≡_};
+ghost use lib.ListN.{length};
+ghost use Rattle.calls.specs.Call.{callSize, callFrom, namesGood, valuesGood, originalGood, callGood};
+
+// Where the digits of the original number stand, and the size of the record.
+pub(crate) const ORIGINALAT: usize = 8;
+
+const CALLSIZE: usize = 28;
+
+// The most digits of the original number.
+const DIGITS: u8 = 20;
+
+// The events; no reply is the last.
+pub(crate) const OFFERED: u8 = 0;
+
+pub(crate) const BUSY: u8 = 1;
+
+const NOREPLY: u8 = 2;
+
+pub(crate) struct Call {
+    pub(crate) number: u8,
+    pub(crate) service: u8,
+    pub(crate) event: u8,
+    pub(crate) counter: u8,
+    pub(crate) option: u8,
+    pub(crate) presentation: u8,
+    pub(crate) preference: u8,
+    pub(crate) count: u8,
+}
+
+pub(crate) fn call_of(s: &[u8]) -> Call
+    requires { ⌜ length (now s) ≡ callSize ⌝ }
+    ensures { λ r. ⌜ r ≡ callFrom (now (s .entry)) ⌝ }
+{
+    Call {
+        number: s[0],
+        service: s[1],
+        event: s[2],
+        counter: s[3],
+        option: s[4],
+        presentation: s[5],
+        preference: s[6],
+        count: s[7],
+    }
+}
+
+fn names_good(p: Profile, c: Call) -> bool
+    ensures { λ r. ⌜ r ≡ namesGood p c ⌝ }
+{
+    if p.numbercount <= c.number {
+        return false;
+    }
+    if c.service == 0 {
+        return false;
+    }
+    service_code(c.service)
+}
+
+fn values_good(c: Call) -> bool
+    ensures { λ r. ⌜ r ≡ valuesGood c ⌝ }
+{
+    if NOREPLY < c.event {
+        return false;
+    }
+    if 5 < c.counter {
+        return false;
+    }
+    if 2 < c.option {
+        return false;
+    }
+    if 1 < c.presentation {
+        return false;
+    }
+    c.preference <= 2
+}
+
+fn original_good(s: &[u8], count: u8) -> bool
+    requires { ⌜ length (now s) ≡ callSize ⌝ }
+    ensures { λ r. ⌜ r ≡ originalGood (now (s .entry)) count ⌝ }
+{
+    if DIGITS < count {
+        return false;
+    }
+    all_digits(&s[ORIGINALAT..ORIGINALAT + count as usize])
+}
+
+// Whether a call's record breaks no rule.
+pub(crate) fn call_good(p: Profile, s: &[u8]) -> bool
+    ensures { λ r. ⌜ r ≡ callGood p (now (s .entry)) ⌝ }
+{
+    if s.len() != CALLSIZE {
+        return false;
+    }
+    let c = call_of(s);
+    if !names_good(p, c) {
+        return false;
+    }
+    if !values_good(c) {
+        return false;
+    }
+    original_good(s, c.count)
+}

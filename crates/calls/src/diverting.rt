@@ -1,0 +1,259 @@
+// What becomes of a call: diverted, not diverted or refused (document 01, "Calls"; Q.732.2-5, 2.5.2.5.1.2).
+use crate::call::BUSY;
+use crate::call::Call;
+use crate::call::OFFERED;
+use crate::call::call_good;
+use crate::call::call_of;
+use access::Profile;
+use access::SERVICES;
+use access::read_access;
+use access::service_slot;
+use exchange::Table;
+use numbers::Address;
+use numbers::Number;
+use store::Grid;
+ghost use mathlib.Core.Path.{_≡_};
+ghost use mathlib.Core.List.{[]};
+ghost use Prim.Native.Nat.{_<_, _≤_};
+ghost use Rattle.numbers.specs.Number.{numberOf};
+ghost use Rattle.access.specs.Profile.{numbersMost};
+ghost use Rattle.calls.specs.Divert.{reasonNo, noticeNo, procedureOf, optionAfter, preferenceAfter, originalShown, noticed, stays, refused, reasonOf, goes, applying, byInstance, Becomes, DivertsTo};
+
+// Why a call is diverted.
+pub enum Reason {
+    Cfu,
+    Cfb,
+    Cfnr,
+}
+
+// What the caller is told: nothing, that the call is diverting, or to which number too.
+pub enum Notice {
+    Silent,
+    Diverting,
+    DivertingTo,
+}
+
+// Why a call is not looked at, or goes no further.
+pub enum Refusal {
+    BadProfile,
+    BadTable,
+    BadCall,
+    LimitReached,
+}
+
+pub enum Outcome {
+    Refuses { refusal: Refusal },
+    Passes,
+    Diverts { reason: Reason, notice: Notice },
+}
+
+// The call that goes on: the forwarded-to address, the served number with its presentation, the presentation of the original
+// number, and the number of the caller's notice.
+#[repr(C)]
+pub struct Onward {
+    pub counter: u8,
+    pub called: Address,
+    pub redirecting: Number,
+    pub redirectingshown: u8,
+    pub originalshown: u8,
+    pub preference: u8,
+    pub option: u8,
+    pub noticed: Number,
+}
+
+// What becomes of a call, and the call that goes on where one does.
+pub struct Diversion {
+    pub outcome: Outcome,
+    pub call: Onward,
+}
+
+fn no_number() -> Number
+    ensures { λ r. ⌜ r ≡ numberOf 0 0 [] ⌝ }
+{
+    Number {
+        form: 0,
+        kind: 0,
+        count: 0,
+        digits: [0; 20],
+    }
+}
+
+// No call goes on.
+fn stays_here(outcome: Outcome) -> Diversion
+    ensures { λ d. ⌜ Becomes (stays outcome) d ⌝ }
+{
+    let none = no_number();
+    Diversion {
+        outcome,
+        call: Onward {
+            counter: 0,
+            called: Address {
+                number: none,
+                subcount: 0,
+                sub: [0; 20],
+            },
+            redirecting: none,
+            redirectingshown: 0,
+            originalshown: 0,
+            preference: 0,
+            option: 0,
+            noticed: none,
+        },
+    }
+}
+
+fn refuses(refusal: Refusal) -> Diversion
+    ensures { λ d. ⌜ Becomes (refused refusal) d ⌝ }
+{
+    stays_here(Outcome::Refuses { refusal })
+}
+
+// The procedure that the event looks at.
+fn procedure_of(event: u8) -> usize
+    ensures { λ r. ⌜ r ≡ procedureOf event ⌝ }
+{
+    if event == OFFERED {
+        return 0;
+    }
+    if event == BUSY {
+        return 1;
+    }
+    2
+}
+
+fn reason_of(event: u8) -> Reason
+    ensures { λ r. ⌜ reasonNo r ≡ reasonOf event ⌝ }
+{
+    if event == OFFERED {
+        return Reason::Cfu;
+    }
+    if event == BUSY {
+        return Reason::Cfb;
+    }
+    Reason::Cfnr
+}
+
+fn notice_of(option: u8) -> Notice
+    requires { ⌜ option ≤ 2 ⌝ }
+    ensures { λ r. ⌜ noticeNo r ≡ option ⌝ }
+{
+    if option == 0 {
+        return Notice::Silent;
+    }
+    if option == 1 {
+        return Notice::Diverting;
+    }
+    Notice::DivertingTo
+}
+
+fn option_after(p: Profile, c: Call) -> u8
+    ensures { λ r. ⌜ r ≡ optionAfter p c ⌝ }
+{
+    if c.counter == 0 {
+        return p.option;
+    }
+    if c.option < p.option {
+        return c.option;
+    }
+    p.option
+}
+
+fn preference_after(c: Call) -> u8
+    ensures { λ r. ⌜ r ≡ preferenceAfter c ⌝ }
+{
+    if c.counter == 0 {
+        if c.preference == 1 {
+            return 0;
+        }
+    }
+    c.preference
+}
+
+fn original_shown(p: Profile, c: Call) -> u8
+    ensures { λ r. ⌜ r ≡ originalShown p c ⌝ }
+{
+    if c.counter == 0 {
+        return p.release;
+    }
+    c.presentation
+}
+
+// The number of the caller's notice.
+fn noticed_of(option: u8, called: Address) -> Number
+    ensures { λ r. ⌜ r ≡ noticed option called ⌝ }
+{
+    if option == 2 {
+        let number = called.number;
+        return number;
+    }
+    no_number()
+}
+
+// The call goes on to the address of its instance.
+fn go_on(p: Profile, c: Call, called: Address) -> Diversion
+    requires { ⌜ (p .option ≤ 2) × (c .number < numbersMost) × (c .counter < 255) ⌝ }
+    ensures { λ d. ⌜ Becomes (goes p c called) d ⌝ }
+{
+    let option = option_after(p, c);
+    let numbers = p.numbers;
+    let redirecting = numbers[c.number as usize];
+    let reason = reason_of(c.event);
+    let notice = notice_of(option);
+    Diversion {
+        outcome: Outcome::Diverts { reason, notice },
+        call: Onward {
+            counter: c.counter + 1,
+            called,
+            redirecting,
+            redirectingshown: p.release,
+            originalshown: original_shown(p, c),
+            preference: preference_after(c),
+            option,
+            noticed: noticed_of(option, called),
+        },
+    }
+}
+
+// The event's instance for the call's number and service decides, and then the limit.
+fn divert_by(p: Profile, grid: Grid, c: Call) -> Diversion
+    requires { ⌜ (p .option ≤ 2) × (c .number < numbersMost) ⌝ }
+    ensures { λ d. ⌜ Becomes (byInstance p c (applying p grid c)) d ⌝ }
+{
+    if p.inuse == 0 {
+        return stays_here(Outcome::Passes);
+    }
+    let slot = service_slot(p, c.service);
+    if p.servicecount as usize <= slot {
+        return stays_here(Outcome::Passes);
+    }
+    let row = grid.rows[procedure_of(c.event)];
+    let instance = row.instance_at(SERVICES * c.number as usize + slot);
+    if !instance.ok {
+        return stays_here(Outcome::Passes);
+    }
+    if p.limit <= c.counter {
+        return refuses(Refusal::LimitReached);
+    }
+    let address = instance.address;
+    go_on(p, c, address)
+}
+
+// What becomes of a call that comes to the access.
+pub fn divert(table: Table, access: &[u8], call: &[u8]) -> Diversion
+    ensures { λ d. ⌜ DivertsTo (now (access .entry)) table (now (call .entry)) d ⌝ }
+{
+    let read = read_access(access);
+    if !read.ok {
+        return refuses(Refusal::BadProfile);
+    }
+    let p = read.profile;
+    if !table.good(p) {
+        return refuses(Refusal::BadTable);
+    }
+    if !call_good(p, call) {
+        return refuses(Refusal::BadCall);
+    }
+    let c = call_of(call);
+    let grid = table.grid;
+    divert_by(p, grid, c)
+}

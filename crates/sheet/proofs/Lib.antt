@@ -1,0 +1,16 @@
+pub mod Sizes
+pub mod Writers
+pub mod InstanceWriters
+pub mod WrittenTables
+pub mod WrittenOrder
+pub mod WrittenSheets
+pub mod Fields
+pub mod Parts
+pub mod Readers
+pub mod Sheets
+pub mod Placings
+pub mod Tables
+pub mod Trips
+pub mod SheetTrips
+pub mod Accepted
+pub mod Outcomes

@@ -1,0 +1,65 @@
+use Rattle.sheet.proofs.Fields.{field-found, field-none, below-small}
+use Rattle.sheet.proofs.Sheets.{opening-no-form, opening-other, opening-no-last, opening-no-count, opening-is}
+use Rattle.sheet.specs.Reading.{anyField, fieldBelow}
+use borrow.Author.Tests.{not-true, not-false}
+use native.Mathlib.Omega.{arith}
+use borrow.Author.Needs.{needs}
+use Rattle.sheet.proofs.form.opening_of.Statement.{statement}
+use Rattle.sheet.proofs.form.opening_of.Tie as tie
+
+field-at-requires : tie.Need-field-at-requires
+field-at-requires c κs = search needs
+
+no-opening-requires : tie.Need-no-opening-requires
+no-opening-requires c κs = search needs
+
+returns : tie.Need-returns
+returns c = let a = c .before .before .before .before .before .args in rw (opening-no-form (a .s .now) (field-none (anyField _ _) _ (c .before .before .before .field-at .ensures) (not-true _ (c .before .if1 .taken)))) (c .no-opening .ensures)
+
+no-opening-requires-2 : tie.Need-no-opening-requires-2
+no-opening-requires-2 c κs = search needs
+
+returns-2 : tie.Need-returns-2
+returns-2 c = let a = c .before .before .before .before .before .before .before .args in let form = field-found (anyField _ _) _ (c .before .before .before .before .before .field-at .ensures) (not-false _ (c .before .before .before .if1 .left)) in rw (opening-other (a .s .now) _ _ form (c .before .if2 .taken)) (c .no-opening2 .ensures)
+
+field-below-requires : tie.Need-field-below-requires
+field-below-requires c κs = search needs
+
+no-opening-requires-3 : tie.Need-no-opening-requires-3
+no-opening-requires-3 c κs = search needs
+
+returns-3 : tie.Need-returns-3
+returns-3 c = let a = c .before .before .before .before .before .before .before .before .before .before .args in let form = field-found (anyField _ _) _ (c .before .before .before .before .before .before .before .before .field-at .ensures) (not-false _ (c .before .before .before .before .before .before .if1 .left)) in let none = field-none (fieldBelow _ _ _) _ (c .before .before .before .field-below .ensures) (not-true _ (c .before .if3 .taken)) in rw (opening-no-last (a .s .now) _ _ form (c .before .before .before .before .if2 .left) none) (c .no-opening3 .ensures)
+
+field-at-requires-2 : tie.Need-field-at-requires-2
+field-at-requires-2 c κs = search needs
+
+no-opening-requires-4 : tie.Need-no-opening-requires-4
+no-opening-requires-4 c κs = search needs
+
+returns-4 : tie.Need-returns-4
+returns-4 c = let a = c .before .before .before .before .before .before .before .before .before .before .before .before .before .args in let form = field-found (anyField _ _) _ (c .before .before .before .before .before .before .before .before .before .before .before .field-at .ensures) (not-false _ (c .before .before .before .before .before .before .before .before .before .if1 .left)) in let last = field-found (fieldBelow _ _ _) _ (c .before .before .before .before .before .before .field-below .ensures) (not-false _ (c .before .before .before .before .if3 .left)) in let none = field-none (anyField _ _) _ (c .before .before .before .field-at2 .ensures) (not-true _ (c .before .if4 .taken)) in rw (opening-no-count (a .s .now) _ _ form (c .before .before .before .before .before .before .before .if2 .left) _ _ last none) (c .no-opening4 .ensures)
+
+cast-t6 : tie.Need-cast-t6
+cast-t6 c = let a = c .before .before .before .before .before .before .before .before .before .before .before .before .before .args in let last = field-found (fieldBelow _ _ _) _ (c .before .before .before .before .before .before .field-below .ensures) (not-false _ (c .before .before .before .before .if3 .left)) in omega (arith, below-small (a .s .now) _ 32768 _ _ last)
+
+returns-5 : tie.Need-returns-5
+returns-5 c = let a = c .before .before .before .before .before .before .before .before .before .before .before .before .before .args in let form = field-found (anyField _ _) _ (c .before .before .before .before .before .before .before .before .before .before .before .field-at .ensures) (not-false _ (c .before .before .before .before .before .before .before .before .before .if1 .left)) in let last = field-found (fieldBelow _ _ _) _ (c .before .before .before .before .before .before .field-below .ensures) (not-false _ (c .before .before .before .before .if3 .left)) in let count = field-found (anyField _ _) _ (c .before .before .before .field-at2 .ensures) (not-false _ (c .before .if4 .left)) in rw (opening-is (a .s .now) _ _ form (c .before .before .before .before .before .before .before .if2 .left) _ _ last _ _ count)
+
+pub opening-of-spec : {M : Type 1} → statement M
+opening-of-spec =
+    tie.close
+    (tie.spec
+    field-at-requires
+    no-opening-requires
+    returns
+    no-opening-requires-2
+    returns-2
+    field-below-requires
+    no-opening-requires-3
+    returns-3
+    field-at-requires-2
+    no-opening-requires-4
+    returns-4
+    cast-t6
+    returns-5)

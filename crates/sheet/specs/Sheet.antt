@@ -1,0 +1,88 @@
+-- A night sheet: "Form 1; last handled; instance count; then for each, strictly ascending by the first three, .. Nothing after."
+-- (document 01, "Night sheet")
+use Prim.Native.Nat.{ℕ, zero, suc, _+_}
+use mathlib.Core.Bool.{Bool, true, false}
+use mathlib.Core.List.{List, [], _∷_, _++_}
+use lib.ListN.{length, replicate}
+use lib.Dec.{ltb, leb, eqb}
+use Rattle.laws.specs.Pick.{pick}
+use Rattle.laws.specs.Got.{Got, got, wrong, andThen}
+use Rattle.laws.specs.Places.{gathered}
+use Rattle.store.specs.Row.{places, numberOfPlace, cellAt, active}
+use Rattle.store.specs.Grid.{procedures, rowAt}
+use Rattle.store.specs.declared.grid.Grid.{Grid}
+use Rattle.sheet.specs.Form.{Form}
+use Rattle.sheet.specs.Instance.{allGroups, instanceOctets, fieldAt, instanceAt}
+use Rattle.sheet.specs.declared.instance.Instance.{Instance}
+
+-- what a sheet holds
+pub record Sheet : Type 0 where
+  pub last : ℕ
+  pub instances : List Instance
+
+-- ---- written
+
+-- the instance at a place of a procedure's row
+abbrev pub instanceOf : Grid → ℕ → ℕ → Instance
+instanceOf grid k j = record {
+  procedure = k;
+  number = numberOfPlace j;
+  service = cellAt (rowAt grid k) j .service;
+  address = cellAt (rowAt grid k) j .address;
+}
+
+-- every active instance, by procedure, number and service: a row's places go by number, then service code
+unfoldable pub instancesOf : Grid → List Instance
+instancesOf grid =
+    gathered (λ k. gathered (λ j. pick (active (rowAt grid k) j) (instanceOf grid k j ∷ []) []) places) procedures
+
+unfoldable pub instancesOctets : List Instance → List ℕ
+instancesOctets [] = []
+instancesOctets (i ∷ is) = instanceOctets i ++ instancesOctets is
+
+unfoldable pub sheetOctets : Form → ℕ → List Instance → List ℕ
+sheetOctets f last is = allGroups (f .code ∷ last ∷ length is ∷ []) ++ instancesOctets is
+
+-- ---- read
+
+-- "strictly ascending by the first three"
+unfoldable pub before : Instance → Instance → Bool
+before i k =
+    pick (eqb (i .procedure) (k .procedure))
+    (pick (eqb (i .number) (k .number)) (ltb (i .service) (k .service)) (ltb (i .number) (k .number)))
+    (ltb (i .procedure) (k .procedure))
+
+-- an instance after `run` others of the procedure of i, which is the last of them: none where run is 0. Of one procedure there are no
+-- more than the form has
+unfoldable pub follows : Form → Instance → ℕ → Instance → Bool
+follows f i run k =
+    pick (eqb run 0) true
+    (pick (before i k) (pick (eqb (i .procedure) (k .procedure)) (ltb run (f .perProcedure)) true) false)
+
+unfoldable pub runOf : Instance → ℕ → Instance → ℕ
+runOf i run k = pick (eqb run 0) 1 (pick (eqb (i .procedure) (k .procedure)) (run + 1) 1)
+
+-- n instances, each after the one before it
+unfoldable pub instancesFrom : Form → ℕ → Instance → ℕ → List ℕ → ℕ → Got (List Instance)
+instancesFrom f zero i run s at = got [] at
+instancesFrom f (suc n) i run s at =
+    andThen (instanceAt f s at) (λ k p.
+    pick (follows f i run k) (andThen (instancesFrom f n k (runOf i run k) s p) (λ ks q. got (k ∷ ks) q)) wrong)
+
+-- what stands before the first instance carries no meaning
+abbrev pub noInstance : Instance
+noInstance = record {
+  procedure = 0;
+  number = 0;
+  service = 0;
+  address = record { number = record { form = 0; kind = 0; count = 0; digits = replicate 20 0 }; subcount = 0; sub = replicate 20 0 };
+}
+
+-- the whole input, "nothing after": by the rules of the form alone
+unfoldable pub sheetIn : Form → List ℕ → Got Sheet
+sheetIn f s =
+    andThen (fieldAt (eqb (f .code)) s 0) (λ _ p.
+    andThen (fieldAt (λ n. leb n (f .lastMost)) s p) (λ last q.
+    andThen (fieldAt (λ n. true) s q) (λ count a.
+    andThen (instancesFrom f count noInstance 0 s a) (λ is next.
+    pick (eqb next (length s)) (got (record { last = last; instances = is }) next) wrong))))

@@ -1,0 +1,188 @@
+// A night sheet by the rules of its form alone (document 01, "Night sheet").
+use crate::field::field_at;
+use crate::field::field_below;
+use crate::instance::Instance;
+use crate::read::instance_at;
+use crate::read::no_instance;
+ghost use mathlib.Core.Path.{_≡_};
+ghost use Prim.Native.Nat.{_≤_};
+ghost use Rattle.laws.specs.Got.{wrong};
+ghost use Rattle.sheet.specs.Form.{form1};
+ghost use Rattle.sheet.specs.Sheet.{before, follows, runOf, instancesFrom, noInstance};
+ghost use Rattle.sheet.specs.Formed.{formedBy, SheetFormed};
+ghost use Rattle.sheet.specs.Reading.{openingIn, openingRead, passedRead};
+
+// The form's code, the bound of the last handled identifier, and the most instances of a procedure.
+const FORM: u32 = 1;
+
+const LASTS: u32 = 32768;
+
+const PERPROCEDURE: u8 = 8;
+
+// The last handled identifier and how many instances there are; or `ok` is false, and both are 0.
+pub struct SheetForm {
+    pub ok: bool,
+    pub last: u16,
+    pub count: u32,
+}
+
+// What stands before the instances, and the place after it; or `ok` is false.
+pub(crate) struct Opening {
+    pub(crate) ok: bool,
+    pub(crate) last: u16,
+    pub(crate) count: u32,
+    pub(crate) next: usize,
+}
+
+// The place after the instances; or `ok` is false.
+pub(crate) struct Passed {
+    ok: bool,
+    next: usize,
+}
+
+fn no_opening() -> Opening
+    ensures { λ r. ⌜ r ≡ openingRead wrong ⌝ }
+{
+    Opening {
+        ok: false,
+        last: 0,
+        count: 0,
+        next: 0,
+    }
+}
+
+// Form, last handled, instance count.
+pub(crate) fn opening_of(s: &[u8]) -> Opening
+    ensures { λ r. ⌜ r ≡ openingRead (openingIn form1 (now (s .entry))) ⌝ }
+{
+    let form = field_at(s, 0);
+    if !form.ok {
+        return no_opening();
+    }
+    if form.value != FORM {
+        return no_opening();
+    }
+    let last = field_below(s, form.next, LASTS);
+    if !last.ok {
+        return no_opening();
+    }
+    let count = field_at(s, last.next);
+    if !count.ok {
+        return no_opening();
+    }
+    Opening {
+        ok: true,
+        last: last.value as u16,
+        count: count.value,
+        next: count.next,
+    }
+}
+
+// Whether the first of two instances comes before the other, by procedure, number and service.
+fn comes_before(i: Instance, k: Instance) -> bool
+    ensures { λ r. ⌜ r ≡ before i k ⌝ }
+{
+    if i.procedure != k.procedure {
+        return i.procedure < k.procedure;
+    }
+    if i.number != k.number {
+        return i.number < k.number;
+    }
+    i.service < k.service
+}
+
+// Whether `k` may stand after `run` instances of one procedure, the last of them `i`.
+fn may_follow(i: Instance, run: u8, k: Instance) -> bool
+    ensures { λ r. ⌜ r ≡ follows form1 i run k ⌝ }
+{
+    if run == 0 {
+        return true;
+    }
+    if !comes_before(i, k) {
+        return false;
+    }
+    if i.procedure == k.procedure {
+        return run < PERPROCEDURE;
+    }
+    true
+}
+
+// How many instances of its procedure there are with `k`.
+fn run_with(i: Instance, run: u8, k: Instance) -> u8
+    requires { ⌜ run ≤ form1 .perProcedure ⌝ }
+    ensures { λ r. ⌜ r ≡ runOf i run k ⌝ }
+{
+    if run == 0 {
+        return 1;
+    }
+    if i.procedure == k.procedure {
+        return run + 1;
+    }
+    1
+}
+
+fn not_passed() -> Passed
+    ensures { λ r. ⌜ r ≡ passedRead wrong ⌝ }
+{
+    Passed { ok: false, next: 0 }
+}
+
+// `count` instances from `at` on, each where it may stand.
+fn instances_from(s: &[u8], at: usize, count: u32) -> Passed
+    ensures { λ r. ⌜ r ≡ passedRead (instancesFrom form1 count noInstance 0 (now (s .entry)) at) ⌝ }
+{
+    let mut last = no_instance();
+    let mut run: u8 = 0;
+    let mut here = at;
+    let mut i: u32 = 0;
+    while i < count {
+        let read = instance_at(s, here);
+        if !read.ok {
+            return not_passed();
+        }
+        let instance = read.instance;
+        if !may_follow(last, run, instance) {
+            return not_passed();
+        }
+        run = run_with(last, run, instance);
+        last = instance;
+        here = read.next;
+        i += 1;
+    }
+    Passed {
+        ok: true,
+        next: here,
+    }
+}
+
+fn not_formed() -> SheetForm
+    ensures { λ r. ⌜ r ≡ formedBy wrong ⌝ }
+{
+    SheetForm {
+        ok: false,
+        last: 0,
+        count: 0,
+    }
+}
+
+// A night sheet by the rules of form 1, without a profile.
+pub fn sheet_form(s: &[u8]) -> SheetForm
+    ensures { λ r. ⌜ SheetFormed (now (s .entry)) r ⌝ }
+{
+    let opening = opening_of(s);
+    if !opening.ok {
+        return not_formed();
+    }
+    let passed = instances_from(s, opening.next, opening.count);
+    if !passed.ok {
+        return not_formed();
+    }
+    if passed.next != s.len() {
+        return not_formed();
+    }
+    SheetForm {
+        ok: true,
+        last: opening.last,
+        count: opening.count,
+    }
+}
