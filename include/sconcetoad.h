@@ -137,4 +137,45 @@ struct sconcetoad_arrival {
 struct sconcetoad_arrival sconcetoad_arrive(struct sconcetoad_table table, const uint8_t *access, size_t access_length,
                                             const uint8_t *component, size_t component_length, uint8_t *out, size_t out_length);
 
+/* The octets of a call record (docs/RECORDS.md), and the most digits of an original number. */
+#define SCONCETOAD_CALL 28
+#define SCONCETOAD_DIGITS 20
+
+/* The local refusals of a call are SCONCETOAD_BAD_PROFILE, SCONCETOAD_BAD_TABLE and these; the lowest that applies is told. */
+enum {
+    SCONCETOAD_BAD_CALL = 5,      /* the call record has another size, or breaks a rule */
+    SCONCETOAD_LIMIT_REACHED = 6  /* an instance applies, and the counter is not below the diversion limit */
+};
+
+/* The call that goes on: the forwarded-to address, the served number with its presentation (1 allowed), the presentation of the
+   original number, and the number of the caller's notice, which is all zeros unless the notice is 2. */
+struct sconcetoad_onward {
+    uint8_t counter;
+    struct sconcetoad_address called;
+    struct sconcetoad_number redirecting;
+    uint8_t redirectingshown;
+    uint8_t originalshown;
+    uint8_t preference;
+    uint8_t option;
+    struct sconcetoad_number noticed;
+};
+
+/* `reason` is 1 cfu, 2 cfb or 3 cfnr where the call is diverted, else 0, and then `call` is all zeros; `notice` is what the caller is
+   told: 0 nothing, 1 that the call is diverting, 2 to which number too. */
+struct sconcetoad_diversion {
+    uint8_t refusal;
+    uint8_t reason;
+    uint8_t notice;
+    struct sconcetoad_onward call;
+};
+
+/* What becomes of a call: diverted, not diverted or refused. Alters nothing. */
+struct sconcetoad_diversion sconcetoad_divert(struct sconcetoad_table table, const uint8_t *access, size_t access_length,
+                                              const uint8_t *call, size_t call_length);
+
+/* Copies the digits of the original number that the same call hands on to the start of `out`, at most SCONCETOAD_DIGITS, and answers how
+   many; none where no call goes on. Where there is no room it writes nothing and answers 0. */
+size_t sconcetoad_original(struct sconcetoad_table table, const uint8_t *access, size_t access_length, const uint8_t *call,
+                           size_t call_length, uint8_t *out, size_t out_length);
+
 #endif

@@ -7,9 +7,10 @@
 /* The longest line, and the most octets of what a line sets. */
 #define LINE_MOST 16000
 #define ACCESS_MOST 512
+#define CALL_MOST 64
 #define OUTPUT_MOST 1024
 
-static struct lent access_record, component, output;
+static struct lent access_record, component, call, output, digits;
 static struct sconcetoad_table table;
 static unsigned turn;
 static long line_number;
@@ -87,6 +88,42 @@ static int arrive(const char *text)
     return 0;
 }
 
+static void say_diversion(const struct sconcetoad_diversion *diversion, size_t count)
+{
+    char line[LINE_MOST];
+    char *at = line;
+    if (diversion->refusal != SCONCETOAD_ANSWERED) {
+        at += sprintf(at, "refused %d", diversion->refusal);
+    } else if (diversion->reason == 0) {
+        at += sprintf(at, "passed");
+    } else {
+        at += sprintf(at, "diverted %d %d ", diversion->reason, diversion->notice);
+        at = octets_to(at, (const uint8_t *)&diversion->call, sizeof diversion->call);
+        at += sprintf(at, count == 0 ? " original" : " original ");
+        at = octets_to(at, lent_octets(&digits), count);
+    }
+    *at++ = '\n';
+    fwrite(line, 1, (size_t)(at - line), stdout);
+}
+
+static int divert(const char *text)
+{
+    if (set_octets(&call, text, CALL_MOST, "a call has 0 to 64 octets, in upper-case hexadecimal"))
+        return 1;
+    turn++;
+    lend(&access_record, turn);
+    lend(&call, turn);
+    lend_filled(&digits, turn);
+    struct sconcetoad_diversion diversion =
+        sconcetoad_divert(table, lent_octets(&access_record), access_record.size, lent_octets(&call), call.size);
+    size_t count = sconcetoad_original(table, lent_octets(&access_record), access_record.size, lent_octets(&call), call.size,
+                                       lent_octets(&digits), digits.size);
+    if (count > digits.size || !lent_kept(&access_record, 0) || !lent_kept(&call, 0) || !lent_kept(&digits, count))
+        return wrong("an octet changed that should not");
+    say_diversion(&diversion, count);
+    return 0;
+}
+
 /* A line is a word and what stands after one space, or the word alone. */
 static int obey(char *line)
 {
@@ -105,6 +142,8 @@ static int obey(char *line)
         return set_output(rest);
     if (strcmp(line, "component") == 0)
         return arrive(rest);
+    if (strcmp(line, "call") == 0)
+        return divert(rest);
     return wrong("this is no line of a dialogue");
 }
 
@@ -112,6 +151,7 @@ int dialogue(void)
 {
     static char line[LINE_MOST + 2];
     output.size = SCONCETOAD_OUTPUT;
+    digits.size = SCONCETOAD_DIGITS;
     table = sconcetoad_fresh_table();
     while (fgets(line, sizeof line, stdin)) {
         line_number++;

@@ -52,6 +52,7 @@ int lent_kept(const struct lent *lent, size_t from);
 extern const uint8_t activation[ACTIVATION_SIZE];
 
 struct occasion {
+    char name[40];
     struct sconcetoad_table table;
     uint8_t access[SCONCETOAD_ACCESS];
     const uint8_t *component;
@@ -59,11 +60,14 @@ struct occasion {
     size_t reply;
 };
 
+/* Each answers whether there is such an occasion; they are numbered from 0. */
+int occasion_numbered(size_t n, struct occasion *occasion);
 int occasion_named(const char *name, struct occasion *occasion);
 
 /* ---- what the driver does */
 
 int dialogue(void);
 int bench(const char *what, long turns);
+int stack(void);
 
 #endif

@@ -14,6 +14,11 @@ static const uint8_t deactivation[] = {
 static const uint8_t interrogation[] = {
     0xA1, 0x10, 0x02, 0x01, 0x02, 0x02, 0x01, 0x0B, 0x30, 0x08, 0x0A, 0x01, 0x01, 0x0A, 0x01, 0x00, 0x05, 0x00};
 
+/* The same question with a private element after it, which is skipped: eight elements, one in the other. */
+static const uint8_t nested[] = {
+    0xA1, 0x20, 0x02, 0x01, 0x02, 0x02, 0x01, 0x0B, 0x30, 0x18, 0x0A, 0x01, 0x01, 0x0A, 0x01, 0x00, 0x05, 0x00,
+    0xE0, 0x0E, 0xE0, 0x0C, 0xE0, 0x0A, 0xE0, 0x08, 0xE0, 0x06, 0xE0, 0x04, 0xE0, 0x02, 0xC0, 0x00};
+
 /* What arrives, with the last handled identifier, and how many octets the reply has on either table. */
 struct kind {
     const char *name;
@@ -29,6 +34,7 @@ static const struct kind kinds[] = {
     {"interrogation", interrogation, sizeof interrogation, 1, 12, 207},
     {"duplicate", activation, sizeof activation, 2, 8, 8},
     {"bad", activation, sizeof activation - 1, 1, 7, 7}, /* its last octet is missing */
+    {"nested", nested, sizeof nested, 1, 12, 207},
 };
 
 static void set_number(uint8_t *number, const char *digits)
@@ -62,25 +68,28 @@ static void fill_table(struct sconcetoad_table *table)
             }
 }
 
+int occasion_numbered(size_t n, struct occasion *o)
+{
+    if (n / 2 >= sizeof kinds / sizeof kinds[0])
+        return 0;
+    const struct kind *kind = &kinds[n / 2];
+    int full = n % 2 == 1;
+    snprintf(o->name, sizeof o->name, "arrive-%s-%s", kind->name, full ? "full" : "empty");
+    set_access(o->access);
+    o->table = sconcetoad_fresh_table();
+    o->table.last = kind->last;
+    if (full)
+        fill_table(&o->table);
+    o->component = kind->component;
+    o->size = kind->size;
+    o->reply = full ? kind->full : kind->empty;
+    return 1;
+}
+
 int occasion_named(const char *name, struct occasion *o)
 {
-    char empty[40], full[40];
-    for (size_t i = 0; i < sizeof kinds / sizeof kinds[0]; i++) {
-        const struct kind *kind = &kinds[i];
-        snprintf(empty, sizeof empty, "arrive-%s-empty", kind->name);
-        snprintf(full, sizeof full, "arrive-%s-full", kind->name);
-        int is_full = strcmp(name, full) == 0;
-        if (!is_full && strcmp(name, empty) != 0)
-            continue;
-        set_access(o->access);
-        o->table = sconcetoad_fresh_table();
-        o->table.last = kind->last;
-        if (is_full)
-            fill_table(&o->table);
-        o->component = kind->component;
-        o->size = kind->size;
-        o->reply = is_full ? kind->full : kind->empty;
-        return 1;
-    }
+    for (size_t n = 0; occasion_numbered(n, o); n++)
+        if (strcmp(name, o->name) == 0)
+            return 1;
     return 0;
 }

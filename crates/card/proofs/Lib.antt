@@ -1,2 +1,3 @@
 pub mod Saids
 pub mod Tolds
+pub mod Diversions

@@ -1,3 +1,4 @@
 pub mod Said
 pub mod Told
 pub mod Arrival
+pub mod Diversion

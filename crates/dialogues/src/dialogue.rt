@@ -1,4 +1,5 @@
 // A dialogue with the exchange: what there is, and what each line makes of it.
+use crate::call::put_call;
 use crate::line;
 use crate::line::Kind;
 use crate::line::kind_of;
@@ -15,12 +16,14 @@ use exchange::fresh_table;
 use text::find;
 use text::last_number;
 
-// The most octets of an access record, of a table and of a component in a line.
+// The most octets of an access record, of a table, of a component and of a call in a line.
 const ACCESSMOST: usize = 512;
 
 const TABLEMOST: usize = 3500;
 
 const COMPONENTMOST: usize = 1100;
+
+const CALLMOST: usize = 64;
 
 // The access record is the first `size` octets of `access`; the output has `output` octets.
 pub(crate) struct Dialogue {
@@ -109,12 +112,28 @@ fn component_line(d: Dialogue, text: &[u8], at: usize) -> Dialogue {
     arrived(d, &access[..size], &component[..n])
 }
 
+fn call_line(d: Dialogue, text: &[u8], at: usize) {
+    let mut call = [0u8; CALLMOST];
+    let n = line::octets(text, at, &mut call);
+    let access = d.access;
+    let size = d.size;
+    let table = d.table;
+    if ACCESSMOST < size {
+        return;
+    }
+    put_call(table, &access[..size], &call[..n]);
+}
+
 // What there is after a line.
 pub(crate) fn after(d: Dialogue, text: &[u8]) -> Dialogue {
     let end = find(text, 0, b' ');
     let at = end + 1;
     match kind_of(&text[..end]) {
         Kind::Component => component_line(d, text, at),
+        Kind::Call => {
+            call_line(d, text, at);
+            d
+        }
         Kind::Access => access_line(d, text, at),
         Kind::Table => table_line(d, text, at),
         Kind::Output => output_line(d, text),

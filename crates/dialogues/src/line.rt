@@ -10,6 +10,7 @@ pub(crate) enum Kind {
     Table,
     Output,
     Component,
+    Call,
     Unknown,
 }
 
@@ -28,6 +29,9 @@ pub(crate) fn kind_of(word: &[u8]) -> Kind {
     }
     if same(word, b"component") {
         return Kind::Component;
+    }
+    if same(word, b"call") {
+        return Kind::Call;
     }
     Kind::Unknown
 }

@@ -1,6 +1,7 @@
 // Replays dialogues with the exchange from standard input, a thing to a line, and prints what comes of each component. What must
 // come of it stands in the file stdout, worked out from document 01 without this library; docs/ARCHITECTURE.md says how a line is
 // built.
+mod call;
 mod dialogue;
 mod line;
 mod said;

@@ -3,6 +3,7 @@ use Prim.Native.Nat.{ℕ}
 use mathlib.Core.Path.{_≡_, ap, _∙_}
 use mathlib.Core.List.{List}
 use lib.IntN.{ℤ}
+use Rattle.laws.proofs.Over.{only-puts}
 use Rattle.laws.proofs.Picks.{both}
 use Rattle.lists.specs.Listed.{PutList}
 use Rattle.lists.specs.declared.entries.Entries.{Entries}
@@ -12,6 +13,9 @@ use Rattle.card.specs.Arrival.{ArrivedBy}
 use Rattle.card.specs.declared.said.Said.{Said}
 use Rattle.card.specs.declared.list.Told.{Told}
 use Rattle.card.specs.declared.arrival.Arrival.{Arrival}
+use Rattle.card.specs.Diversion.{DivertedBy, CopiesOriginal}
+use Rattle.card.specs.declared.diversion.Diverted.{Diverted}
+use Rattle.calls.specs.declared.diverting.Onward.{Onward}
 use Rattle.exchange.specs.Table.{FreshTable}
 use Rattle.exchange.specs.declared.table.Table.{Table}
 use Rattle.promise.proofs.OnlyLists.{only-put-list}
@@ -49,3 +53,27 @@ only-sconcetoad-arrive access t s xs {r} {q} a b = (
   arrival-same r q (both (a .refusal) (b .refusal)) (both (a .count) (b .count)) (both (a .table) (b .table)),
   both (a .lent) (b .lent),
 )
+
+abbrev divertedOf : ℕ → ℕ → ℕ → Onward → Diverted
+divertedOf refusal reason notice call = record { refusal = refusal; reason = reason; notice = notice; call = call }
+
+-- what becomes of a call is its parts
+diverted-same :
+    (r q : Diverted) → r .refusal ≡ q .refusal → r .reason ≡ q .reason → r .notice ≡ q .notice → r .call ≡ q .call → r ≡ q
+diverted-same r q refusal reason notice call =
+    ap (λ (n : ℕ). divertedOf n (r .reason) (r .notice) (r .call)) refusal
+    ∙ ap (λ (n : ℕ). divertedOf (q .refusal) n (r .notice) (r .call)) reason
+    ∙ ap (λ (n : ℕ). divertedOf (q .refusal) (q .reason) n (r .call)) notice
+    ∙ ap (divertedOf (q .refusal) (q .reason) (q .notice)) call
+
+pub only-sconcetoad-divert :
+    (access : List ℕ) (t : Table) (s : List ℕ) {r q : Diverted} → DivertedBy access t s r → DivertedBy access t s q → r ≡ q
+only-sconcetoad-divert access t s {r} {q} a b =
+    diverted-same r q (both (a .refusal) (b .refusal)) (both (a .reason) (b .reason)) (both (a .notice) (b .notice))
+    (both (a .call) (b .call))
+
+pub only-sconcetoad-original :
+    (access : List ℕ) (t : Table) (s xs : List ℕ) {m n : ℕ} {ys zs : List ℕ} → CopiesOriginal access t s xs m ys →
+    CopiesOriginal access t s xs n zs →
+    (m ≡ n) × (ys ≡ zs)
+only-sconcetoad-original access t s xs = only-puts

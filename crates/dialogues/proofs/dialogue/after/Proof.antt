@@ -25,23 +25,29 @@ component-line-requires c κs = search needs
 enum-told-2 : tie.Need-enum-told-2
 enum-told-2 c = search needs
 
-access-line-requires : tie.Need-access-line-requires
-access-line-requires c κs = search needs
+call-line-requires : tie.Need-call-line-requires
+call-line-requires c κs = search needs
 
 enum-told-3 : tie.Need-enum-told-3
 enum-told-3 c = search needs
 
-table-line-requires : tie.Need-table-line-requires
-table-line-requires c κs = search needs
+access-line-requires : tie.Need-access-line-requires
+access-line-requires c κs = search needs
 
 enum-told-4 : tie.Need-enum-told-4
 enum-told-4 c = search needs
 
-output-line-requires : tie.Need-output-line-requires
-output-line-requires c κs = search needs
+table-line-requires : tie.Need-table-line-requires
+table-line-requires c κs = search needs
 
 enum-told-5 : tie.Need-enum-told-5
 enum-told-5 c = search needs
+
+output-line-requires : tie.Need-output-line-requires
+output-line-requires c κs = search needs
+
+enum-told-6 : tie.Need-enum-told-6
+enum-told-6 c = search needs
 
 text-requires : tie.Need-text-requires
 text-requires c κs = search needs
@@ -52,8 +58,8 @@ slice-aggregate-text c = search needs
 text-requires-2 : tie.Need-text-requires-2
 text-requires-2 c κs = search needs
 
-enum-told-6 : tie.Need-enum-told-6
-enum-told-6 c = search needs
+enum-told-7 : tie.Need-enum-told-7
+enum-told-7 c = search needs
 
 slice-aggregate-text-2 : tie.Need-slice-aggregate-text-2
 slice-aggregate-text-2 c = search needs
@@ -79,6 +85,9 @@ returns-5 c = search needs
 returns-6 : tie.Need-returns-6
 returns-6 c = search needs
 
+returns-7 : tie.Need-returns-7
+returns-7 c = search needs
+
 pub after-spec : {M : Type 1} → statement M
 after-spec =
     tie.close
@@ -90,16 +99,18 @@ after-spec =
     enum-told
     component-line-requires
     enum-told-2
-    access-line-requires
+    call-line-requires
     enum-told-3
-    table-line-requires
+    access-line-requires
     enum-told-4
-    output-line-requires
+    table-line-requires
     enum-told-5
+    output-line-requires
+    enum-told-6
     text-requires
     slice-aggregate-text
     text-requires-2
-    enum-told-6
+    enum-told-7
     slice-aggregate-text-2
     text-requires-3
     returns
@@ -107,4 +118,5 @@ after-spec =
     returns-3
     returns-4
     returns-5
-    returns-6)
+    returns-6
+    returns-7)
