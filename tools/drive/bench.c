@@ -65,9 +65,35 @@ static int bench_arrival(const char *what, const struct occasion *o, long turns)
     return 0;
 }
 
+/* A call of speech for the first number that met busy, diverted once before: passed on an empty table, diverted on a full one. */
+static const uint8_t call[SCONCETOAD_CALL] = {0, 1, 1, 1, 2, 1, 1, 5, '9', '7', '5', '3', '1'};
+
+static int bench_call(const char *what, const struct occasion *o, int reason, long turns)
+{
+    for (long i = 0; i < turns; i++)
+        if (sconcetoad_divert(o->table, o->access, sizeof o->access, call, sizeof call).reason != reason)
+            return unlike(what, 0);
+    return 0;
+}
+
+static int bench_original(const char *what, const struct occasion *o, long turns)
+{
+    uint8_t digits[SCONCETOAD_DIGITS];
+    for (long i = 0; i < turns; i++)
+        if (sconcetoad_original(o->table, o->access, sizeof o->access, call, sizeof call, digits, sizeof digits) != 5)
+            return unlike(what, 0);
+    return 0;
+}
+
 int bench(const char *what, long turns)
 {
     struct occasion occasion;
+    if (strcmp(what, "divert-empty") == 0 && occasion_named("arrive-activation-empty", &occasion))
+        return bench_call(what, &occasion, 0, turns);
+    if (strcmp(what, "divert-full") == 0 && occasion_named("arrive-activation-full", &occasion))
+        return bench_call(what, &occasion, 2, turns);
+    if (strcmp(what, "original-full") == 0 && occasion_named("arrive-activation-full", &occasion))
+        return bench_original(what, &occasion, turns);
     if (strcmp(what, "write-list") == 0 || strcmp(what, "read-list") == 0)
         return bench_list(what, turns);
     if (strcmp(what, "read-activation") == 0)

@@ -15,15 +15,15 @@ use Rattle.store.specs.declared.row.Instance.{Instance}
 use Rattle.store.specs.declared.row.Row.{Row}
 use Rattle.store.specs.declared.grid.Grid.{Grid}
 use Rattle.store.proofs.Instances.{instance-ok, instance-address}
-use Rattle.calls.specs.Call.{offered, busy}
+use Rattle.calls.specs.Call.{offered, busy, eventNo}
 use Rattle.calls.specs.Divert.{procedureOf, slotOf, placeOfCall, applying}
 use Rattle.calls.specs.declared.call.Call.{Call}
 
 pub procedure-known : (event : ℕ) → procedureOf event < procedures
 procedure-known event =
     let P : ℕ → Type 0 = λ k. k < procedures in
-    pick-ind P (eqb event offered) (λ _. omega arith)
-    (λ _. pick-ind P (eqb event busy) (λ _. omega arith) (λ _. omega arith))
+    pick-ind P (eqb event (eventNo offered)) (λ _. omega arith)
+    (λ _. pick-ind P (eqb event (eventNo busy)) (λ _. omega arith) (λ _. omega arith))
 
 module _ (p : Profile) (grid : Grid) (c : Call) where
   abbrev row : Row

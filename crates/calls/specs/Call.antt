@@ -30,15 +30,16 @@ callFrom s = record {
   count = getD s 7 0;
 }
 
--- "an event (offered, busy, no reply)"
-abbrev pub offered : ℕ
-offered = 0
+-- "an event (offered, busy, no reply)", and its number in the record
+pub data Event : Type 0 where
+  offered : Event
+  busy : Event
+  noReply : Event
 
-abbrev pub busy : ℕ
-busy = 1
-
-abbrev pub noReply : ℕ
-noReply = 2
+abbrev pub eventNo : Event → ℕ
+eventNo offered = 0
+eventNo busy = 1
+eventNo noReply = 2
 
 -- "names a profile number, a service": one of the sixteen, whether or not it is subscribed
 unfoldable pub namesGood : Profile → Call → Bool
@@ -48,7 +49,7 @@ namesGood p c =
 -- "a counter 0 to 5, the chain's notification option, .. its presentation .. and the preference indicator 0 to 2"
 unfoldable pub valuesGood : Call → Bool
 valuesGood c =
-    pick (leb (c .event) noReply)
+    pick (leb (c .event) (eventNo noReply))
     (pick (leb (c .counter) 5)
     (pick (leb (c .option) 2) (pick (leb (c .presentation) 1) (leb (c .preference) 2) false) false)
     false)

@@ -19,7 +19,7 @@ use Rattle.store.specs.Grid.{rowAt}
 use Rattle.store.specs.declared.grid.Grid.{Grid}
 use Rattle.exchange.specs.Table.{tableGood}
 use Rattle.exchange.specs.declared.table.Table.{Table}
-use Rattle.calls.specs.Call.{offered, busy, callFrom, callGood}
+use Rattle.calls.specs.Call.{offered, busy, eventNo, callFrom, callGood}
 use Rattle.calls.specs.declared.call.Call.{Call}
 use Rattle.calls.specs.declared.diverting.Reason.{Reason}
 use Rattle.calls.specs.declared.diverting.Reason.the-variants as reason
@@ -68,7 +68,7 @@ toldBy (Diverts r n) = diverts (reasonNo r) (noticeNo n)
 
 -- "Offered looks at cfu, busy at cfb, no reply at cfnr"
 abbrev pub procedureOf : ℕ → ℕ
-procedureOf event = pick (eqb event offered) 0 (pick (eqb event busy) 1 2)
+procedureOf event = pick (eqb event (eventNo offered)) 0 (pick (eqb event (eventNo busy)) 1 2)
 
 -- the place of the call's service among those subscribed, and of its number and service in a row
 abbrev pub slotOf : Profile → Call → ℕ
@@ -151,7 +151,7 @@ refused r = stays (Refuses r)
 -- the reason, and the notice whose number is the resulting option
 unfoldable pub reasonOf : ℕ → ℕ
 reasonOf event =
-    pick (eqb event offered) (reasonNo reason.Cfu) (pick (eqb event busy) (reasonNo reason.Cfb) (reasonNo reason.Cfnr))
+    pick (eqb event (eventNo offered)) (reasonNo reason.Cfu) (pick (eqb event (eventNo busy)) (reasonNo reason.Cfb) (reasonNo reason.Cfnr))
 
 abbrev pub goes : Profile → Call → Address → Comes
 goes p c called = record { told = diverts (reasonOf (c .event)) (optionAfter p c); call = onward p c called }
