@@ -179,23 +179,35 @@ pub fn request(random: &mut Random, profile: &Profile) -> Request {
     let procedure = random.one_of(&PROCEDURES);
     let service = asked_service(random, profile);
     let served = asked_number(random, profile);
-    match random.below(4) {
-        0 => Request::Deactivation {
+    let choice = random.below(4);
+    no_activation(choice, procedure, service, &served).unwrap_or_else(|| Request::Activation {
+        procedure,
+        service,
+        address: forwarded_to(random, profile),
+        served,
+    })
+}
+
+/// A deactivation by choice 0, an interrogation by choice 1; any other leaves an activation.
+pub fn no_activation(
+    choice: usize,
+    procedure: i32,
+    service: i32,
+    served: &Served,
+) -> Option<Request> {
+    let served = served.clone();
+    match choice {
+        0 => Some(Request::Deactivation {
             procedure,
             service,
             served,
-        },
-        1 => Request::Interrogation {
+        }),
+        1 => Some(Request::Interrogation {
             procedure,
             service,
             served,
-        },
-        _ => Request::Activation {
-            procedure,
-            service,
-            address: forwarded_to(random, profile),
-            served,
-        },
+        }),
+        _ => None,
     }
 }
 

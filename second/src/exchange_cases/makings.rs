@@ -79,24 +79,15 @@ fn sized(random: &mut Random, request: &Request, identifier: i32) -> Made {
 pub fn growing(random: &mut Random, profile: &Profile, procedure: i32, last: i32) -> Made {
     let service = made::asked_service(random, profile);
     let served = made::asked_number(random, profile);
-    let request = match random.below(12) {
-        0 => Request::Deactivation {
-            procedure,
-            service,
-            served,
-        },
-        1 => Request::Interrogation {
-            procedure,
-            service,
-            served,
-        },
-        _ => Request::Activation {
+    let choice = random.below(12);
+    let request = made::no_activation(choice, procedure, service, &served).unwrap_or_else(|| {
+        Request::Activation {
             procedure,
             service: random.pick(&profile.services).copied().unwrap_or(service),
             address: made::address(random),
             served,
-        },
-    };
+        }
+    });
     let next = last.saturating_add(1).min(32_767);
     (Making::Growing, request.written(next))
 }
