@@ -1,7 +1,7 @@
 //! Call forwarding as document 01 has it: the coding layer, the exchange, calls, the customer
 //! end, night sheets and the listing. Written from document 01, EN 300 207-1 (000), Q.732.2-5
 //! (001) and the list of open points (A1 to A78) alone; the lines of dialogues with an exchange,
-//! and the records in them, from the paper on their format (FORMAT.md).
+//! and the records in them, from the paper on their format (docs/DIALOGUES.md).
 //!
 //! Records (profile, table, call, end) are plain integers and vectors that can hold nonsense:
 //! every function judges the records it is lent and refuses bad ones by their number.
