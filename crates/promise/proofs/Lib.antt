@@ -6,6 +6,7 @@ pub mod OnlyCard
 pub mod OnlyCoding
 pub mod OnlyExchange
 pub mod OnlyLists
+pub mod OnlyNightly
 pub mod OnlyNumbers
 pub mod OnlyOctets
 pub mod OnlyRules

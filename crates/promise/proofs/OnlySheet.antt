@@ -1,42 +1,19 @@
--- Each promise of the crate sheet admits one answer, and one lent output afterwards. Assumes nothing.
+-- Each promise of the crate sheet admits one answer. Assumes nothing.
 use Prim.Native.Nat.{ℕ}
 use mathlib.Core.List.{List}
-use mathlib.Core.Path.{_≡_, ap, _∙_}
+use mathlib.Core.Path.{_≡_}
 use Rattle.laws.proofs.Picks.{both}
-use Rattle.exchange.specs.declared.table.Table.{Table}
-use Rattle.sheet.specs.Formed.{SheetFormed}
-use Rattle.sheet.specs.Record.{WritesSheet, ReadsSheet}
+use Rattle.sheet.specs.Formed.{SheetFormed, OpeningOf, InstanceFound}
 use Rattle.sheet.specs.declared.form.SheetForm.{SheetForm}
-use Rattle.sheet.specs.declared.record.Outcome.{Outcome}
-use Rattle.sheet.specs.declared.record.SheetRead.{SheetRead}
-use Rattle.sheet.specs.declared.record.Written.{Written}
-use Rattle.sheet.proofs.Outcomes.{outcome-same}
-
-abbrev writtenOf : Outcome → ℕ → Written
-writtenOf outcome count = record { outcome = outcome; count = count }
-
--- an answer is its parts
-written-same : (r q : Written) → r .outcome ≡ q .outcome → r .count ≡ q .count → r ≡ q
-written-same r q outcome count =
-    ap (λ (o : Outcome). writtenOf o (r .count)) outcome ∙ ap (writtenOf (q .outcome)) count
-
-pub only-write-sheet :
-    (access : List ℕ) (t : Table) (xs : List ℕ) {r q : Written} {ys zs : List ℕ} → WritesSheet access t xs r ys →
-    WritesSheet access t xs q zs →
-    (r ≡ q) × (ys ≡ zs)
-only-write-sheet access t xs {r} {q} a b = (
-  written-same r q (outcome-same (r .outcome) (q .outcome) (both (a .outcome) (b .outcome))) (both (a .count) (b .count)),
-  both (a .lent) (b .lent),
-)
+use Rattle.sheet.specs.declared.form.Opening.{Opening}
+use Rattle.sheet.specs.declared.read.InstanceRead.{InstanceRead}
 
 pub only-sheet-form : (s : List ℕ) {a b : SheetForm} → SheetFormed s a → SheetFormed s b → a ≡ b
 only-sheet-form s = both
 
-abbrev readOf : Outcome → Table → SheetRead
-readOf outcome table = record { outcome = outcome; table = table }
+pub only-opening-of : (s : List ℕ) {a b : Opening} → OpeningOf s a → OpeningOf s b → a ≡ b
+only-opening-of s = both
 
-pub only-read-sheet :
-    (access s : List ℕ) {r q : SheetRead} → ReadsSheet access s r → ReadsSheet access s q → r ≡ q
-only-read-sheet access s {r} {q} a b =
-    ap (λ (o : Outcome). readOf o (r .table)) (outcome-same (r .outcome) (q .outcome) (both (a .outcome) (b .outcome)))
-    ∙ ap (λ (t : Table). readOf (q .outcome) t) (both (a .table) (b .table))
+pub only-instance-at :
+    (s : List ℕ) (at : ℕ) {a b : InstanceRead} → InstanceFound s at a → InstanceFound s at b → a ≡ b
+only-instance-at s at = both

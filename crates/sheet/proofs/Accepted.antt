@@ -26,9 +26,10 @@ use Rattle.sheet.specs.Sheet.{Sheet, follows, runOf, instancesFrom, inst
 use Rattle.sheet.specs.declared.instance.Instance.{Instance}
 use Rattle.sheet.proofs.Parts.{FoundAt, found-at-then, found-at-is}
 use Rattle.sheet.proofs.Fields.{Passing, field-passes, fields-passing}
+use Rattle.sheet.proofs.Sizes.{sheet-octets}
 use Rattle.sheet.proofs.Sheets.{instances-count}
 use Rattle.sheet.proofs.Trips.{groups-none, groups-more, groups-both}
-use Rattle.sheet.proofs.SheetTrips.{octets-none, octets-more, sheet-octets}
+use Rattle.sheet.proofs.SheetTrips.{octets-none, octets-more}
 
 -- ---- what stands one after the other
 
@@ -205,7 +206,7 @@ module _ (s : List ℕ) (small : (i : ℕ) → getD s i 0 < 256) where
       (cons-only s small p last q (count ∷ []) a (field-stands s small (λ n. leb n 32767) p last q f)
       (cons-only s small q count a [] a (field-stands s small (λ n. true) q count a g) (rw groups-none (nothing s a)))) in
       whole (sheetOctets form1 last is) next (eqb-true next (length s) end)
-      (rw (sheet-octets last is, one, counted)
+      (rw (sheet-octets form1 last is, one, counted)
       (joined s 0 (allGroups (form ∷ last ∷ count ∷ [])) a (instancesOctets is) next head
       (found-at-is (Are a) h (instances-only count noInstance 0 a)))))
       (λ _. tt)))))

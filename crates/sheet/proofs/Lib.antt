@@ -1,15 +1,10 @@
 pub mod Sizes
-pub mod Writers
-pub mod InstanceWriters
-pub mod WrittenTables
-pub mod WrittenOrder
-pub mod WrittenSheets
 pub mod Fields
 pub mod Parts
 pub mod Readers
 pub mod Sheets
-pub mod Placings
-pub mod Tables
+pub mod Formed
+pub mod Order
 pub mod Trips
 pub mod SheetTrips
 pub mod Accepted

@@ -3,7 +3,7 @@ use Prim.Native.Nat.{ℕ}
 use mathlib.Core.Path.{_≡_, refl, sym, ap, _∙_}
 use lib.Dec.{eqb}
 use Rattle.laws.specs.Pick.{pick}
-use Rattle.sheet.specs.Record.{outcomeNo}
+use Rattle.sheet.specs.Outcome.{outcomeNo}
 use Rattle.sheet.specs.declared.record.Refusal.the-variants.{ShortOutput, BadProfile, BadTable, BadSheet}
 use Rattle.sheet.specs.declared.record.Outcome.{Outcome}
 use Rattle.sheet.specs.declared.record.Outcome.the-variants.{Refuses, Done}

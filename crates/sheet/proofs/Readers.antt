@@ -21,7 +21,8 @@ use Rattle.numbers.proofs.Goods.{fair-some, some-fair, type-most, good-number, 
 use Rattle.numbers.proofs.Readers.{digits-step, digits-end, record-good}
 use Rattle.sheet.specs.Form.{form1}
 use Rattle.sheet.specs.Instance.{fieldAt, fieldsAt, kindGood, addressIn, serviceOf, instanceAt}
-use Rattle.sheet.specs.Reading.{fieldBelow, fieldsBelow, numberIn, forwardedRead, instanceRead}
+use Rattle.sheet.specs.Formed.{instanceRead}
+use Rattle.sheet.specs.Reading.{fieldBelow, fieldsBelow, numberIn, forwardedRead}
 use Rattle.sheet.specs.declared.instance.Instance.{Instance}
 use Rattle.sheet.specs.declared.field.FieldsRead.{FieldsRead}
 use Rattle.sheet.specs.declared.read.ForwardedRead.{ForwardedRead}

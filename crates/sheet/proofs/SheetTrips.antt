@@ -17,6 +17,7 @@ use Rattle.sheet.specs.Instance.{allGroups, instanceFields, instanceOcte
 use Rattle.sheet.specs.Sheet.{before, follows, runOf, instancesFrom, instancesOctets, noInstance, sheetOctets, sheetIn}
 use Rattle.sheet.specs.declared.instance.Instance.{Instance}
 use Rattle.sheet.proofs.Parts.{by-test}
+use Rattle.sheet.proofs.Sizes.{sheet-octets}
 use Rattle.sheet.proofs.Sheets.{instances-end, instances-step}
 use Rattle.sheet.proofs.Trips.{Standing, Fits, after, past, groups-none, past-one, standing-rest, field-back, tidyInstance, instance-back}
 
@@ -135,12 +136,6 @@ instances-back (k ∷ ks) last run o f s at st fit =
 
 -- ---- the sheet
 
-pub sheet-octets :
-    (last : ℕ) (is : List Instance) →
-    sheetOctets form1 last is ≡ allGroups (1 ∷ last ∷ length is ∷ []) ++ instancesOctets is
-unfolding sheetOctets
-sheet-octets last is = refl
-
 -- a sheet that stands in its octets, and nothing after it, is read as its instances, each with zeros past its digits and octets
 pub sheet-back :
     (last : ℕ) (is : List Instance) (s : List ℕ) → last ≤ form1 .lastMost → Sheeted is →
@@ -151,8 +146,8 @@ sheet-back last is s small h st whole =
     let ns : List ℕ = 1 ∷ last ∷ length is ∷ [] in
     let head : List ℕ = allGroups ns in
     let rest : List ℕ = instancesOctets is in
-    let both : Stands s 0 (head ++ rest) = rw (sheet-octets last is) at st in
-    let long : length s ≡ length head + length rest = whole ∙ ap length (sheet-octets last is) ∙ length-append head rest in
+    let both : Stands s 0 (head ++ rest) = rw (sheet-octets form1 last is) at st in
+    let long : length s ≡ length head + length rest = whole ∙ ap length (sheet-octets form1 last is) ∙ length-append head rest in
     let few : length is ≤ 24 = omega (arith, counted is (h .each), h .few 0, h .few 1, h .few 2) in
     let p : ℕ = after 0 1 in
     let q : ℕ = after p last in

@@ -15,8 +15,8 @@ use Rattle.laws.proofs.Picks.{pick-ind, pick-then}
 use Rattle.sheet.specs.Form.{Form, form1}
 use Rattle.sheet.specs.Instance.{fieldAt, instanceAt}
 use Rattle.sheet.specs.Sheet.{Sheet, before, follows, runOf, instancesFrom, noInstance, sheetIn}
-use Rattle.sheet.specs.Formed.{formedBy}
-use Rattle.sheet.specs.Reading.{Opened, anyField, fieldBelow, openingIn, openingRead, passedRead}
+use Rattle.sheet.specs.Formed.{formedBy, Opened, openingIn, openingRead}
+use Rattle.sheet.specs.Reading.{anyField, fieldBelow, passedRead}
 use Rattle.sheet.specs.declared.instance.Instance.{Instance}
 use Rattle.sheet.specs.declared.form.Opening.{Opening}
 use Rattle.sheet.specs.declared.form.Passed.{Passed}

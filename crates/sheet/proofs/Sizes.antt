@@ -41,6 +41,10 @@ fields-both (n ∷ ns) ms =
       append-assoc (groups n) (allGroups ns) (allGroups ms),
     )
 
+pub instance-fields : (i : Instance) → instanceOctets i ≡ allGroups (instanceFields i)
+unfolding instanceOctets
+instance-fields i = refl
+
 pub instances-none : instancesOctets [] ≡ []
 unfolding instancesOctets
 instances-none = refl
@@ -62,6 +66,12 @@ instances-both (i ∷ is) ks =
       instances-more i is,
       append-assoc (instanceOctets i) (instancesOctets is) (instancesOctets ks),
     )
+
+pub sheet-octets :
+    (f : Form) (last : ℕ) (is : List Instance) →
+    sheetOctets f last is ≡ allGroups (f .code ∷ last ∷ length is ∷ []) ++ instancesOctets is
+unfolding sheetOctets
+sheet-octets f last is = refl
 
 -- ---- fields
 
@@ -162,6 +172,14 @@ instance-most i fits =
 unfoldable pub AllFit : List Instance → Type 0
 AllFit [] = Unit {0}
 AllFit (i ∷ is) = InstanceFits i × AllFit is
+
+pub all-fit-none : AllFit []
+unfolding AllFit
+all-fit-none = tt
+
+pub all-fit-one : (i : Instance) → InstanceFits i → AllFit (i ∷ [])
+unfolding AllFit
+all-fit-one i fits = (fits, tt)
 
 pub all-fit-both : (is ks : List Instance) → AllFit is → AllFit ks → AllFit (is ++ ks)
 unfolding AllFit

@@ -2,6 +2,5 @@ pub mod Form
 pub mod Instance
 pub mod Sheet
 pub mod Formed
-pub mod Record
+pub mod Outcome
 pub mod Reading
-pub mod Write

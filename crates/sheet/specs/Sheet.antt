@@ -7,10 +7,6 @@ use lib.ListN.{length, replicate}
 use lib.Dec.{ltb, leb, eqb}
 use Rattle.laws.specs.Pick.{pick}
 use Rattle.laws.specs.Got.{Got, got, wrong, andThen}
-use Rattle.laws.specs.Places.{gathered}
-use Rattle.store.specs.Row.{places, numberOfPlace, cellAt, active}
-use Rattle.store.specs.Grid.{procedures, rowAt}
-use Rattle.store.specs.declared.grid.Grid.{Grid}
 use Rattle.sheet.specs.Form.{Form}
 use Rattle.sheet.specs.Instance.{allGroups, instanceOctets, fieldAt, instanceAt}
 use Rattle.sheet.specs.declared.instance.Instance.{Instance}
@@ -21,20 +17,6 @@ pub record Sheet : Type 0 where
   pub instances : List Instance
 
 -- ---- written
-
--- the instance at a place of a procedure's row
-abbrev pub instanceOf : Grid → ℕ → ℕ → Instance
-instanceOf grid k j = record {
-  procedure = k;
-  number = numberOfPlace j;
-  service = cellAt (rowAt grid k) j .service;
-  address = cellAt (rowAt grid k) j .address;
-}
-
--- every active instance, by procedure, number and service: a row's places go by number, then service code
-unfoldable pub instancesOf : Grid → List Instance
-instancesOf grid =
-    gathered (λ k. gathered (λ j. pick (active (rowAt grid k) j) (instanceOf grid k j ∷ []) []) places) procedures
 
 unfoldable pub instancesOctets : List Instance → List ℕ
 instancesOctets [] = []

@@ -9,8 +9,8 @@ ghost use Prim.Native.Nat.{_≤_};
 ghost use Rattle.laws.specs.Got.{wrong};
 ghost use Rattle.sheet.specs.Form.{form1};
 ghost use Rattle.sheet.specs.Sheet.{before, follows, runOf, instancesFrom, noInstance};
-ghost use Rattle.sheet.specs.Formed.{formedBy, SheetFormed};
-ghost use Rattle.sheet.specs.Reading.{openingIn, openingRead, passedRead};
+ghost use Rattle.sheet.specs.Formed.{formedBy, SheetFormed, openingRead, OpeningOf};
+ghost use Rattle.sheet.specs.Reading.{passedRead};
 
 // The form's code, the bound of the last handled identifier, and the most instances of a procedure.
 const FORM: u32 = 1;
@@ -27,11 +27,11 @@ pub struct SheetForm {
 }
 
 // What stands before the instances, and the place after it; or `ok` is false.
-pub(crate) struct Opening {
-    pub(crate) ok: bool,
-    pub(crate) last: u16,
-    pub(crate) count: u32,
-    pub(crate) next: usize,
+pub struct Opening {
+    pub ok: bool,
+    pub last: u16,
+    pub count: u32,
+    pub next: usize,
 }
 
 // The place after the instances; or `ok` is false.
@@ -52,8 +52,8 @@ fn no_opening() -> Opening
 }
 
 // Form, last handled, instance count.
-pub(crate) fn opening_of(s: &[u8]) -> Opening
-    ensures { λ r. ⌜ r ≡ openingRead (openingIn form1 (now (s .entry))) ⌝ }
+pub fn opening_of(s: &[u8]) -> Opening
+    ensures { λ r. ⌜ OpeningOf (now (s .entry)) r ⌝ }
 {
     let form = field_at(s, 0);
     if !form.ok {

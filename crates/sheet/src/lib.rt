@@ -1,18 +1,17 @@
-// Night sheets: a table written as one, and one read as a table (document 01, "Night sheet").
+// What a night sheet is, by its form alone (document 01, "Night sheet").
 mod field;
 mod form;
 mod instance;
 mod read;
 mod record;
-mod table;
-mod write;
 
+pub use form::Opening;
 pub use form::SheetForm;
+pub use form::opening_of;
 pub use form::sheet_form;
 pub use instance::Instance;
+pub use read::InstanceRead;
+pub use read::instance_at;
 pub use record::Outcome;
 pub use record::Refusal;
-pub use record::SheetRead;
 pub use record::Written;
-pub use table::read_sheet;
-pub use write::write_sheet;

@@ -12,10 +12,10 @@ use numbers::service_code;
 ghost use mathlib.Core.Path.{_≡_};
 ghost use Rattle.laws.specs.Got.{wrong};
 ghost use Rattle.numbers.specs.Number.{numberRead};
-ghost use Rattle.sheet.specs.Form.{form1};
-ghost use Rattle.sheet.specs.Instance.{fieldAt, serviceOf, addressIn, instanceAt};
+ghost use Rattle.sheet.specs.Instance.{fieldAt, serviceOf, addressIn};
 ghost use Rattle.sheet.specs.Sheet.{noInstance};
-ghost use Rattle.sheet.specs.Reading.{numberIn, noAddress, fieldRead, forwardedRead, instanceRead};
+ghost use Rattle.sheet.specs.Formed.{instanceRead, InstanceFound};
+ghost use Rattle.sheet.specs.Reading.{numberIn, noAddress, fieldRead, forwardedRead};
 
 // The bounds of the fields: forms unknown and public, cfu to cfnr, "number index 0 to 3", octets.
 const FORMS: u32 = 2;
@@ -42,10 +42,10 @@ pub(crate) struct ForwardedRead {
 }
 
 // An instance, and the place after its fields; or `ok` is false.
-pub(crate) struct InstanceRead {
-    pub(crate) ok: bool,
-    pub(crate) instance: Instance,
-    pub(crate) next: usize,
+pub struct InstanceRead {
+    pub ok: bool,
+    pub instance: Instance,
+    pub next: usize,
 }
 
 fn blank() -> Number
@@ -201,8 +201,8 @@ fn not_instance() -> InstanceRead
 }
 
 // The instance at `at`.
-pub(crate) fn instance_at(s: &[u8], at: usize) -> InstanceRead
-    ensures { λ r. ⌜ r ≡ instanceRead (instanceAt form1 (now (s .entry)) at) ⌝ }
+pub fn instance_at(s: &[u8], at: usize) -> InstanceRead
+    ensures { λ r. ⌜ InstanceFound (now (s .entry)) at r ⌝ }
 {
     let procedure = field_below(s, at, PROCEDURES);
     if !procedure.ok {

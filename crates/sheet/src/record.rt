@@ -1,6 +1,4 @@
-// What writing and reading a night sheet answer (document 01, "Local refusals").
-use exchange::Table;
-
+// What is answered where night sheets are written, read and listed (document 01, "Local refusals").
 pub enum Refusal {
     ShortOutput,
     BadProfile,
@@ -13,14 +11,8 @@ pub enum Outcome {
     Done,
 }
 
-// How many octets the sheet has.
+// How many octets were written.
 pub struct Written {
     pub outcome: Outcome,
     pub count: usize,
-}
-
-// The table that was read; a fresh one where the sheet is refused.
-pub struct SheetRead {
-    pub outcome: Outcome,
-    pub table: Table,
 }

@@ -1,7 +1,7 @@
 use Rattle.sheet.proofs.Sheets.{opening-found, opening-none, passed-found, passed-none, sheet-no-opening, sheet-no-instances, sheet-after, sheet-formed}
 use Rattle.sheet.specs.Form.{form1}
 use Rattle.sheet.specs.Sheet.{instancesFrom, noInstance}
-use Rattle.sheet.specs.Reading.{openingIn}
+use Rattle.sheet.specs.Formed.{openingIn}
 use borrow.Author.Tests.{not-true, not-false}
 use borrow.Author.Needs.{needs}
 use Rattle.sheet.proofs.form.sheet_form.Statement.{statement}

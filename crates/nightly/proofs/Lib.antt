@@ -1,0 +1,7 @@
+pub mod Writers
+pub mod InstanceWriters
+pub mod WrittenTables
+pub mod WrittenOrder
+pub mod WrittenSheets
+pub mod Placings
+pub mod Tables

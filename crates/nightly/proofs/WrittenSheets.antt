@@ -1,0 +1,101 @@
+-- What `write_sheet` writes: its refusals, lowest first, and the sheet. Assumes nothing.
+use Prim.Native.Nat.{ℕ, _≤_, _<_}
+use mathlib.Core.Path.{_≡_, sym, _∙_}
+use mathlib.Core.Bool.{true, false}
+use mathlib.Core.List.{List, []}
+use native.Mathlib.Nat.{zero-add}
+use native.Mathlib.Omega.{arith}
+use lib.ListN.{length}
+use borrow.Author.Tests.{lt-ltb, le-ltb}
+use Rattle.laws.specs.Over.{Wrote}
+use Rattle.laws.proofs.Over.{over-nil}
+use Rattle.access.specs.Access.{accessRead}
+use Rattle.access.proofs.Records.{access-good, access-services}
+use Rattle.lists.specs.Entries.{limit}
+use Rattle.exchange.specs.Table.{lastMost, tableGood}
+use Rattle.exchange.specs.declared.table.Table.{Table}
+use Rattle.exchange.proofs.Tables.{table-good}
+use Rattle.sheet.specs.Form.{form1, sheetMost}
+use Rattle.sheet.specs.Sheet.{sheetOctets}
+use Rattle.sheet.specs.Outcome.{refusalNo}
+use Rattle.nightly.specs.Instances.{instancesOf}
+use Rattle.nightly.specs.Record.{wroteSheet, WritesSheet}
+use Rattle.nightly.specs.Record as record-specs
+use Rattle.nightly.specs.Write.{Space, GridWritable, notWritten}
+use Rattle.sheet.specs.declared.record.Refusal.{Refusal}
+use Rattle.sheet.specs.declared.record.Refusal.the-variants.{ShortOutput, BadProfile, BadTable}
+use Rattle.sheet.specs.declared.record.Outcome.the-variants.{Done}
+use Rattle.sheet.specs.declared.record.Written.{Written}
+use Rattle.nightly.proofs.WrittenTables.{instances-few, grid-writable}
+
+-- what a refusal and a sheet leave
+abbrev refused : Refusal → record-specs.Wrote
+refused refusal = record { number = refusalNo refusal; octets = [] }
+
+abbrev sheet : Table → record-specs.Wrote
+sheet t = record { number = 0; octets = sheetOctets form1 (t .last) (instancesOf (t .grid)) }
+
+module _ (access : List ℕ) (t : Table) (size : ℕ) where
+  pub writes-short : size < sheetMost form1 → wroteSheet access t size ≡ refused ShortOutput
+  unfolding wroteSheet
+  writes-short short = rw (lt-ltb size (sheetMost form1) short)
+
+  module _ (room : sheetMost form1 ≤ size) where
+    pub writes-profile : accessRead access .ok ≡ false → wroteSheet access t size ≡ refused BadProfile
+    unfolding wroteSheet
+    writes-profile bad = rw (le-ltb size (sheetMost form1) room, bad)
+
+    module _ (ok : accessRead access .ok ≡ true) where
+      pub writes-table :
+          tableGood limit (accessRead access .profile) t ≡ false → wroteSheet access t size ≡ refused BadTable
+      unfolding wroteSheet
+      writes-table bad = rw (le-ltb size (sheetMost form1) room, ok, bad)
+
+      pub writes-sheet : tableGood limit (accessRead access .profile) t ≡ true → wroteSheet access t size ≡ sheet t
+      unfolding wroteSheet
+      writes-sheet good = rw (le-ltb size (sheetMost form1) room, ok, good)
+
+-- what is refused writes nothing
+pub refused-writes :
+    (access : List ℕ) (t : Table) (xs : List ℕ) (refusal : Refusal) (r : Written) →
+    wroteSheet access t (length xs) ≡ refused refusal → r ≡ notWritten refusal →
+    WritesSheet access t xs r xs
+refused-writes access t xs refusal r is e = record {
+  outcome = rw (is, e);
+  count = rw (is, e);
+  lent = rw is (sym (over-nil xs 0));
+}
+
+-- what is not refused is written whole
+pub sheet-writes :
+    (access : List ℕ) (t : Table) (xs : List ℕ) (n : ℕ) (ys : List ℕ) → wroteSheet access t (length xs) ≡ sheet t →
+    Wrote xs 0 (sheetOctets form1 (t .last) (instancesOf (t .grid))) n ys →
+    WritesSheet access t xs (record { outcome = Done; count = n }) ys
+sheet-writes access t xs n ys is w = record {
+  outcome = rw is;
+  count = rw is (w .moved ∙ zero-add _);
+  lent = rw is (w .holds);
+}
+
+-- ---- a table that is not refused
+
+-- its instances are few, their addresses good, and there is space for all of them after the first three fields
+pub record Ready (t : Table) (xs : List ℕ) : Type 0 where
+  pub last : t .last ≤ lastMost
+  pub few : length (instancesOf (t .grid)) < 128
+  pub space : Space xs 5 (instancesOf (t .grid))
+  pub writable : GridWritable (t .grid)
+
+pub ready :
+    (access : List ℕ) (t : Table) (xs : List ℕ) → sheetMost form1 ≤ length xs → accessRead access .ok ≡ true →
+    tableGood limit (accessRead access .profile) t ≡ true →
+    Ready t xs
+ready access t xs room ok good =
+    let p = accessRead access .profile in
+    let few = instances-few p t good in
+    record {
+      last = table-good limit p t good .0;
+      few = omega (arith, few);
+      space = omega (arith, few, room);
+      writable = grid-writable p t good (access-good access ok) (access-services access);
+    }

@@ -1,0 +1,141 @@
+use Rattle.nightly.proofs.Writers.{wrote-length}
+use Rattle.nightly.proofs.InstanceWriters.{sheet-space, sheet-wrote}
+use Rattle.nightly.proofs.WrittenSheets.{writes-short, writes-profile, writes-table, writes-sheet, refused-writes, sheet-writes, Ready, ready}
+use Rattle.sheet.specs.Form.{form1, sheetMost}
+use Rattle.sheet.specs.Sheet.{sheetOctets}
+use Rattle.nightly.specs.Instances.{instancesOf}
+use Rattle.sheet.specs.declared.record.Refusal.the-variants.{ShortOutput, BadProfile, BadTable}
+use Rattle.access.specs.Access.{accessRead}
+use Rattle.access.specs.declared.access.AccessRead.{AccessRead}
+use Rattle.lists.specs.Entries.{limit}
+use Rattle.exchange.specs.Table.{tableGood}
+use Rattle.laws.specs.Over.{Wrote}
+use Prim.Native.Nat.{_≤_}
+use lib.ListN.{length}
+use mathlib.Core.Path.{_≡_, sym, ap, _∙_}
+use mathlib.Core.Bool.{true}
+use native.Mathlib.Omega.{arith}
+use borrow.Author.Tests.{not-true, not-false}
+use borrow.Author.Needs.{needs}
+use Rattle.nightly.proofs.write.write_sheet.Statement.{statement}
+use Rattle.nightly.proofs.write.write_sheet.Tie as tie
+
+refuses-requires : tie.Need-refuses-requires
+refuses-requires c κs = search needs
+
+returns : tie.Need-returns
+returns c =
+    let a = c .before .before .before .before .args in
+    refused-writes (a .access .now) (a .table) (a .out .now) ShortOutput _
+    (writes-short (a .access .now) (a .table) (length (a .out .now)) (omega (arith, c .before .if1 .taken)))
+    (c .refuses .ensures)
+
+read-access-requires : tie.Need-read-access-requires
+read-access-requires c κs = search needs
+
+refuses-requires-2 : tie.Need-refuses-requires-2
+refuses-requires-2 c κs = search needs
+
+returns-2 : tie.Need-returns-2
+returns-2 c =
+    let a = c .before .before .before .before .before .before .before .args in
+    refused-writes (a .access .now) (a .table) (a .out .now) BadProfile _
+    (writes-profile (a .access .now) (a .table) (length (a .out .now)) (omega (arith, c .before .before .before .before .if1 .left))
+    (ap (λ (r : AccessRead). r .ok) (sym (c .before .before .before .read-access .ensures)) ∙ not-true _ (c .before .if2 .taken)))
+    (c .refuses2 .ensures)
+
+good-requires : tie.Need-good-requires
+good-requires c κs = search needs
+
+refuses-requires-3 : tie.Need-refuses-requires-3
+refuses-requires-3 c κs = search needs
+
+returns-3 : tie.Need-returns-3
+returns-3 c =
+    let a = c .before .before .before .before .before .before .before .before .before .before .args in
+    let read = c .before .before .before .before .before .before .read-access .ensures in
+    refused-writes (a .access .now) (a .table) (a .out .now) BadTable _
+    (writes-table (a .access .now) (a .table) (length (a .out .now)) (omega (arith, c .before .before .before .before .before .before .before .if1 .left))
+    (ap (λ (r : AccessRead). r .ok) (sym read) ∙ not-false _ (c .before .before .before .before .if2 .left))
+    (rw read at (sym (c .before .before .good2 .ensures) ∙ not-true _ (c .before .if3 .taken))))
+    (c .refuses3 .ensures)
+
+-- where nothing is refused
+room : (c : tie.Else3) → sheetMost form1 ≤ length (c .before .before .before .before .before .before .before .before .before .args .out .now)
+room c = omega (arith, c .before .before .before .before .before .before .if1 .left)
+
+ok : (c : tie.Else3) → accessRead (c .before .before .before .before .before .before .before .before .before .args .access .now) .ok ≡ true
+ok c = ap (λ (r : AccessRead). r .ok) (sym (c .before .before .before .before .before .read-access .ensures)) ∙ not-false _ (c .before .before .before .if2 .left)
+
+good : (c : tie.Else3) → tableGood limit (accessRead (c .before .before .before .before .before .before .before .before .before .args .access .now) .profile) (c .before .before .before .before .before .before .before .before .before .args .table) ≡ true
+good c = rw (c .before .before .before .before .before .read-access .ensures) at (sym (c .before .good2 .ensures) ∙ not-false _ (c .if3 .left))
+
+fit : (c : tie.Else3) → Ready (c .before .before .before .before .before .before .before .before .before .args .table) (c .before .before .before .before .before .before .before .before .before .args .out .now)
+fit c =
+    let a = c .before .before .before .before .before .before .before .before .before .args in
+    ready (a .access .now) (a .table) (a .out .now) (room c) (ok c) (good c)
+
+instance-count-requires : tie.Need-instance-count-requires
+instance-count-requires c κs = search needs
+
+put-groups-requires : tie.Need-put-groups-requires
+put-groups-requires c κs = search needs
+
+cast-put-groups : tie.Need-cast-put-groups
+cast-put-groups c = search needs
+
+put-groups-requires-2 : tie.Need-put-groups-requires-2
+put-groups-requires-2 c κs = search needs
+
+cast-put-groups-2 : tie.Need-cast-put-groups-2
+cast-put-groups-2 c = omega (arith, c .before .before .before .before .before .before .before .before .before .before .instance-count .ensures, fit (c .before .before .before .before .before .before .before .before .before .before .before .before) .few)
+
+put-groups-requires-3 : tie.Need-put-groups-requires-3
+put-groups-requires-3 c κs = search needs
+
+write-grid-requires : tie.Need-write-grid-requires
+write-grid-requires c κs =
+    let t = c .before .before .before .before .before .before .before .before .before .before .before .before .before .before .before .before .before .before .before .before .before .before .before .before .before .args .table in
+    let f = fit (c .before .before .before .before .before .before .before .before .before .before .before .before .before .before .before .before) in (
+      f .writable,
+      sheet-space form1 (t .last) (instancesOf (t .grid)) (omega arith) (f .last) (f .few) (f .space) (c .before .before .before .before .before .before .before .before .before .before .before .before .put-groups .ensures) (c .before .before .before .before .before .before .before .put-groups2 .ensures) (rw (c .before .before .before .before .before .before .before .before .before .before .before .before .before .before .instance-count .ensures) at (c .before .before .before .put-groups3 .ensures)),
+    )
+
+wrote-sheet : (c : tie.After-slice-known5) → Wrote (c .before .before .before .before .before .before .before .before .before .before .before .before .before .before .before .before .before .before .before .before .before .before .before .before .before .before .before .before .args .out .now) 0 (sheetOctets form1 (c .before .before .before .before .before .before .before .before .before .before .before .before .before .before .before .before .before .before .before .before .before .before .before .before .before .before .before .before .args .table .last) (instancesOf (c .before .before .before .before .before .before .before .before .before .before .before .before .before .before .before .before .before .before .before .before .before .before .before .before .before .before .before .before .args .table .grid))) (c .before .before .write-grid .result) (c .before .before .write-grid .last .0)
+wrote-sheet c =
+    let t = c .before .before .before .before .before .before .before .before .before .before .before .before .before .before .before .before .before .before .before .before .before .before .before .before .before .before .before .before .args .table in
+    let f = fit (c .before .before .before .before .before .before .before .before .before .before .before .before .before .before .before .before .before .before .before) in
+    sheet-wrote form1 (t .last) (instancesOf (t .grid)) (omega arith) (f .last) (f .few) (f .space) (c .before .before .before .before .before .before .before .before .before .before .before .before .before .before .before .put-groups .ensures) (c .before .before .before .before .before .before .before .before .before .before .put-groups2 .ensures) (rw (c .before .before .before .before .before .before .before .before .before .before .before .before .before .before .before .before .before .instance-count .ensures) at (c .before .before .before .before .before .before .put-groups3 .ensures)) (c .before .before .write-grid .ensures)
+
+same-length : tie.Need-same-length
+same-length c = wrote-length (wrote-sheet c)
+
+returns-4 : tie.Need-returns-4
+returns-4 c =
+    let a = c .before .before .before .before .before .before .before .before .before .before .before .before .before .before .before .before .before .before .before .before .before .before .before .before .before .before .before .before .args in
+    let e = c .before .before .before .before .before .before .before .before .before .before .before .before .before .before .before .before .before .before .before in
+    sheet-writes (a .access .now) (a .table) (a .out .now) _ _
+    (writes-sheet (a .access .now) (a .table) (length (a .out .now)) (room e) (ok e) (good e))
+    (wrote-sheet c)
+
+pub write-sheet-spec : {M : Type 1} → statement M
+write-sheet-spec =
+    tie.close
+    (tie.spec
+    refuses-requires
+    returns
+    read-access-requires
+    refuses-requires-2
+    returns-2
+    good-requires
+    refuses-requires-3
+    returns-3
+    instance-count-requires
+    put-groups-requires
+    cast-put-groups
+    put-groups-requires-2
+    cast-put-groups-2
+    put-groups-requires-3
+    write-grid-requires
+    same-length
+    returns-4)

@@ -1,0 +1,4 @@
+pub mod Instances
+pub mod Record
+pub mod Reading
+pub mod Write

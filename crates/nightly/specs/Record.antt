@@ -1,0 +1,101 @@
+-- Night sheets against a profile: a table is written as one, and one is read as a table (document 01, "Night sheet", "Local refusals").
+use Prim.Native.Nat.{ℕ, _+_, _*_}
+use mathlib.Core.Path.{_≡_}
+use mathlib.Core.Bool.{Bool, true, false}
+use mathlib.Core.List.{List, [], _∷_}
+use lib.ListN.{length, getD, set}
+use lib.Dec.{ltb, eqb}
+use Rattle.laws.specs.Pick.{pick}
+use Rattle.laws.specs.Got.{Got, got, wrong}
+use Rattle.laws.specs.Over.{over}
+use Rattle.numbers.specs.Codes.{placeOf}
+use Rattle.access.specs.Access.{accessRead}
+use Rattle.access.specs.Profile.{servicesMost, offered}
+use Rattle.access.specs.declared.profile.Profile.{Profile}
+use Rattle.lists.specs.Entries.{limit}
+use Rattle.store.specs.Row.{cellOf}
+use Rattle.store.specs.Grid.{rowAt, noGrid}
+use Rattle.store.specs.declared.grid.Grid.{Grid}
+use Rattle.exchange.specs.Table.{freshTable, tableGood}
+use Rattle.exchange.specs.declared.table.Table.{Table}
+use Rattle.sheet.specs.Form.{form1, sheetMost}
+use Rattle.sheet.specs.Sheet.{Sheet, sheetOctets, sheetIn}
+use Rattle.sheet.specs.Outcome.{refusalNo, outcomeNo}
+use Rattle.sheet.specs.declared.instance.Instance.{Instance}
+use Rattle.sheet.specs.declared.record.Refusal.{Refusal}
+use Rattle.sheet.specs.declared.record.Refusal.the-variants.{ShortOutput, BadProfile, BadTable, BadSheet}
+use Rattle.sheet.specs.declared.record.Written.{Written}
+use Rattle.nightly.specs.Instances.{instancesOf}
+use Rattle.nightly.specs.declared.table.SheetRead.{SheetRead}
+
+-- ---- a table is written
+
+pub record Wrote : Type 0 where
+  pub number : ℕ
+  pub octets : List ℕ
+
+-- "Lowest number first"; "writes nothing"
+unfoldable pub wroteSheet : List ℕ → Table → ℕ → Wrote
+wroteSheet access t size =
+    pick (ltb size (sheetMost form1)) (record { number = refusalNo ShortOutput; octets = [] })
+    (pick (accessRead access .ok)
+    (pick (tableGood limit (accessRead access .profile) t)
+    (record { number = 0; octets = sheetOctets form1 (t .last) (instancesOf (t .grid)) })
+    (record { number = refusalNo BadTable; octets = [] }))
+    (record { number = refusalNo BadProfile; octets = [] }))
+
+-- what `write_sheet` promises: the refusal, how many octets the sheet has, and every octet of the output
+pub record WritesSheet (access : List ℕ) (t : Table) (xs : List ℕ) (r : Written) (ys : List ℕ) : Type 0 where
+  pub outcome : outcomeNo (r .outcome) ≡ wroteSheet access t (length xs) .number
+  pub count : r .count ≡ length (wroteSheet access t (length xs) .octets)
+  pub lent : ys ≡ over xs 0 (wroteSheet access t (length xs) .octets)
+
+-- ---- a sheet is read
+
+-- "anything outside the table's rules is refusal 9": an instance of a subscribed procedure and service, for a number of the profile
+unfoldable pub inProfile : Profile → Instance → Bool
+inProfile p i =
+    pick (eqb (getD (p .subscribed) (i .procedure) 0) 1)
+    (pick (ltb (i .number) (p .numbercount)) (ltb (placeOf (i .service) (offered p)) (p .servicecount)) false)
+    false
+
+unfoldable pub allIn : Profile → List Instance → Bool
+allIn p [] = true
+allIn p (i ∷ is) = pick (inProfile p i) (allIn p is) false
+
+-- the grid with one instance more, and with all
+abbrev pub placeIn : Profile → Instance → ℕ
+placeIn p i = servicesMost * i .number + placeOf (i .service) (offered p)
+
+unfoldable pub placed : Profile → Grid → Instance → Grid
+placed p grid i = record {
+  rows = set (grid .rows) (i .procedure)
+      (record { cells = set (rowAt grid (i .procedure) .cells) (placeIn p i) (cellOf (i .service) (i .address)) });
+}
+
+unfoldable pub allPlaced : Profile → Grid → List Instance → Grid
+allPlaced p grid [] = grid
+allPlaced p grid (i ∷ is) = allPlaced p (placed p grid i) is
+
+pub record Read : Type 0 where
+  pub number : ℕ
+  pub table : Table
+
+abbrev pub refused : Refusal → Read
+refused r = record { number = refusalNo r; table = freshTable }
+
+abbrev pub tableFrom : Profile → Got Sheet → Read
+tableFrom p (got sheet next) =
+    pick (allIn p (sheet .instances))
+    (record { number = 0; table = record { last = sheet .last; grid = allPlaced p noGrid (sheet .instances) } })
+    (refused BadSheet)
+tableFrom p wrong = refused BadSheet
+
+unfoldable pub readSheet : List ℕ → List ℕ → Read
+readSheet access s =
+    pick (accessRead access .ok) (tableFrom (accessRead access .profile) (sheetIn form1 s)) (refused BadProfile)
+
+-- what `read_sheet` promises: the refusal and the table, a fresh one where it is refused
+pub record ReadsSheet (access s : List ℕ) (r : SheetRead) : Type 0 where
+  pub outcome : outcomeNo (r .outcome) ≡ readSheet access s .number
+  pub table : r .table ≡ readSheet access s .table
