@@ -13,7 +13,7 @@ use Rattle.laws.specs.Pick.{pick}
 use Rattle.laws.specs.Places.{everyTo}
 use Rattle.laws.proofs.Picks.{pick-ind, pick-then, pick-else}
 use Rattle.laws.proofs.Walks.{every-at}
-use Rattle.numbers.specs.Codes.{serviceCode}
+use Rattle.codes.specs.Codes.{serviceCode}
 use Rattle.numbers.specs.Number.{most, digitsOf, numberGood, tidyNumber}
 use Rattle.numbers.specs.declared.number.Number.{Number}
 use Rattle.access.specs.Profile.{numbersMost, servicesMost, prefixesMost, servedNumbers, offered, sameDigits, sameNumber, same, placeIn, noNumber, numbersGood, noPrefix, prefixGood, rising, servicesGood, flag, subscriptionsGood, usesGood, diversionGood, prefixesGood, profileGood}

@@ -8,7 +8,7 @@ use lib.ListN.{length, getD}
 use lib.Dec.{ltb}
 use Rattle.laws.specs.Pick.{pick}
 use Rattle.laws.proofs.Picks.{pick-then}
-use Rattle.numbers.specs.Codes.{serviceCode}
+use Rattle.codes.specs.Codes.{serviceCode}
 use Rattle.access.specs.Profile.{rising}
 use Rattle.access.proofs.Profiles.{rising-above}
 

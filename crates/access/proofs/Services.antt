@@ -5,8 +5,8 @@ use mathlib.Core.List.{List, []}
 use native.Mathlib.Omega.{arith}
 use lib.ListN.{length, take, drop, getD, length-take, drop-of-length-le}
 use lib.Seq.{getD-take}
-use Rattle.numbers.specs.Codes.{placeOf}
-use Rattle.numbers.proofs.Readers.{place-here, place-next, place-none}
+use Rattle.codes.specs.Codes.{placeOf}
+use Rattle.codes.proofs.Tables.{place-here, place-next, place-none}
 
 module _ (service count : ℕ) (services : List ℕ) where
   -- a search that has come to k

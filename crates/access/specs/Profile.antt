@@ -7,7 +7,7 @@ use lib.ListN.{take, getD}
 use lib.Dec.{ltb, eqb}
 use Rattle.laws.specs.Pick.{pick}
 use Rattle.laws.specs.Places.{everyTo}
-use Rattle.numbers.specs.Codes.{placeOf, serviceCode}
+use Rattle.codes.specs.Codes.{placeOf, serviceCode}
 use Rattle.numbers.specs.Number.{digitsOf, numberGood}
 use Rattle.numbers.specs.declared.number.Number.{Number}
 use Rattle.access.specs.declared.profile.Prefix.{Prefix}

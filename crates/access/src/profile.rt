@@ -1,7 +1,7 @@
 // A profile, and whether it breaks a rule (document 01, "Profile and table").
+use codes::service_code;
 use numbers::Number;
 use numbers::number_good;
-use numbers::service_code;
 ghost use mathlib.Core.Path.{_≡_};
 ghost use Prim.Native.Nat.{_≤_};
 ghost use lib.ListN.{take};

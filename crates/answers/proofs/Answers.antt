@@ -11,9 +11,9 @@ use borrow.Author.Tests.{eq-eqb, ne-eqb}
 use Rattle.laws.specs.Stands.{Stands}
 use Rattle.laws.proofs.Stands.{stands-whole, stands-left, stands-right}
 use Rattle.octets.specs.Element.{element}
-use Rattle.octets.specs.Ident.{identOctets}
+use Rattle.values.specs.Ident.{identOctets}
 use Rattle.octets.proofs.Elements.{Inside, inside, length-small}
-use Rattle.octets.proofs.Idents.{ident-back, ident-most, ident-other}
+use Rattle.values.proofs.Idents.{ident-back, ident-most, ident-other}
 use Rattle.answers.specs.Answer.{problemNo, problemValue, problemOctets, answerOctets}
 use Rattle.coding.specs.Heard.{insideDepth, componentDepth, replyTag}
 use Rattle.coding.specs.Request.{interrogation}

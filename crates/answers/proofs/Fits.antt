@@ -8,9 +8,9 @@ use lib.IntN.{ℤ, pos}
 use lib.Signed.{mag}
 use lib.ListN.{length, length-append}
 use Rattle.octets.specs.Element.{element}
-use Rattle.octets.specs.Ident.{identOctets}
+use Rattle.values.specs.Ident.{identOctets}
 use Rattle.octets.proofs.Elements.{length-small, length-most}
-use Rattle.octets.proofs.Idents.{ident-most}
+use Rattle.values.proofs.Idents.{ident-most}
 use Rattle.lists.specs.Entries.{limit, allGood}
 use Rattle.lists.specs.declared.entry.Entry.{Entry}
 use Rattle.lists.proofs.Sizes.{list-fits}

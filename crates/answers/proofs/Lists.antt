@@ -12,9 +12,9 @@ use Rattle.laws.specs.Got.{got}
 use Rattle.laws.specs.Stands.{Stands}
 use Rattle.laws.proofs.Stands.{stands-whole, stands-left, stands-right}
 use Rattle.octets.specs.Element.{element}
-use Rattle.octets.specs.Ident.{identOctets}
+use Rattle.values.specs.Ident.{identOctets}
 use Rattle.octets.proofs.Elements.{length-element, Inside, inside}
-use Rattle.octets.proofs.Idents.{ident-back, ident-most}
+use Rattle.values.proofs.Idents.{ident-back, ident-most}
 use Rattle.coding.specs.Heard.{argumentDepth, insideDepth, componentDepth}
 use Rattle.coding.specs.Request.{interrogation}
 use Rattle.coding.proofs.Tags.{result-tag}

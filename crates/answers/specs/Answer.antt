@@ -5,7 +5,7 @@ use mathlib.Core.List.{List, [], _∷_, _++_}
 use lib.IntN.{pos}
 use Rattle.laws.specs.Over.{Puts}
 use Rattle.octets.specs.Element.{element}
-use Rattle.octets.specs.Ident.{identOctets}
+use Rattle.values.specs.Ident.{identOctets}
 use Rattle.coding.specs.Request.{interrogation}
 use Rattle.lists.specs.Entries.{listed}
 use Rattle.lists.specs.Listed.{listOctets}

@@ -9,11 +9,11 @@ use lib.ListN.{length}
 use lib.Dec.{eqb}
 use Rattle.laws.specs.Pick.{pick}
 use Rattle.octets.specs.Head.{headAt}
-use Rattle.octets.specs.Ident.{identAt}
+use Rattle.values.specs.Ident.{identAt}
 use Rattle.octets.specs.declared.head.Head.{Head}
 use Rattle.octets.specs.declared.head.Head.the-variants as head
-use Rattle.octets.specs.declared.ident.Ident.{Ident}
-use Rattle.octets.specs.declared.ident.Ident.the-variants as ident
+use Rattle.values.specs.declared.ident.Ident.{Ident}
+use Rattle.values.specs.declared.ident.Ident.the-variants as ident
 use Rattle.coding.specs.Heard.{argumentDepth, insideDepth, componentDepth, replyTag}
 use Rattle.coding.specs.Request.{interrogation}
 use Rattle.answers.specs.declared.reply.Reply.{Reply}

@@ -1,10 +1,10 @@
 // What the exchange answers is written (document 01, "Replies, in the order checked").
 use lists::Entries;
 use lists::put_list;
-use octets::ident_size;
 use octets::put_all;
 use octets::put_head;
-use octets::put_ident;
+use values::ident_size;
+use values::put_ident;
 ghost use mathlib.Core.Path.{_≡_};
 ghost use mathlib.Core.List.{_++_};
 ghost use Prim.Native.Nat.{_+_, _≤_};
@@ -12,7 +12,7 @@ ghost use lib.ListN.{length};
 ghost use lib.IntN.{pos};
 ghost use Rattle.laws.specs.Over.{Wrote, Puts};
 ghost use Rattle.octets.specs.Element.{element};
-ghost use Rattle.octets.specs.Ident.{identOctets};
+ghost use Rattle.values.specs.Ident.{identOctets};
 ghost use Rattle.answers.specs.Answer.{whoseOctets, problemOctets, PutAnswer};
 
 // Whose request is rejected: one whose identifier could not be read, or one with its own.

@@ -5,9 +5,9 @@ use coding::INSIDEDEPTH;
 use coding::INTERROGATION;
 use coding::reply_tag;
 use octets::Head;
-use octets::Ident;
 use octets::head_at;
-use octets::ident_at;
+use values::Ident;
+use values::ident_at;
 ghost use mathlib.Core.Path.{_≡_};
 ghost use Rattle.answers.specs.Reply.{sameIdent, failedAt, setAt, sequenceAt, listAt, resultAt, afterOwn, ownAt, ReplyTo};
 

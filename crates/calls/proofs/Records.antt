@@ -9,7 +9,7 @@ use lib.Dec.{ltb, leb, eqb}
 use borrow.Author.Tests.{ltb-true, leb-true, eqb-true}
 use Rattle.laws.specs.Pick.{pick}
 use Rattle.laws.proofs.Picks.{pick-then}
-use Rattle.numbers.specs.Codes.{serviceCode}
+use Rattle.codes.specs.Codes.{serviceCode}
 use Rattle.numbers.specs.Number.{most, allDigits}
 use Rattle.access.specs.declared.profile.Profile.{Profile}
 use Rattle.calls.specs.Call.{originalAt, callSize, callFrom, namesGood, valuesGood, originalGood, callGood}

@@ -6,7 +6,7 @@ use lib.ListN.{length, getD}
 use lib.Seq.{slice}
 use lib.Dec.{ltb, leb, eqb}
 use Rattle.laws.specs.Pick.{pick}
-use Rattle.numbers.specs.Codes.{serviceCode}
+use Rattle.codes.specs.Codes.{serviceCode}
 use Rattle.numbers.specs.Number.{most, allDigits}
 use Rattle.access.specs.declared.profile.Profile.{Profile}
 use Rattle.calls.specs.declared.call.Call.{Call}

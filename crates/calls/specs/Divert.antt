@@ -6,7 +6,7 @@ use mathlib.Core.Option.{Option, none, some}
 use lib.ListN.{getD, replicate}
 use lib.Dec.{ltb, leb, eqb}
 use Rattle.laws.specs.Pick.{pick}
-use Rattle.numbers.specs.Codes.{placeOf}
+use Rattle.codes.specs.Codes.{placeOf}
 use Rattle.numbers.specs.Number.{numberOf}
 use Rattle.numbers.specs.declared.number.Number.{Number}
 use Rattle.numbers.specs.declared.address.Address.{Address}

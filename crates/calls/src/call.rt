@@ -1,7 +1,7 @@
 // A call as it comes to the access: lent octets at fixed offsets (docs/RECORDS.md).
 use access::Profile;
+use codes::service_code;
 use numbers::all_digits;
-use numbers::service_code;
 ghost use mathlib.Core.Path.{_≡_};
 ghost use lib.ListN.{length};
 ghost use Rattle.calls.specs.Call.{callSize, callFrom, namesGood, valuesGood, originalGood, callGood};

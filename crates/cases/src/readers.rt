@@ -1,10 +1,10 @@
 // The reading cases of the crate octets: each is read whole, and then cut at every octet.
 use crate::say;
-use octets::Enumerated;
-use octets::Groups;
+use groups::Groups;
 use octets::Head;
-use octets::Ident;
-use octets::Skip;
+use skip::Skip;
+use values::Enumerated;
+use values::Ident;
 
 // A reader of the crate octets.
 pub(crate) enum Reader {
@@ -87,7 +87,7 @@ fn element(s: &[u8], told: bool) -> bool {
 }
 
 fn enumerated(s: &[u8], told: bool) -> bool {
-    match octets::enumerated_at(s, 0, s.len(), 1) {
+    match values::enumerated_at(s, 0, s.len(), 1) {
         Enumerated::Is { value, next } => {
             if told {
                 say::place(b"is ", value as usize);
@@ -100,7 +100,7 @@ fn enumerated(s: &[u8], told: bool) -> bool {
 }
 
 fn identifier(s: &[u8], told: bool) -> bool {
-    match octets::ident_at(s, 0, s.len(), 1) {
+    match values::ident_at(s, 0, s.len(), 1) {
         Ident::Is { value, next } => {
             if told {
                 say::text(b"is ");
@@ -114,7 +114,7 @@ fn identifier(s: &[u8], told: bool) -> bool {
 }
 
 fn skipped(s: &[u8], told: bool) -> bool {
-    match octets::skip_at(s, 0, s.len()) {
+    match skip::skip_at(s, 0, s.len()) {
         Skip::To(next) => {
             if told {
                 say::place(b"to ", next);
@@ -126,7 +126,7 @@ fn skipped(s: &[u8], told: bool) -> bool {
 }
 
 fn groups(s: &[u8], told: bool) -> bool {
-    match octets::groups_at(s, 0, s.len()) {
+    match groups::groups_at(s, 0, s.len()) {
         Groups::Is { value, next } => {
             if told {
                 say::place(b"is ", value as usize);

@@ -80,9 +80,9 @@ fn writes(by: Writer, out: &mut [u8], line: &[u8]) -> usize {
     let number = last_number(line);
     match by {
         Writer::Head => octets::put_head(out, AT, line::tag(line), (number % 65536) as u16),
-        Writer::Enumerated => octets::put_enumerated(out, AT, (number % 256) as u8),
-        Writer::Identifier => octets::put_ident(out, AT, line::identifier(line)),
-        Writer::Groups => octets::put_groups(out, AT, number),
+        Writer::Enumerated => values::put_enumerated(out, AT, (number % 256) as u8),
+        Writer::Identifier => values::put_ident(out, AT, line::identifier(line)),
+        Writer::Groups => groups::put_groups(out, AT, number),
         Writer::Unknown => AT,
     }
 }

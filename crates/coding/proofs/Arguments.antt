@@ -14,13 +14,13 @@ use Rattle.laws.specs.Stands.{Stands}
 use Rattle.laws.proofs.Stands.{stands-left, stands-right}
 use Rattle.octets.specs.Head.{headAt}
 use Rattle.octets.specs.Element.{element}
-use Rattle.octets.specs.Enumerated.{enumeratedTag, enumeratedOctets}
+use Rattle.values.specs.Enumerated.{enumeratedTag, enumeratedOctets}
 use Rattle.octets.specs.declared.head.Head.{Head}
 use Rattle.octets.specs.declared.head.Head.the-variants as head
 use Rattle.octets.proofs.Elements.{element-first, Inside, inside}
-use Rattle.octets.proofs.Enumerateds.{enumerated-back, length-enumerated}
-use Rattle.octets.proofs.Skips.{fills-past}
-use Rattle.numbers.specs.Codes.{procedureCode, serviceCode}
+use Rattle.values.proofs.Enumerateds.{enumerated-back, length-enumerated}
+use Rattle.skip.proofs.Skips.{fills-past}
+use Rattle.codes.specs.Codes.{procedureCode, serviceCode}
 use Rattle.numbers.specs.Number.{numberAt}
 use Rattle.numbers.specs.declared.number.Number.{Number}
 use Rattle.numbers.specs.declared.address.Forwarded.{Forwarded}

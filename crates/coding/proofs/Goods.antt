@@ -8,11 +8,11 @@ use lib.Dec.{eqb}
 use borrow.Author.Tests.{eq-eqb, eqb-true, eqb-false}
 use Rattle.laws.specs.Pick.{pick}
 use Rattle.laws.proofs.Picks.{pick-ind, pick-then}
-use Rattle.numbers.specs.Codes.{procedureCode, serviceCode}
+use Rattle.codes.specs.Codes.{procedureCode, serviceCode}
 use Rattle.numbers.specs.Number.{numberGood}
 use Rattle.numbers.specs.Address.{addressGood}
 use Rattle.numbers.specs.declared.address.Forwarded.{Forwarded}
-use Rattle.numbers.proofs.Tables.{service-all}
+use Rattle.codes.proofs.Tables.{service-all}
 use Rattle.coding.specs.Request.{activation, deactivation, interrogation}
 use Rattle.coding.specs.Sent.{servedGood, toGood, partsGood, sendable, ToFits}
 use Rattle.coding.specs.declared.request.Served.{Served}

@@ -7,12 +7,12 @@ use lib.ListN.{length}
 use lib.Dec.{eqb}
 use Rattle.laws.proofs.Picks.{pick-ind}
 use Rattle.octets.specs.Head.{headAt}
-use Rattle.octets.specs.Ident.{identAt}
+use Rattle.values.specs.Ident.{identAt}
 use Rattle.octets.specs.declared.head.Head.{Head}
 use Rattle.octets.specs.declared.head.Head.the-variants as head
-use Rattle.octets.specs.declared.ident.Ident.{Ident}
-use Rattle.octets.specs.declared.ident.Ident.the-variants as ident
-use Rattle.octets.proofs.Idents.{Ranges, ident-range}
+use Rattle.values.specs.declared.ident.Ident.{Ident}
+use Rattle.values.specs.declared.ident.Ident.the-variants as ident
+use Rattle.values.proofs.Idents.{Ranges, ident-range}
 use Rattle.coding.specs.Heard.{insideDepth, componentDepth, replyTag, operationOf, operationAt, identifierOf, identifierAt, componentOf, heard}
 use Rattle.coding.specs.declared.heard.Heard.{Heard}
 use Rattle.coding.specs.declared.heard.Heard.the-variants.{NotOne, Silent, OtherTag, NoIdentifier, NoOperation, Asks}

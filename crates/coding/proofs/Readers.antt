@@ -15,11 +15,11 @@ use borrow.Author.Tests.{ltb-true}
 use Rattle.laws.specs.Got.{Got, got, wrong}
 use Rattle.laws.proofs.Picks.{pick-ind}
 use Rattle.octets.specs.Head.{headAt}
-use Rattle.octets.specs.Skip.{onward, skipDepth}
-use Rattle.octets.specs.declared.enumerated.Enumerated.{Enumerated}
-use Rattle.octets.specs.declared.enumerated.Enumerated.the-variants as enumerated
-use Rattle.octets.proofs.Signs.{positive}
-use Rattle.octets.proofs.Skips.{Further, further, fills-past, fills-step}
+use Rattle.skip.specs.Skip.{onward, skipDepth}
+use Rattle.values.specs.declared.enumerated.Enumerated.{Enumerated}
+use Rattle.values.specs.declared.enumerated.Enumerated.the-variants as enumerated
+use Rattle.values.proofs.Signs.{positive}
+use Rattle.skip.proofs.Skips.{Further, further, fills-past, fills-step}
 use Rattle.numbers.specs.Number.{valueOf}
 use Rattle.coding.specs.Heard.{insideDepth}
 use Rattle.coding.specs.Request.{servedRead, privateAt, privates, argumentOf, localAt, argumentAt}

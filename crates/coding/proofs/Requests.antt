@@ -11,16 +11,16 @@ use borrow.Author.Tests.{eqb-false, ltb-true}
 use Rattle.laws.specs.Got.{Got, got}
 use Rattle.laws.proofs.Gots.{Found, found-then, found-is}
 use Rattle.laws.proofs.Picks.{pick-ind}
-use Rattle.octets.specs.Enumerated.{enumeratedTag, enumeratedAt}
+use Rattle.values.specs.Enumerated.{enumeratedTag, enumeratedAt}
 use Rattle.octets.specs.Head.{headAt}
 use Rattle.octets.specs.declared.head.Head.{Head}
 use Rattle.octets.specs.declared.head.Head.the-variants as head
-use Rattle.numbers.specs.Codes.{procedureCode, serviceCode}
+use Rattle.codes.specs.Codes.{procedureCode, serviceCode}
 use Rattle.numbers.specs.Number.{valueOf}
 use Rattle.numbers.specs.Address.{addressAt}
 use Rattle.numbers.specs.declared.address.Forwarded.{Forwarded}
 use Rattle.numbers.proofs.Goods.{ToUnless, address-read}
-use Rattle.numbers.proofs.Tables.{procedure-code, service-all}
+use Rattle.codes.proofs.Tables.{procedure-code, service-all}
 use Rattle.coding.specs.Heard.{argumentDepth, insideDepth}
 use Rattle.coding.specs.Request.{activation, deactivation, interrogation, codeAt, serviceAt, servedAt, nowhere, privates, lastIn, activationIn, deactivationIn, interrogationIn, contentsIn, argumentOf, localAt, argumentAt}
 use Rattle.coding.specs.declared.heard.Operation.{Operation}

@@ -10,8 +10,8 @@ use lib.ListN.{length}
 use Rattle.laws.specs.Over.{Wrote}
 use Rattle.laws.proofs.Over.{then, puts-then, room-after, room-true, room-false}
 use Rattle.octets.specs.Element.{element, PutHead}
-use Rattle.octets.specs.Enumerated.{enumeratedOctets, PutEnumerated}
-use Rattle.octets.specs.Ident.{identOctets, PutIdent}
+use Rattle.values.specs.Enumerated.{enumeratedOctets, PutEnumerated}
+use Rattle.values.specs.Ident.{identOctets, PutIdent}
 use Rattle.octets.proofs.Elements.{headed, room-headed}
 use Rattle.coding.specs.Sent.{sendable, sends, servedOctets, toOctets, contentsOctets, requestOctets, PutRequest}
 use Rattle.coding.specs.declared.request.Request.{Request}

@@ -13,15 +13,15 @@ use lib.Dec.{eqb}
 use borrow.Author.Tests.{eq-eqb, ne-eqb, eqb-true}
 use Rattle.laws.proofs.Picks.{pick-ind}
 use Rattle.octets.specs.Element.{element}
-use Rattle.octets.specs.Enumerated.{enumeratedOctets}
-use Rattle.octets.specs.Ident.{identOctets}
+use Rattle.values.specs.Enumerated.{enumeratedOctets}
+use Rattle.values.specs.Ident.{identOctets}
 use Rattle.octets.proofs.Elements.{length-small}
-use Rattle.octets.proofs.Enumerateds.{length-enumerated}
-use Rattle.octets.proofs.Idents.{ident-most, ident-one, ident-two}
+use Rattle.values.proofs.Enumerateds.{length-enumerated}
+use Rattle.values.proofs.Idents.{ident-most, ident-one, ident-two}
 use Rattle.numbers.specs.Number.{numberOctets}
 use Rattle.numbers.specs.Address.{addressOctets}
 use Rattle.numbers.specs.declared.address.Forwarded.{Forwarded}
-use Rattle.numbers.proofs.Tables.{procedure-three, service-all}
+use Rattle.codes.proofs.Tables.{procedure-three, service-all}
 use Rattle.numbers.proofs.Sizes.{number-most, address-most, longestNumber, longest-number, number-longest, longestAddress, longest-address, address-longest}
 use Rattle.coding.specs.Request.{activation, individual, requestOf}
 use Rattle.coding.specs.Sent.{servedGood, toGood, partsGood, sendable, servedOctets, ToFits, toOctets, contentsOctets, requestOctets}

@@ -16,9 +16,9 @@ use Rattle.laws.proofs.Picks.{pick-then, pick-first}
 use Rattle.laws.proofs.Over.{take-over, room-fits}
 use Rattle.laws.proofs.Stands.{stands-whole, stands-left, stands-right}
 use Rattle.octets.specs.Element.{element}
-use Rattle.octets.specs.Ident.{identOctets}
+use Rattle.values.specs.Ident.{identOctets}
 use Rattle.octets.proofs.Elements.{Inside, inside}
-use Rattle.octets.proofs.Idents.{ident-back}
+use Rattle.values.proofs.Idents.{ident-back}
 use Rattle.coding.specs.Heard.{insideDepth, componentDepth, replyTag, local, operationAt, identifierAt, heard}
 use Rattle.coding.specs.Request.{argumentAt}
 use Rattle.coding.specs.Sent.{sendable, contentsOctets, requestOctets, tidyRequest, sends, PutRequest}

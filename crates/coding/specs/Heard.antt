@@ -8,12 +8,12 @@ use lib.ListN.{length}
 use lib.Dec.{eqb}
 use Rattle.laws.specs.Pick.{pick}
 use Rattle.octets.specs.Head.{headAt}
-use Rattle.octets.specs.Ident.{identAt}
-use Rattle.octets.specs.Skip.{skipDepth}
+use Rattle.values.specs.Ident.{identAt}
+use Rattle.skip.specs.Skip.{skipDepth}
 use Rattle.octets.specs.declared.head.Head.{Head}
 use Rattle.octets.specs.declared.head.Head.the-variants as head
-use Rattle.octets.specs.declared.ident.Ident.{Ident}
-use Rattle.octets.specs.declared.ident.Ident.the-variants as ident
+use Rattle.values.specs.declared.ident.Ident.{Ident}
+use Rattle.values.specs.declared.ident.Ident.the-variants as ident
 use Rattle.coding.specs.declared.heard.Heard.{Heard}
 use Rattle.coding.specs.declared.heard.Heard.the-variants.{NotOne, Silent, OtherTag, NoIdentifier, NoOperation, Asks}
 use Rattle.coding.specs.declared.heard.Operation.{Operation}

@@ -9,13 +9,13 @@ use lib.Dec.{leb, eqb}
 use Rattle.laws.specs.Pick.{pick}
 use Rattle.laws.specs.Got.{Got, got, wrong, andThen}
 use Rattle.octets.specs.Head.{headAt}
-use Rattle.octets.specs.Enumerated.{enumeratedTag, enumeratedAt}
-use Rattle.octets.specs.Skip.{fills, skipAt}
+use Rattle.values.specs.Enumerated.{enumeratedTag, enumeratedAt}
+use Rattle.skip.specs.Skip.{fills, skipAt}
 use Rattle.octets.specs.declared.head.Head.{Head}
 use Rattle.octets.specs.declared.head.Head.the-variants as head
-use Rattle.octets.specs.declared.skip.Skip.{Skip}
-use Rattle.octets.specs.declared.skip.Skip.the-variants as skip
-use Rattle.numbers.specs.Codes.{procedureCode, serviceCode}
+use Rattle.skip.specs.declared.skip.Skip.{Skip}
+use Rattle.skip.specs.declared.skip.Skip.the-variants as skip
+use Rattle.codes.specs.Codes.{procedureCode, serviceCode}
 use Rattle.numbers.specs.Number.{valueOf, numberOf, numberAt}
 use Rattle.numbers.specs.Address.{subOf, forwardedOf, addressAt}
 use Rattle.numbers.specs.declared.number.Number.{Number}

@@ -10,9 +10,9 @@ use lib.Dec.{eqb}
 use Rattle.laws.specs.Pick.{pick}
 use Rattle.laws.specs.Over.{over, room}
 use Rattle.octets.specs.Element.{element}
-use Rattle.octets.specs.Enumerated.{enumeratedOctets}
-use Rattle.octets.specs.Ident.{identOctets}
-use Rattle.numbers.specs.Codes.{procedureCode, serviceCode}
+use Rattle.values.specs.Enumerated.{enumeratedOctets}
+use Rattle.values.specs.Ident.{identOctets}
+use Rattle.codes.specs.Codes.{procedureCode, serviceCode}
 use Rattle.numbers.specs.Number.{tidyNumber, numberGood, numberOctets}
 use Rattle.numbers.specs.Address.{tidyAddress, addressGood, addressOctets}
 use Rattle.numbers.specs.declared.address.Forwarded.{Forwarded}

@@ -1,10 +1,10 @@
 // What an arriving component says, down to where its argument stands (document 01, "Replies, in the order checked").
-use crate::codes::COMPONENTDEPTH;
-use crate::codes::INSIDEDEPTH;
+use crate::carried::COMPONENTDEPTH;
+use crate::carried::INSIDEDEPTH;
 use octets::Head;
-use octets::Ident;
 use octets::head_at;
-use octets::ident_at;
+use values::Ident;
+use values::ident_at;
 ghost use mathlib.Core.Path.{_≡_};
 ghost use Rattle.coding.specs.Heard.{ReplyTag, operationAt, identifierAt, Hears};
 

@@ -1,18 +1,18 @@
 // Components of document 01: octets to values, and values to octets.
 mod argument;
-mod codes;
+mod carried;
 mod heard;
 mod request;
 mod sent;
 
 pub use argument::argument_at;
-pub use codes::ACTIVATION;
-pub use codes::ARGUMENTDEPTH;
-pub use codes::COMPONENTDEPTH;
-pub use codes::DEACTIVATION;
-pub use codes::INSIDEDEPTH;
-pub use codes::INTERROGATION;
-pub use codes::PROCEDURES;
+pub use carried::ACTIVATION;
+pub use carried::ARGUMENTDEPTH;
+pub use carried::COMPONENTDEPTH;
+pub use carried::DEACTIVATION;
+pub use carried::INSIDEDEPTH;
+pub use carried::INTERROGATION;
+pub use carried::PROCEDURES;
 pub use heard::Heard;
 pub use heard::Operation;
 pub use heard::hear;

@@ -14,7 +14,7 @@ use mir.Facts.{toZ-ofZ, toZ-pos}
 use borrow.Author.Tests.{ltb-true, leb-false, eq-eqb, ne-eqb, eqb-true}
 use Rattle.laws.specs.Got.{Got, got, wrong}
 use Rattle.laws.proofs.Picks.{pick-ind}
-use Rattle.numbers.specs.Codes.{serviceCode}
+use Rattle.codes.specs.Codes.{serviceCode}
 use Rattle.numbers.proofs.Goods.{ToUnless}
 use Rattle.access.specs.declared.profile.Profile.{Profile}
 use Rattle.coding.specs.Heard.{heard}

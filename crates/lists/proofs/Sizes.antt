@@ -10,11 +10,11 @@ use lib.Signed.{mag}
 use lib.ListN.{length, length-append}
 use Rattle.laws.proofs.Picks.{pick-then}
 use Rattle.octets.specs.Element.{element}
-use Rattle.octets.specs.Enumerated.{enumeratedOctets}
-use Rattle.octets.specs.Ident.{identOctets}
+use Rattle.values.specs.Enumerated.{enumeratedOctets}
+use Rattle.values.specs.Ident.{identOctets}
 use Rattle.octets.proofs.Elements.{length-element, length-small, length-most}
-use Rattle.octets.proofs.Enumerateds.{length-enumerated}
-use Rattle.octets.proofs.Idents.{ident-most, ident-one}
+use Rattle.values.proofs.Enumerateds.{length-enumerated}
+use Rattle.values.proofs.Idents.{ident-most, ident-one}
 use Rattle.numbers.specs.Number.{most, numberGood, numberOctets}
 use Rattle.numbers.specs.Address.{addressGood, addressOctets}
 use Rattle.numbers.proofs.Sizes.{every-number-most, number-most, every-address-most, address-most}

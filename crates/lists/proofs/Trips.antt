@@ -11,9 +11,9 @@ use Rattle.laws.specs.Got.{got}
 use Rattle.laws.specs.Stands.{Stands}
 use Rattle.laws.proofs.Stands.{stands-left, stands-right}
 use Rattle.octets.specs.Element.{element}
-use Rattle.octets.specs.Enumerated.{enumeratedOctets}
+use Rattle.values.specs.Enumerated.{enumeratedOctets}
 use Rattle.octets.proofs.Elements.{Inside, inside}
-use Rattle.octets.proofs.Enumerateds.{enumerated-back, length-enumerated}
+use Rattle.values.proofs.Enumerateds.{enumerated-back, length-enumerated}
 use Rattle.numbers.specs.Number.{other, tidyNumber, numberOctets}
 use Rattle.numbers.specs.Address.{tidyAddress, addressOctets}
 use Rattle.numbers.proofs.Goods.{good-number, good-address}

@@ -10,10 +10,10 @@ use lib.Seq.{take-all, take-suc}
 use Rattle.laws.specs.Over.{Wrote}
 use Rattle.laws.proofs.Over.{length-over, then, wrote, wrote-none, puts-then}
 use Rattle.octets.specs.Element.{element, HeadSize, PutHead, PutAll}
-use Rattle.octets.specs.Enumerated.{PutEnumerated}
-use Rattle.octets.specs.Ident.{identOctets, PutIdent}
+use Rattle.values.specs.Enumerated.{PutEnumerated}
+use Rattle.values.specs.Ident.{identOctets, PutIdent}
 use Rattle.octets.proofs.Elements.{element-size, headed}
-use Rattle.octets.proofs.Idents.{ident-one}
+use Rattle.values.proofs.Idents.{ident-one}
 use Rattle.numbers.specs.Number.{PutNumber}
 use Rattle.numbers.specs.Address.{PutAddress}
 use Rattle.coding.specs.Request.{interrogation}

@@ -8,7 +8,7 @@ use Rattle.laws.specs.Pick.{pick}
 use Rattle.laws.specs.Got.{Got, got, wrong, andThen}
 use Rattle.octets.specs.Head.{headAt}
 use Rattle.octets.specs.Element.{element}
-use Rattle.octets.specs.Enumerated.{enumeratedAt, enumeratedOctets}
+use Rattle.values.specs.Enumerated.{enumeratedAt, enumeratedOctets}
 use Rattle.octets.specs.declared.head.Head.{Head}
 use Rattle.octets.specs.declared.head.Head.the-variants as head
 use Rattle.numbers.specs.Number.{other, valueOf, numberOf, numberAt, tidyNumber, numberGood, numberOctets}

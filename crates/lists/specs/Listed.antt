@@ -4,7 +4,7 @@ use mathlib.Core.List.{List, _++_}
 use lib.IntN.{ℤ, pos}
 use Rattle.laws.specs.Over.{Puts}
 use Rattle.octets.specs.Element.{element}
-use Rattle.octets.specs.Ident.{identOctets}
+use Rattle.values.specs.Ident.{identOctets}
 use Rattle.coding.specs.Request.{interrogation}
 use Rattle.lists.specs.Entries.{listed, entriesOctets}
 use Rattle.lists.specs.declared.entry.Entry.{Entry}

@@ -5,13 +5,13 @@ use numbers::Forwarded;
 use numbers::Number;
 use numbers::address_at;
 use numbers::number_at;
-use octets::Enumerated;
 use octets::Head;
-use octets::enumerated_at;
 use octets::head_at;
+use values::Enumerated;
+use values::enumerated_at;
 ghost use mathlib.Core.Path.{_≡_};
 ghost use Rattle.laws.specs.Got.{wrong, andThen};
-ghost use Rattle.octets.specs.Enumerated.{enumeratedAt};
+ghost use Rattle.values.specs.Enumerated.{enumeratedAt};
 ghost use Rattle.numbers.specs.Number.{valueOf};
 ghost use Rattle.lists.specs.Entry.{fieldDepth, noEntry, kept, lastField, codesIn, fieldsIn, entryAt, entryRead};
 

@@ -13,7 +13,7 @@ use Rattle.laws.specs.Over.{Wrote}
 use Rattle.laws.proofs.Picks.{pick-ind}
 use Rattle.laws.proofs.Over.{then, wrote-none}
 use Rattle.laws.proofs.Walks.{gathered-none, gathered-more}
-use Rattle.octets.specs.Groups.{PutGroups}
+use Rattle.groups.specs.Groups.{PutGroups}
 use Rattle.store.specs.Row.{numberOfPlace, cellAt, active}
 use Rattle.store.specs.declared.row.Cell.{Cell}
 use Rattle.store.specs.declared.row.Row.{Row}

@@ -12,7 +12,7 @@ use Rattle.laws.specs.Pick.{pick}
 use Rattle.laws.specs.Got.{Got, got, wrong, andThen}
 use Rattle.laws.proofs.Gots.{found-is}
 use Rattle.laws.proofs.Picks.{pick-then}
-use Rattle.numbers.specs.Codes.{placeOf}
+use Rattle.codes.specs.Codes.{placeOf}
 use Rattle.access.specs.Profile.{offered}
 use Rattle.access.specs.declared.profile.Profile.{Profile}
 use Rattle.store.specs.Grid.{noGrid}

@@ -13,7 +13,7 @@ use Rattle.laws.specs.Places.{gathered}
 use Rattle.laws.specs.Over.{Wrote}
 use Rattle.laws.proofs.Over.{length-over, then, wrote-none, puts-then, room-then, room-after}
 use Rattle.laws.proofs.Walks.{gathered-none, gathered-more}
-use Rattle.octets.specs.Groups.{PutGroups}
+use Rattle.groups.specs.Groups.{PutGroups}
 use Rattle.numbers.specs.Number.{most, digitsOf}
 use Rattle.numbers.specs.Address.{addressGood}
 use Rattle.numbers.specs.declared.address.Address.{Address}

@@ -12,7 +12,7 @@ use Rattle.laws.specs.Pick.{pick}
 use Rattle.laws.specs.Places.{countTo, gathered}
 use Rattle.laws.proofs.Picks.{pick-ind, pick-map}
 use Rattle.laws.proofs.Walks.{count-none, count-more, gathered-none, gathered-more, gathered-ind}
-use Rattle.numbers.proofs.Tables.{service-most}
+use Rattle.codes.proofs.Tables.{service-most}
 use Rattle.access.specs.Profile.{servicesMost, offered, profileGood}
 use Rattle.access.specs.declared.profile.Profile.{Profile}
 use Rattle.access.proofs.Profiles.{good-profile}

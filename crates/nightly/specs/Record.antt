@@ -8,7 +8,7 @@ use lib.Dec.{ltb, eqb}
 use Rattle.laws.specs.Pick.{pick}
 use Rattle.laws.specs.Got.{Got, got, wrong}
 use Rattle.laws.specs.Over.{over}
-use Rattle.numbers.specs.Codes.{placeOf}
+use Rattle.codes.specs.Codes.{placeOf}
 use Rattle.access.specs.Access.{accessRead}
 use Rattle.access.specs.Profile.{servicesMost, offered}
 use Rattle.access.specs.declared.profile.Profile.{Profile}

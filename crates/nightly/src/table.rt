@@ -16,7 +16,7 @@ use store::Grid;
 use store::fresh_grid;
 ghost use mathlib.Core.Path.{_≡_};
 ghost use Prim.Native.Nat.{_≤_, _<_};
-ghost use Rattle.numbers.specs.Codes.{placeOf};
+ghost use Rattle.codes.specs.Codes.{placeOf};
 ghost use Rattle.access.specs.Profile.{servicesMost, offered};
 ghost use Rattle.sheet.specs.Form.{form1};
 ghost use Rattle.sheet.specs.Sheet.{instancesFrom, noInstance};

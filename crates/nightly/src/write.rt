@@ -2,9 +2,9 @@
 use access::SERVICES;
 use access::read_access;
 use exchange::Table;
+use groups::put_groups;
 use lists::LIMIT;
 use numbers::Address;
-use octets::put_groups;
 use sheet::Outcome;
 use sheet::Refusal;
 use sheet::Written;

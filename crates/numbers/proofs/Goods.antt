@@ -17,7 +17,7 @@ use Rattle.laws.proofs.Picks.{pick-ind, pick-then, pick-else}
 use Rattle.octets.specs.declared.head.Head.the-variants as head
 use Rattle.octets.specs.declared.head.Head.{Head}
 use Rattle.octets.specs.Head.{headAt}
-use Rattle.octets.specs.Enumerated.{enumeratedAt}
+use Rattle.values.specs.Enumerated.{enumeratedAt}
 use Rattle.numbers.specs.Number.{most, unknown, public, other, allDigits, fair, digitsGood, typeGood, numberOf, digitsIn, valueOf, stringOf, stringAt, publicIn, otherTag, numberIn, numberAt, digitsOf, numberGood}
 use Rattle.numbers.specs.Address.{octetsIn, subIn, subAt, forwardedOf, addressIn, addressAt, addressGood}
 use Rattle.numbers.specs.declared.number.Number.{Number}

@@ -1,4 +1,3 @@
-pub mod Tables
 pub mod Goods
 pub mod Readers
 pub mod Sizes

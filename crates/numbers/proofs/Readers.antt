@@ -9,7 +9,7 @@ use native.Mathlib.Omega.{arith}
 use lib.ListN.{length, getD, take, drop, replicate}
 use lib.Seq.{drop-cons, drop-length, length-take-le, slice, length-slice}
 use lib.Dec.{ltb, eqb}
-use borrow.Author.Tests.{lt-ltb, le-ltb, le-leb, lt-leb, eq-eqb, ne-eqb}
+use borrow.Author.Tests.{lt-ltb, le-ltb, le-leb, lt-leb}
 use Rattle.laws.specs.Pick.{pick}
 use Rattle.laws.specs.Got.{Got, got, wrong, andThen}
 use Rattle.laws.specs.Over.{Puts}
@@ -17,13 +17,12 @@ use Rattle.laws.proofs.Over.{wrote, over-eq}
 use Rattle.laws.proofs.Parts.{part-slice}
 use Rattle.laws.proofs.Picks.{pick-ind}
 use Rattle.octets.specs.Head.{headAt}
-use Rattle.octets.specs.Enumerated.{enumeratedAt}
+use Rattle.values.specs.Enumerated.{enumeratedAt}
 use Rattle.octets.specs.declared.head.Head.{Head}
 use Rattle.octets.specs.declared.head.Head.the-variants as head
-use Rattle.octets.specs.declared.enumerated.Enumerated.{Enumerated}
-use Rattle.octets.specs.declared.enumerated.Enumerated.the-variants as enumerated
+use Rattle.values.specs.declared.enumerated.Enumerated.{Enumerated}
+use Rattle.values.specs.declared.enumerated.Enumerated.the-variants as enumerated
 use Rattle.octets.proofs.Within.{Within, within}
-use Rattle.numbers.specs.Codes.{placeOf}
 use Rattle.numbers.specs.Number.{most, unknown, public, padded, allDigits, digitsGood, digitsOf, numberGood, digitsIn, valueOf, fair, typeGood, stringOf, stringAt, publicIn, otherTag, numberIn, numberAt, numberRead}
 use Rattle.numbers.specs.Address.{octetsIn, subAt, subRead, forwardedOf, addressIn, addressAt, addressRead}
 use Rattle.numbers.specs.declared.number.Number.{Number}
@@ -32,37 +31,6 @@ use Rattle.numbers.specs.declared.address.Sub.{Sub}
 use Rattle.numbers.specs.declared.address.SubRead.{SubRead}
 use Rattle.numbers.specs.declared.address.Forwarded.{Forwarded}
 use Rattle.numbers.specs.declared.address.AddressRead.{AddressRead}
-
--- ---- the table of services
-
--- a search that has come to i finds the code there
-pub place-here :
-    (code : ℕ) (l : List ℕ) (i : ℕ) → i < length l → getD l i 0 ≡ code →
-    placeOf code l ≡ i + placeOf code (drop i l) →
-    i ≡ placeOf code l
-unfolding placeOf
-place-here code l i h e g =
-    let z : placeOf code (drop i l) ≡ 0 = rw (drop-cons l i 0 h, eq-eqb _ _ e) in
-    omega arith
-
--- a search that has come to i, where another code stands, goes on
-pub place-next :
-    (code : ℕ) (l : List ℕ) (i : ℕ) → i < length l → (getD l i 0 ≡ code → ⊥) →
-    placeOf code l ≡ i + placeOf code (drop i l) →
-    placeOf code l ≡ i + 1 + placeOf code (drop (i + 1) l)
-unfolding placeOf
-place-next code l i h e g =
-    let z : placeOf code (drop i l) ≡ suc (placeOf code (drop (suc i) l)) = rw (drop-cons l i 0 h, ne-eqb _ _ e) in
-    rw add-one (omega arith)
-
--- a search that has come to the end finds nothing
-pub place-none :
-    (code : ℕ) (l : List ℕ) → placeOf code l ≡ length l + placeOf code (drop (length l) l) →
-    length l ≡ placeOf code l
-unfolding placeOf
-place-none code l g =
-    let z : placeOf code (drop (length l) l) ≡ 0 = rw drop-length in
-    omega arith
 
 -- ---- digits
 

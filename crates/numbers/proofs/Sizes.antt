@@ -11,9 +11,9 @@ use borrow.Author.Tests.{eq-eqb, ne-eqb}
 use Rattle.laws.specs.Pick.{pick}
 use Rattle.laws.proofs.Picks.{pick-ind, pick-map}
 use Rattle.octets.specs.Element.{element}
-use Rattle.octets.specs.Enumerated.{enumeratedOctets}
+use Rattle.values.specs.Enumerated.{enumeratedOctets}
 use Rattle.octets.proofs.Elements.{length-small}
-use Rattle.octets.proofs.Enumerateds.{length-enumerated}
+use Rattle.values.proofs.Enumerateds.{length-enumerated}
 use Rattle.numbers.specs.Number.{most, unknown, public, allDigits, fair, digitsGood, typeGood, digitsOf, numberGood, numberOctets}
 use Rattle.numbers.specs.Address.{subOctetsOf, addressGood, subOctets, addressOctets}
 use Rattle.numbers.specs.declared.number.Number.{Number}

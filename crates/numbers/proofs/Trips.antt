@@ -13,11 +13,11 @@ use Rattle.laws.specs.Stands.{Stands}
 use Rattle.laws.proofs.Stands.{stands-left, stands-right, slice-stands}
 use Rattle.octets.specs.Head.{headAt}
 use Rattle.octets.specs.Element.{element}
-use Rattle.octets.specs.Enumerated.{enumeratedOctets}
+use Rattle.values.specs.Enumerated.{enumeratedOctets}
 use Rattle.octets.specs.declared.head.Head.{Head}
 use Rattle.octets.specs.declared.head.Head.the-variants as head
 use Rattle.octets.proofs.Elements.{length-small, Inside, inside}
-use Rattle.octets.proofs.Enumerateds.{enumerated-back}
+use Rattle.values.proofs.Enumerateds.{enumerated-back}
 use Rattle.numbers.specs.Number.{most, unknown, public, digitsGood, typeGood, numberOf, digitsIn, stringAt, publicIn, otherTag, numberIn, numberAt, digitsOf, tidyNumber, numberGood, numberOctets}
 use Rattle.numbers.specs.Address.{subOf, octetsIn, subAt, addressAt, subOctetsOf, tidyAddress, addressGood, subOctets, addressOctets}
 use Rattle.numbers.specs.declared.number.Number.{Number}

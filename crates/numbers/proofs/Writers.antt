@@ -8,7 +8,7 @@ use lib.ListN.{length, take}
 use Rattle.laws.specs.Over.{Wrote}
 use Rattle.laws.proofs.Over.{wrote, wrote-none, then, puts-then}
 use Rattle.octets.specs.Element.{PutHead, PutAll}
-use Rattle.octets.specs.Enumerated.{PutEnumerated}
+use Rattle.values.specs.Enumerated.{PutEnumerated}
 use Rattle.octets.proofs.Elements.{headed, room-headed}
 use Rattle.numbers.specs.Number.{most, unknown, digitsOf, numberOctets}
 use Rattle.numbers.specs.Address.{subOctetsOf, subOctets, addressOctets}

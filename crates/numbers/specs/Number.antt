@@ -12,11 +12,11 @@ use Rattle.laws.specs.Got.{Got, got, wrong, andThen}
 use Rattle.laws.specs.Over.{Puts}
 use Rattle.octets.specs.Head.{headAt}
 use Rattle.octets.specs.Element.{element}
-use Rattle.octets.specs.Enumerated.{enumeratedAt, enumeratedOctets}
+use Rattle.values.specs.Enumerated.{enumeratedAt, enumeratedOctets}
 use Rattle.octets.specs.declared.head.Head.{Head}
 use Rattle.octets.specs.declared.head.Head.the-variants as head
-use Rattle.octets.specs.declared.enumerated.Enumerated.{Enumerated}
-use Rattle.octets.specs.declared.enumerated.Enumerated.the-variants as enumerated
+use Rattle.values.specs.declared.enumerated.Enumerated.{Enumerated}
+use Rattle.values.specs.declared.enumerated.Enumerated.the-variants as enumerated
 use Rattle.numbers.specs.declared.number.Number.{Number}
 use Rattle.numbers.specs.declared.number.NumberRead.{NumberRead}
 

@@ -1,6 +1,5 @@
-// Codes, numbers and addresses of document 01: the records that hold them, and the octets they are read from and written as.
+// Numbers and addresses of document 01: the records that hold them, and the octets they are read from and written as.
 mod address;
-mod codes;
 mod number;
 mod write;
 
@@ -9,10 +8,6 @@ pub use address::AddressRead;
 pub use address::Forwarded;
 pub use address::address_at;
 pub use address::address_good;
-pub use codes::SERVICECOUNT;
-pub use codes::service_code;
-pub use codes::service_place;
-pub use codes::trunkreason;
 pub use number::Number;
 pub use number::NumberRead;
 pub use number::all_digits;

@@ -1,9 +1,9 @@
 // Numbers (document 01, "Numbers").
-use octets::Enumerated;
 use octets::Head;
-use octets::enumerated_at;
 use octets::head_at;
 use octets::put_all;
+use values::Enumerated;
+use values::enumerated_at;
 ghost use mathlib.Core.Path.{_≡_};
 ghost use Prim.Native.Nat.{_≤_};
 ghost use lib.ListN.{length};

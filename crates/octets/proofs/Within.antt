@@ -1,7 +1,7 @@
 -- An element that is found lies within the octets before `end`, takes at least two of them, and what follows it begins no
 -- earlier than its contents end. Callers go by these laws, never by the text of `headAt`. Assumes nothing.
 use Prim.Native.Nat.{ℕ, _+_, _-_, _%_, _<_, _≤_}
-use mathlib.Core.Path.{_≡_}
+use mathlib.Core.Path.{_≡_, refl}
 use mathlib.Core.List.{List}
 use native.Mathlib.Omega.{arith}
 use lib.ListN.{length, getD}
@@ -82,3 +82,8 @@ within depth s at end =
     pick-ind P (eqb (getD s at 0 % 32) 31) (λ _. tt) (λ _.
     tagged-in depth (length s) (getD s at 0) at end (lengthAt s (at + 1) end)
     (eqb-false depth 0 d) (ltb-false (length s) end e) (length-in s (at + 1) end)))))
+
+-- no element goes no elements deep
+pub head-none : (s : List ℕ) (at end : ℕ) → headAt 0 s at end ≡ head.Bad
+unfolding headAt
+head-none s at end = refl

@@ -3,15 +3,16 @@
 use Prim.Native.Nat.{ℕ, zero, suc, _+_, _-_, _*_, _/_, _%_, _^_, _≤_, _<_}
 use mathlib.Core.Path.{_≡_, refl, sym, ap, _∙_}
 use mathlib.Core.List.{List, [], _∷_}
-use native.Mathlib.Nat.{pow-le-pow-right}
+use native.Mathlib.Nat.{one-le-pow, pow-le-pow-right}
 use native.Mathlib.Numerals.{add-one}
 use native.Mathlib.Omega.{arith}
 use lib.ListN.{length, getD, set, length-append}
+use borrow.Author.Tests.{lt-ltb, le-ltb}
 use Rattle.laws.specs.Over.{over}
 use Rattle.laws.specs.Stands.{Stands}
 use Rattle.laws.proofs.Over.{over-nil, over-over, over-one, over-set}
 use Rattle.laws.proofs.Stands.{stands-left, stands-right, stands-first}
-use Rattle.octets.specs.Word.{wordAt, wordOctets, WordAt}
+use Rattle.octets.specs.Word.{wordAt, wordOctets, WordAt, wordMost, wordIn, WordIn}
 
 pub length-word : (k n : ℕ) → length (wordOctets k n) ≡ k
 unfolding wordOctets
@@ -33,6 +34,30 @@ word-back (suc k) n s at h st =
 -- a machine word holds the number of up to seven octets
 pub word-fits : (k : ℕ) → k ≤ 7 → 256 ^ k ≤ 2 ^ 56
 word-fits k h = pow-le-pow-right (omega arith) h
+
+-- ---- octets that need not be there
+
+-- they are there
+pub word-whole : (k : ℕ) (s : List ℕ) (at : ℕ) → k ≤ wordMost → at + k ≤ length s → wordIn k s at ≡ wordAt k s at
+unfolding wordIn
+word-whole k s at few h = rw (le-ltb wordMost k few, le-ltb (length s) (at + k) h)
+
+pub word-found :
+    {k : ℕ} {s : List ℕ} {at r : ℕ} → k ≤ wordMost → at + k ≤ length s → WordAt k s at r →
+    WordIn k s at r
+word-found {k} {s} {at} few h w = record { is = rw (word-whole k s at few h) (w .is); small = w .small }
+
+-- they are not, or are too many
+pub word-short : {k : ℕ} {s : List ℕ} {at : ℕ} → k ≤ wordMost → length s < at + k → WordIn k s at 0
+unfolding wordIn
+word-short {k} {s} {at} few h = record {
+  is = rw (le-ltb wordMost k few, lt-ltb (length s) (at + k) h);
+  small = one-le-pow k 256 (omega arith);
+}
+
+pub word-many : {k : ℕ} {s : List ℕ} {at : ℕ} → wordMost < k → WordIn k s at 0
+unfolding wordIn
+word-many {k} many = record { is = rw (lt-ltb wordMost k many); small = one-le-pow k 256 (omega arith) }
 
 -- ---- turns of the loops
 

@@ -6,7 +6,7 @@ ghost use mathlib.Core.List.{[], _∷_};
 ghost use Prim.Native.Nat.{_+_, _≤_, _<_};
 ghost use lib.ListN.{length};
 ghost use Rattle.laws.specs.Over.{Wrote};
-ghost use Rattle.octets.specs.Word.{wordOctets};
+ghost use Rattle.octets.specs.Word.{wordOctets, PutWord};
 ghost use Rattle.octets.specs.Head.{lengthMost};
 ghost use Rattle.octets.specs.Element.{lengthHolds, lengthFewest, headWith, HeadSize, PutHead, PutAll};
 
@@ -32,6 +32,19 @@ pub(crate) fn write_word(out: &mut [u8], at: usize, k: usize, n: usize) -> usize
         rest = rest / 256;
     }
     at + k
+}
+
+// The same for any crate to call.
+pub fn put_word(out: &mut [u8], at: usize, k: usize, n: usize) -> usize
+    ensures { λ r. ⌜ PutWord (now (out .entry)) at k n r (now (out .exit)) ⌝ }
+{
+    if out.len() < k {
+        return at;
+    }
+    if out.len() - k < at {
+        return at;
+    }
+    write_word(out, at, k, n)
 }
 
 // How many octets follow the first of the length `n`.

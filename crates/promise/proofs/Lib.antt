@@ -3,13 +3,17 @@ pub mod OnlyAccess
 pub mod OnlyAnswers
 pub mod OnlyCalls
 pub mod OnlyCard
+pub mod OnlyCodes
 pub mod OnlyCoding
 pub mod OnlyExchange
+pub mod OnlyGroups
 pub mod OnlyLists
 pub mod OnlyNightly
 pub mod OnlyNumbers
 pub mod OnlyOctets
 pub mod OnlyRules
 pub mod OnlySheet
+pub mod OnlySkip
 pub mod OnlyStore
 pub mod OnlyText
+pub mod OnlyValues

@@ -5,22 +5,12 @@ use mathlib.Core.Bool.{Bool}
 use mathlib.Core.List.{List}
 use Rattle.laws.proofs.Picks.{both}
 use Rattle.laws.proofs.Over.{only-puts}
-use Rattle.numbers.specs.Codes.{ServicePlace, TrunkReason, ServiceCode}
 use Rattle.numbers.specs.Number.{AllDigits, NumberAt, NumberGood, NumberSize, PutNumber}
 use Rattle.numbers.specs.Address.{AddressAt, AddressGood, AddressSize, PutAddress}
 use Rattle.numbers.specs.declared.number.Number.{Number}
 use Rattle.numbers.specs.declared.number.NumberRead.{NumberRead}
 use Rattle.numbers.specs.declared.address.Address.{Address}
 use Rattle.numbers.specs.declared.address.AddressRead.{AddressRead}
-
-pub only-service-place : (code : ℕ) {a b : ℕ} → ServicePlace code a → ServicePlace code b → a ≡ b
-only-service-place code = both
-
-pub only-service-code : (code : ℕ) {a b : Bool} → ServiceCode code a → ServiceCode code b → a ≡ b
-only-service-code code = both
-
-pub only-trunkreason : (reason : ℕ) {a b : ℕ} → TrunkReason reason a → TrunkReason reason b → a ≡ b
-only-trunkreason reason = both
 
 pub only-all-digits : (s : List ℕ) {a b : Bool} → AllDigits s a → AllDigits s b → a ≡ b
 only-all-digits s = both

@@ -4,11 +4,11 @@ use Rattle.laws.specs.Fewest.{fewestFrom}
 use Rattle.octets.specs.Word.{wordAt, wordOctets}
 use Rattle.octets.specs.Head.{spanOf, lengthBy, lengthAt, headAt}
 use Rattle.octets.specs.Element.{lengthHolds, lengthWith, lengthFewest}
-use Rattle.octets.specs.Enumerated.{enumeratedAt}
-use Rattle.octets.specs.Ident.{half, twos, bits, identHolds, identIn, identAt, identFewest}
-use Rattle.octets.specs.Skip.{fills}
-use Rattle.octets.specs.Groups.{groupsIn, groupsAt, groupsWith, groups}
-use Rattle.numbers.specs.Codes.{placeOf, serviceCode, procedureCode}
+use Rattle.values.specs.Enumerated.{enumeratedAt}
+use Rattle.values.specs.Ident.{half, twos, bits, identHolds, identIn, identAt, identFewest}
+use Rattle.skip.specs.Skip.{fills}
+use Rattle.groups.specs.Groups.{groupsIn, groupsAt, groupsWith, groups}
+use Rattle.codes.specs.Codes.{placeOf, serviceCode, procedureCode}
 use Rattle.numbers.specs.Number.{allDigits, fair, digitsGood, digitsIn, numberAt, numberOctets}
 use Rattle.numbers.specs.Address.{subAt, addressAt, subOctets, addressOctets}
 use Rattle.lists.specs.Entries.{entriesOctets, entriesFrom}

@@ -5,12 +5,12 @@ use mathlib.Core.List.{List, [], _∷_, _++_}
 use lib.IntN.{ℤ, pos, negsuc}
 use lib.ListN.{length, set, replicate}
 use Rattle.laws.specs.Got.{got}
-use Rattle.octets.specs.Ident.{identAt, identOctets}
-use Rattle.octets.specs.Groups.{groupsAt, groups}
-use Rattle.octets.specs.declared.ident.Ident.{Ident}
-use Rattle.octets.specs.declared.ident.Ident.the-variants as ident
-use Rattle.octets.specs.declared.groups.Groups.{Groups}
-use Rattle.octets.specs.declared.groups.Groups.the-variants as groups
+use Rattle.values.specs.Ident.{identAt, identOctets}
+use Rattle.groups.specs.Groups.{groupsAt, groups}
+use Rattle.values.specs.declared.ident.Ident.{Ident}
+use Rattle.values.specs.declared.ident.Ident.the-variants as ident
+use Rattle.groups.specs.declared.groups.Groups.{Groups}
+use Rattle.groups.specs.declared.groups.Groups.the-variants as groups
 use Rattle.numbers.specs.Number.{unknown, numberOf}
 use Rattle.numbers.specs.Address.{subOf, forwardedOf}
 use Rattle.lists.specs.Entries.{limit, entriesFrom}

@@ -7,7 +7,7 @@ use mathlib.Core.List.{List, [], _∷_, _++_}
 use lib.ListN.{take, getD}
 use lib.Dec.{ltb, leb, eqb}
 use Rattle.laws.specs.Pick.{pick}
-use Rattle.numbers.specs.Codes.{placeOf}
+use Rattle.codes.specs.Codes.{placeOf}
 use Rattle.numbers.specs.Number.{public, other, digitsOf}
 use Rattle.numbers.specs.declared.number.Number.{Number}
 use Rattle.access.specs.Profile.{servedNumbers, offered, barred, same, placeIn}

@@ -14,10 +14,10 @@ use Rattle.laws.specs.Stands.{Stands}
 use Rattle.laws.proofs.Gots.{found-is}
 use Rattle.laws.proofs.Picks.{pick-ind}
 use Rattle.laws.proofs.Stands.{stands-first, stands-right, stands-nil, stands-cons, slice-stands}
-use Rattle.octets.specs.Groups.{groups, groupsAt}
-use Rattle.octets.specs.declared.groups.Groups.{Groups}
-use Rattle.octets.specs.declared.groups.Groups.the-variants as variants
-use Rattle.octets.proofs.GroupLaws.{StandsTo, groups-at-only}
+use Rattle.groups.specs.Groups.{groups, groupsAt}
+use Rattle.groups.specs.declared.groups.Groups.{Groups}
+use Rattle.groups.specs.declared.groups.Groups.the-variants as variants
+use Rattle.groups.proofs.GroupLaws.{StandsTo, groups-at-only}
 use Rattle.numbers.specs.Number.{most, fair, padded}
 use Rattle.numbers.specs.declared.address.Address.{Address}
 use Rattle.sheet.specs.Form.{form1}

@@ -13,9 +13,9 @@ use Rattle.laws.specs.Got.{Got, got, wrong, andThen}
 use Rattle.laws.proofs.Gots.{Found, found-then, found-is}
 use Rattle.laws.proofs.Picks.{pick-ind}
 use Rattle.laws.proofs.Walks.{store-next}
-use Rattle.octets.specs.Groups.{groupsAt}
-use Rattle.octets.specs.declared.groups.Groups.{Groups}
-use Rattle.octets.specs.declared.groups.Groups.the-variants as groups
+use Rattle.groups.specs.Groups.{groupsAt}
+use Rattle.groups.specs.declared.groups.Groups.{Groups}
+use Rattle.groups.specs.declared.groups.Groups.the-variants as groups
 use Rattle.numbers.specs.Number.{most, padded}
 use Rattle.sheet.specs.Instance.{fieldOf, fieldAt, fieldsAt}
 use Rattle.sheet.specs.Reading.{anyField, fieldBelow, fieldsBelow, fieldRead, fieldsRead}

@@ -12,7 +12,7 @@ use Rattle.laws.specs.Pick.{pick}
 use Rattle.laws.specs.Got.{Got, got, wrong, andThen}
 use Rattle.laws.proofs.Gots.{Found, found-then, found-is}
 use Rattle.laws.proofs.Picks.{pick-ind, pick-then, pick-else}
-use Rattle.numbers.specs.Codes.{serviceCode}
+use Rattle.codes.specs.Codes.{serviceCode}
 use Rattle.numbers.specs.Number.{most, unknown, padded, fair, typeGood, allDigits, digitsOf, numberGood, numberOf}
 use Rattle.numbers.specs.Address.{subOf, forwardedOf}
 use Rattle.numbers.specs.declared.number.Number.{Number}

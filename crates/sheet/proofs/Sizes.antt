@@ -9,8 +9,8 @@ use native.Mathlib.Nat.{mul-suc}
 use native.Mathlib.Omega.{arith}
 use lib.ListN.{length, take, getD, length-append, length-map, length-take, List·getD-map}
 use lib.Seq.{getD-take}
-use Rattle.octets.specs.Groups.{groups}
-use Rattle.octets.proofs.GroupLaws.{groups-length}
+use Rattle.groups.specs.Groups.{groups}
+use Rattle.groups.proofs.GroupLaws.{groups-length}
 use Rattle.numbers.specs.Number.{most, digitsOf}
 use Rattle.numbers.specs.Address.{addressGood}
 use Rattle.numbers.specs.declared.number.Number.{Number}

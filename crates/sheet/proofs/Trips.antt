@@ -15,8 +15,8 @@ use Rattle.laws.specs.Got.{got}
 use Rattle.laws.specs.Stands.{Stands}
 use Rattle.laws.proofs.Picks.{pick-else}
 use Rattle.laws.proofs.Stands.{stands-left, stands-right}
-use Rattle.octets.specs.Groups.{groups}
-use Rattle.octets.proofs.GroupLaws.{groups-at-back}
+use Rattle.groups.specs.Groups.{groups}
+use Rattle.groups.proofs.GroupLaws.{groups-at-back}
 use Rattle.numbers.specs.Number.{most, fair, allDigits, digitsOf}
 use Rattle.numbers.specs.Address.{subOctetsOf, tidyAddress, addressGood}
 use Rattle.numbers.specs.declared.number.Number.{Number}

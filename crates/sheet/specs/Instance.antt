@@ -7,10 +7,10 @@ use lib.ListN.{length, take}
 use lib.Dec.{ltb, leb, eqb}
 use Rattle.laws.specs.Pick.{pick}
 use Rattle.laws.specs.Got.{Got, got, wrong, andThen}
-use Rattle.octets.specs.Groups.{groups, groupsAt}
-use Rattle.octets.specs.declared.groups.Groups.{Groups}
-use Rattle.octets.specs.declared.groups.Groups.the-variants as groups
-use Rattle.numbers.specs.Codes.{serviceCode}
+use Rattle.groups.specs.Groups.{groups, groupsAt}
+use Rattle.groups.specs.declared.groups.Groups.{Groups}
+use Rattle.groups.specs.declared.groups.Groups.the-variants as groups
+use Rattle.codes.specs.Codes.{serviceCode}
 use Rattle.numbers.specs.Number.{unknown, most, fair, typeGood, numberOf, digitsOf}
 use Rattle.numbers.specs.Address.{subOf, forwardedOf, subOctetsOf}
 use Rattle.numbers.specs.declared.address.Address.{Address}

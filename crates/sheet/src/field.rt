@@ -1,6 +1,6 @@
 // The fields of a night sheet: numbers in groups of seven bits, each within its bound (document 01, "Night sheet").
-use octets::Groups;
-use octets::groups_at;
+use groups::Groups;
+use groups::groups_at;
 ghost use mathlib.Core.Path.{_≡_};
 ghost use Prim.Native.Nat.{_+_, _≤_};
 ghost use Rattle.laws.specs.Got.{wrong};

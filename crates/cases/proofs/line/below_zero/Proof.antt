@@ -2,7 +2,7 @@ use native.Mathlib.Omega.{arith}
 use Prim.Native.Nat.{_%_}
 use mir.Syntax.{w16}
 use mir.Facts.{toZ-pos}
-use Rattle.octets.proofs.Signs.{minus}
+use Rattle.values.proofs.Signs.{minus}
 use borrow.Author.Needs.{needs}
 use Rattle.cases.proofs.line.below_zero.Statement.{statement}
 use Rattle.cases.proofs.line.below_zero.Tie as tie

@@ -1,4 +1,4 @@
-use Rattle.octets.proofs.Signs.{machine-negative, machine-positive, machine-magnitude}
+use Rattle.values.proofs.Signs.{machine-negative, machine-positive, machine-magnitude}
 use mir.Val.{toZ, ofZ}
 use mir.Facts.{toZ-ofZ}
 use mir.Syntax.{w16}

@@ -1,6 +1,6 @@
 use Rattle.coding.specs.Heard.{insideDepth}
 use Rattle.octets.proofs.Within.{within}
-use Rattle.octets.proofs.Signs.{machine-positive}
+use Rattle.values.proofs.Signs.{machine-positive}
 use mir.Val.{SFits}
 use mir.Syntax.{w16}
 use Rattle.coding.proofs.Readers.{argument-negative, argument-local}

@@ -1,5 +1,5 @@
-use Rattle.octets.proofs.Skips.{further}
-use Rattle.octets.specs.Skip.{skipDepth}
+use Rattle.skip.proofs.Skips.{further}
+use Rattle.skip.specs.Skip.{skipDepth}
 use Rattle.coding.proofs.Readers.{privates-past, privates-step}
 use Rattle.coding.specs.Request.{privateAt, privates}
 use native.Mathlib.Omega.{arith}

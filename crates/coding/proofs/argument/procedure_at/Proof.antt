@@ -1,4 +1,4 @@
-use Rattle.numbers.proofs.Tables.{procedure-code}
+use Rattle.codes.proofs.Tables.{procedure-code}
 use Rattle.coding.specs.Request.{codeAt}
 use borrow.Author.Tests.{lt-ltb, le-ltb}
 use mathlib.Core.Path.{sym, _∙_}

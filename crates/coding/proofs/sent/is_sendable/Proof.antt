@@ -1,5 +1,5 @@
 use Rattle.coding.specs.Sent.{sendable}
-use Rattle.numbers.proofs.Tables.{procedure-code}
+use Rattle.codes.proofs.Tables.{procedure-code}
 use borrow.Author.Tests.{lt-ltb, le-ltb}
 use borrow.Author.Needs.{needs}
 use Rattle.coding.proofs.sent.is_sendable.Statement.{statement}

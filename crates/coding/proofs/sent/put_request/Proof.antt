@@ -1,7 +1,7 @@
 use Rattle.coding.specs.Sent.{requestOctets}
 use Rattle.coding.proofs.Senders.{room-contents, request-wrote, not-sendable, not-room, is-sent}
 use Rattle.coding.proofs.Sizes.{contents-size, operation-size, inside-size, request-size}
-use Rattle.octets.proofs.Idents.{ident-most}
+use Rattle.values.proofs.Idents.{ident-most}
 use mir.Facts.{toZ-ofZ, toZ-pos}
 use mir.Syntax.{w16}
 use lib.ListN.{length}

@@ -1,4 +1,4 @@
-use Rattle.octets.proofs.Signs.{machine-negative, machine-positive, machine-magnitude}
+use Rattle.values.proofs.Signs.{machine-negative, machine-positive, machine-magnitude}
 use lib.Signed.{mag}
 use lib.IntN.{pos, negsuc, _-ℤ_}
 use mir.Facts.{toZ-ofZ}

@@ -3,7 +3,7 @@ use Rattle.lists.specs.Entries.{listed}
 use Rattle.lists.specs.Listed.{listOctets}
 use Rattle.laws.proofs.Over.{wrote-taken, wrote-count, puts-all, puts-none}
 use Rattle.octets.proofs.Elements.{head-most}
-use Rattle.octets.proofs.Idents.{ident-most}
+use Rattle.values.proofs.Idents.{ident-most}
 use mir.Facts.{toZ-ofZ}
 use lib.ListN.{length}
 use mathlib.Core.Path.{_∙_}

@@ -1,0 +1,5 @@
+// Elements that nobody reads are skipped.
+mod skip;
+
+pub use skip::Skip;
+pub use skip::skip_at;

@@ -1,0 +1,3 @@
+pub mod Enumerateds
+pub mod Signs
+pub mod Idents
