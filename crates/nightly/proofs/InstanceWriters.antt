@@ -11,7 +11,7 @@ use Rattle.laws.specs.Pick.{pick}
 use Rattle.laws.specs.Places.{gathered}
 use Rattle.laws.specs.Over.{Wrote}
 use Rattle.laws.proofs.Picks.{pick-ind}
-use Rattle.laws.proofs.Over.{then, wrote-none}
+use Rattle.laws.proofs.Over.{wrote-length, then, wrote-none}
 use Rattle.laws.proofs.Walks.{gathered-none, gathered-more}
 use Rattle.groups.specs.Groups.{PutGroups}
 use Rattle.store.specs.Row.{numberOfPlace, cellAt, active}
@@ -24,7 +24,7 @@ use Rattle.sheet.specs.Sheet.{sheetOctets}
 use Rattle.nightly.specs.Write.{Room, Space, WroteInstances, cellInstances, placeInstances}
 use Rattle.sheet.specs.declared.instance.Instance.{Instance}
 use Rattle.sheet.proofs.Sizes.{instance-fields, instances-none, instances-one, instances-both, sheet-octets, InstanceFits, instance-most, head-most}
-use Rattle.nightly.proofs.Writers.{field-room, field-wrote, field-last, wrote-length, gathered-grows}
+use Rattle.nightly.proofs.Writers.{field-room, field-wrote, field-last, gathered-grows}
 
 -- ---- what the places of an array give, one after the other
 

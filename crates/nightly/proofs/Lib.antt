@@ -5,3 +5,10 @@ pub mod WrittenOrder
 pub mod WrittenSheets
 pub mod Placings
 pub mod Tables
+pub mod PlacedCells
+pub mod PlacedOrder
+pub mod InstanceCounts
+pub mod ReadTables
+pub mod WrittenInstances
+pub mod TableTrips
+pub mod PromiseTrips

@@ -9,8 +9,6 @@ use lib.ListN.{getD}
 use lib.Dec.{ltb, eqb}
 use borrow.Author.Tests.{ltb-true}
 use Rattle.laws.specs.Pick.{pick}
-use Rattle.laws.specs.Got.{Got, got, wrong, andThen}
-use Rattle.laws.proofs.Gots.{found-is}
 use Rattle.laws.proofs.Picks.{pick-then}
 use Rattle.codes.specs.Codes.{placeOf}
 use Rattle.access.specs.Profile.{offered}
@@ -18,17 +16,15 @@ use Rattle.access.specs.declared.profile.Profile.{Profile}
 use Rattle.store.specs.Grid.{noGrid}
 use Rattle.store.specs.declared.grid.Grid.{Grid}
 use Rattle.sheet.specs.Form.{form1}
-use Rattle.sheet.specs.Instance.{instanceAt}
-use Rattle.sheet.specs.Sheet.{follows, runOf, instancesFrom, noInstance}
-use Rattle.sheet.specs.Formed.{Holds, instanceRead}
+use Rattle.sheet.specs.Sheet.{instancesFrom, noInstance}
+use Rattle.sheet.specs.Formed.{Holds, InstanceFound}
 use Rattle.nightly.specs.Record.{inProfile, allIn, placed, allPlaced}
 use Rattle.nightly.specs.Reading.{notPlaced, gridRead}
 use Rattle.sheet.specs.declared.instance.Instance.{Instance}
 use Rattle.sheet.specs.declared.read.InstanceRead.{InstanceRead}
 use Rattle.nightly.specs.declared.table.GridRead.{GridRead}
-use Rattle.sheet.proofs.Parts.{Thened, then-got, test-got, got-same}
-use Rattle.sheet.proofs.Readers.{Ranged, instance-ranged}
-use Rattle.sheet.proofs.Sheets.{instances-end, instances-step}
+use Rattle.sheet.proofs.Bounds.{Bounded}
+use Rattle.sheet.proofs.Walks.{Left, left-first, left-none, left-bounded, left-others, left-is, left-next}
 
 -- ---- instances in a profile
 
@@ -58,13 +54,6 @@ module _ (p : Profile) where
   unfolding allPlaced
   placed-more grid i is = refl
 
--- an instance that was found is the one that the answer names
-instance-told :
-    (g : Got Instance) (r : InstanceRead) → r ≡ instanceRead g → {i : Instance} {next : ℕ} → g ≡ got i next →
-    g ≡ got (r .instance) (r .next)
-instance-told g r e {i} {next} f =
-    f ∙ sym (ap (λ (x : InstanceRead). got (x .instance) (x .next)) (e ∙ ap instanceRead f))
-
 -- what comes of a grid with some instances more
 abbrev gridOn : Profile → Grid → List Instance → GridRead
 gridOn p grid is = pick (allIn p is) (record { ok = true; grid = allPlaced p grid is }) notPlaced
@@ -73,22 +62,16 @@ gridOn p grid is = pick (allIn p is) (record { ok = true; grid = allPlaced p gri
 -- decides.
 pub record Placing (p : Profile) (s : List ℕ) (at count : ℕ) (grid : Grid) (here i : ℕ) : Type 0 where
   pub few : i ≤ count
-  pub last : Instance
-  pub run : ℕ
   pub rest : List Instance
-  pub next : ℕ
-  pub found : instancesFrom form1 (count - i) last run s here ≡ got rest next
+  pub left : Left s here (count - i) rest
   pub decides : gridRead p (instancesFrom form1 count noInstance 0 s at) ≡ gridOn p grid rest
 
 module _ (p : Profile) (s : List ℕ) (at count : ℕ) where
   pub placing-first : Holds (instancesFrom form1 count noInstance 0 s at) → Placing p s at count noGrid at 0
   placing-first there = record {
     few = omega arith;
-    last = noInstance;
-    run = 0;
     rest = there .thing;
-    next = there .next;
-    found = rw sub-zero (there .is);
+    left = rw sub-zero (left-first s at count (there .thing) (there .next) (there .is));
     decides = rw (there .is);
   }
 
@@ -99,65 +82,42 @@ module _ (p : Profile) (s : List ℕ) (at count : ℕ) where
         _≡_ {A = GridRead} record { ok = true; grid = grid } (gridRead p (instancesFrom form1 count noInstance 0 s at))
     placing-all h =
         let none : count - i ≡ 0 = omega arith in
-        let end : [] ≡ so .rest = got-same (sym (instances-end form1 s (so .last) (so .run) here) ∙ rw none at (so .found)) in
+        let end : [] ≡ so .rest = left-none s here (so .rest) (rw none at (so .left)) in
         rw (so .decides, ← end, all-none p, placed-none p grid)
 
     module _ (more : i < count) where
-      left-one : count - i ≡ suc (count - (i + 1))
-      left-one = omega arith
-
-      after : Instance → ℕ → Got (List Instance)
-      after k q =
-          pick (follows form1 (so .last) (so .run) k)
-          (andThen (instancesFrom form1 (count - (i + 1)) k (runOf (so .last) (so .run) k) s q) (λ ks r. got (k ∷ ks) r)) wrong
-
-      unfolded : andThen (instanceAt form1 s here) after ≡ got (so .rest) (so .next)
-      unfolding after
-      unfolded =
-          sym (instances-step form1 s (count - (i + 1)) (so .last) (so .run) here) ∙ rw left-one at (so .found)
+      one-left : Left s here (suc (count - (i + 1))) (so .rest)
+      one-left = let one : count - i ≡ suc (count - (i + 1)) = omega arith in rw one at (so .left)
 
       -- the next one is there, as the reader names it
-      module _ (r : InstanceRead) (told : r ≡ instanceRead (instanceAt form1 s here)) where
+      module _ (r : InstanceRead) (told : InstanceFound s here r) where
         abbrev k : Instance
         k = r .instance
 
-        abbrev q : ℕ
-        q = r .next
+        pub placing-bounded : Bounded k
+        placing-bounded = left-bounded s here (count - (i + 1)) (so .rest) one-left r told
 
-        placing-there : instanceAt form1 s here ≡ got k q
-        placing-there =
-            instance-told (instanceAt form1 s here) r told (then-got (instanceAt form1 s here) after unfolded .first)
+        others : List Instance
+        others = left-others s here (count - (i + 1)) (so .rest) one-left r told
 
-        pub placing-ranged : Ranged k
-        placing-ranged = found-is Ranged placing-there (instance-ranged s here)
-
-        -- and others after it
-        others :
-            Thened (instancesFrom form1 (count - (i + 1)) k (runOf (so .last) (so .run) k) s q) (λ ks r. got (k ∷ ks) r)
-            (so .rest) (so .next)
-        unfolding after
-        others =
-            then-got _ _ (test-got (follows form1 (so .last) (so .run) k) _ (rw placing-there at unfolded) .1)
-
-        is-rest : k ∷ others .thing ≡ so .rest
-        is-rest = got-same (others .rest)
+        is-rest : k ∷ others ≡ so .rest
+        unfolding others
+        is-rest = left-is s here (count - (i + 1)) (so .rest) one-left r told
 
         -- it is not in the profile
         pub placing-out :
             inProfile p k ≡ false → gridRead p (instancesFrom form1 count noInstance 0 s at) ≡ notPlaced
-        placing-out h = so .decides ∙ ap (gridOn p grid) (sym is-rest) ∙ rw (all-more p k (others .thing), h)
+        placing-out h = so .decides ∙ ap (gridOn p grid) (sym is-rest) ∙ rw (all-more p k others, h)
 
         -- it is: the reader goes on after it
-        pub placing-next : inProfile p k ≡ true → Placing p s at count (placed p grid k) q (i + 1)
+        pub placing-next : inProfile p k ≡ true → Placing p s at count (placed p grid k) (r .next) (i + 1)
+        unfolding others
         placing-next h = record {
           few = omega arith;
-          last = k;
-          run = runOf (so .last) (so .run) k;
-          rest = others .thing;
-          next = others .place;
-          found = others .first;
+          rest = others;
+          left = left-next s here (count - (i + 1)) (so .rest) one-left r told;
           decides =
               so .decides
               ∙ ap (gridOn p grid) (sym is-rest)
-              ∙ rw (all-more p k (others .thing), h, placed-more p grid k (others .thing));
+              ∙ rw (all-more p k others, h, placed-more p grid k others);
         }

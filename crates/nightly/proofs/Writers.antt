@@ -11,7 +11,7 @@ use lib.ListN.{length, take, getD, length-append, length-take}
 use lib.Seq.{take-suc, getD-take}
 use Rattle.laws.specs.Places.{gathered}
 use Rattle.laws.specs.Over.{Wrote}
-use Rattle.laws.proofs.Over.{length-over, then, wrote-none, puts-then, room-then, room-after}
+use Rattle.laws.proofs.Over.{wrote-length, then, wrote-none, puts-then, room-then, room-after}
 use Rattle.laws.proofs.Walks.{gathered-none, gathered-more}
 use Rattle.groups.specs.Groups.{PutGroups}
 use Rattle.numbers.specs.Number.{most, digitsOf}
@@ -36,11 +36,6 @@ pub field-last :
     {xs : List ℕ} {at : ℕ} (n : ℕ) {p : ℕ} {ys : List ℕ} → Room xs at (allGroups (n ∷ [])) → PutGroups xs at n p ys →
     Wrote xs at (allGroups (n ∷ [])) p ys
 field-last n fits put = field-wrote n [] fits put (rw fields-none wrote-none)
-
--- what is written over keeps its length
-pub wrote-length :
-    {xs : List ℕ} {at : ℕ} {ws : List ℕ} {n : ℕ} {ys : List ℕ} → Wrote xs at ws n ys → length ys ≡ length xs
-wrote-length {xs} {at} {ws} w = ap length (w .holds) ∙ length-over xs at ws
 
 -- ---- what the places of an array give, one after the other
 

@@ -212,7 +212,7 @@ sub-read depth s at end sub last e =
 abbrev pub ToUnless : Forwarded → Type 0
 ToUnless to = (to .address .number .form ≡ other → ⊥) → addressGood (to .address) ≡ true
 
-parts-good : (n : Number) (sub : Sub) → sub .count ≤ most → GoodUnless n → ToUnless (forwardedOf n sub)
+pub parts-good : (n : Number) (sub : Sub) → sub .count ≤ most → GoodUnless n → ToUnless (forwardedOf n sub)
 unfolding addressGood
 parts-good n sub few good kind = rw (le-ltb most (sub .count) few) (good kind)
 

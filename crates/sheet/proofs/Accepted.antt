@@ -5,8 +5,8 @@ use mathlib.Core.Bool.{Bool, true}
 use mathlib.Core.List.{List, [], _∷_, _++_, map}
 use native.Mathlib.Nat.{add-zero}
 use native.Mathlib.Omega.{arith}
-use lib.ListN.{length, take, getD, replicate, length-append, length-map}
-use lib.Seq.{take-append-le, take-length}
+use lib.ListN.{length, getD, length-append, length-map}
+use lib.Seq.{take-length}
 use lib.Dec.{ltb, leb, eqb}
 use borrow.Author.Tests.{eqb-true}
 use Rattle.laws.specs.Got.{got}
@@ -18,7 +18,7 @@ use Rattle.groups.specs.Groups.{groups, groupsAt}
 use Rattle.groups.specs.declared.groups.Groups.{Groups}
 use Rattle.groups.specs.declared.groups.Groups.the-variants as variants
 use Rattle.groups.proofs.GroupLaws.{StandsTo, groups-at-only}
-use Rattle.numbers.specs.Number.{most, fair, padded}
+use Rattle.numbers.specs.Number.{most, fair}
 use Rattle.numbers.specs.declared.address.Address.{Address}
 use Rattle.sheet.specs.Form.{form1}
 use Rattle.sheet.specs.Instance.{allGroups, digitOf, addressOf, addressFields, instanceFields, fieldOf, fieldAt, fieldsAt, kindGood, addressIn, serviceOf, instanceAt}
@@ -28,7 +28,7 @@ use Rattle.sheet.proofs.Parts.{FoundAt, found-at-then, found-at-is}
 use Rattle.sheet.proofs.Fields.{Passing, field-passes, fields-passing}
 use Rattle.sheet.proofs.Sizes.{sheet-octets}
 use Rattle.sheet.proofs.Sheets.{instances-count}
-use Rattle.sheet.proofs.Trips.{groups-none, groups-more, groups-both}
+use Rattle.sheet.proofs.Trips.{groups-none, groups-more, groups-both, kept}
 use Rattle.sheet.proofs.SheetTrips.{octets-none, octets-more}
 
 -- ---- what stands one after the other
@@ -103,9 +103,6 @@ module _ (s : List ℕ) (small : (i : ℕ) → getD s i 0 < 256) where
 digits-back : (ds : List ℕ) → map digitOf (map (λ d. 48 + d) ds) ≡ ds
 digits-back [] = refl
 digits-back (d ∷ ds) = let same : 48 + d - 48 ≡ d = omega arith in rw (same, digits-back ds)
-
-kept : (ws : List ℕ) → take (length ws) (padded ws) ≡ ws
-kept ws = take-append-le (length ws) ws (replicate (most - length ws) 0) (omega arith) ∙ take-length ws
 
 -- the fields of the record that a reader makes are those that it read
 made-fields :

@@ -2,8 +2,11 @@
 use Prim.Native.Nat.{_<_}
 use mathlib.Core.Path.{_≡_}
 use mathlib.Core.Bool.{true}
+use mathlib.Core.Logic.{_⊎_, inl, inr}
 use native.Mathlib.Omega.{arith}
-use borrow.Author.Tests.{eq-eqb, ne-eqb, lt-ltb}
+use lib.Dec.{eqb}
+use borrow.Author.Tests.{eq-eqb, ne-eqb, lt-ltb, eqb-true, ltb-true}
+use Rattle.laws.proofs.Picks.{pick-ind}
 use Rattle.sheet.specs.Sheet.{before}
 use Rattle.sheet.specs.declared.instance.Instance.{Instance}
 
@@ -25,3 +28,21 @@ module _ (i k : Instance) where
     before-service number less =
         rw (eq-eqb (i .procedure) (k .procedure) same, eq-eqb (i .number) (k .number) number)
         (lt-ltb (i .service) (k .service) less)
+
+  -- and one that does has the lower procedure, or number of the same procedure, or service of the same number
+  abbrev pub Earlier : Type 0
+  Earlier =
+      (i .procedure < k .procedure)
+      ⊎ ((i .procedure ≡ k .procedure)
+      × ((i .number < k .number) ⊎ ((i .number ≡ k .number) × (i .service < k .service))))
+
+  pub before-earlier : before i k ≡ true → Earlier
+  unfolding before
+  before-earlier =
+      pick-ind (λ t. t ≡ true → Earlier) (eqb (i .procedure) (k .procedure))
+      (λ e.
+      let same = eqb-true (i .procedure) (k .procedure) e in
+      pick-ind (λ t. t ≡ true → Earlier) (eqb (i .number) (k .number))
+      (λ f h. inr (same, inr (eqb-true (i .number) (k .number) f, ltb-true (i .service) (k .service) h)))
+      (λ _ h. inr (same, inl (ltb-true (i .number) (k .number) h))))
+      (λ _ h. inl (ltb-true (i .procedure) (k .procedure) h))

@@ -6,8 +6,8 @@ use mathlib.Core.List.{List, [], _∷_, _++_, map, append-assoc}
 use mathlib.Core.Logic.{⊎-elim}
 use native.Mathlib.Nat.{add-zero}
 use native.Mathlib.Omega.{arith}
-use lib.ListN.{length, length-append, length-map}
-use lib.Seq.{length-take-le}
+use lib.ListN.{length, take, replicate, length-append, length-map}
+use lib.Seq.{length-take-le, take-append-seam}
 use lib.Dec.{ltb, leb}
 use borrow.Author.Tests.{lt-ltb, le-leb, eq-eqb, ltb-false, ltb-true}
 use Rattle.laws.specs.Pick.{pick}
@@ -17,7 +17,7 @@ use Rattle.laws.proofs.Picks.{pick-else}
 use Rattle.laws.proofs.Stands.{stands-left, stands-right}
 use Rattle.groups.specs.Groups.{groups}
 use Rattle.groups.proofs.GroupLaws.{groups-at-back}
-use Rattle.numbers.specs.Number.{most, fair, allDigits, digitsOf}
+use Rattle.numbers.specs.Number.{most, padded, fair, allDigits, digitsOf}
 use Rattle.numbers.specs.Address.{subOctetsOf, tidyAddress, addressGood}
 use Rattle.numbers.specs.declared.number.Number.{Number}
 use Rattle.numbers.specs.declared.address.Address.{Address}
@@ -226,6 +226,14 @@ tidyInstance i = record {
   service = i .service;
   address = tidyAddress (i .address);
 }
+
+-- zeros after octets stay out of what is counted
+pub kept : (ws : List ℕ) → take (length ws) (padded ws) ≡ ws
+kept ws = take-append-seam ws (replicate (most - length ws) 0)
+
+-- zeros past the digits and octets stay zeros
+pub tidy-twice : (i : Instance) → tidyInstance (tidyInstance i) ≡ tidyInstance i
+tidy-twice i = rw (kept (digitsOf (i .address .number)), kept (subOctetsOf (i .address)))
 
 pub instance-back :
     (i : Instance) → Fits i → (s : List ℕ) (at : ℕ) → Standing s at (instanceFields i) →

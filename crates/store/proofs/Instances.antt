@@ -1,10 +1,16 @@
--- The instance at a place, over plain values. Assumes nothing.
+-- The instance at a place, and what a row holds there, over plain values. Assumes nothing.
 use Prim.Native.Nat.{ℕ, _≤_}
-use mathlib.Core.Path.{_≡_}
-use mathlib.Core.Bool.{true}
+use mathlib.Core.Path.{_≡_, ap}
+use mathlib.Core.Bool.{true, false}
+use mathlib.Core.Option.{none, some}
 use lib.ListN.{length, List·getD-eq-default}
-use Rattle.laws.proofs.Picks.{pick-ind}
-use Rattle.store.specs.Row.{outside, cellAt, active, noInstance, instanceAt}
+use lib.Dec.{eqb}
+use borrow.Author.Tests.{eqb-false}
+use Rattle.laws.specs.Pick.{pick}
+use Rattle.laws.proofs.Picks.{pick-ind, pick-else}
+use Rattle.numbers.specs.Address.{tidyAddress}
+use Rattle.store.specs.Row.{outside, cellAt, active, held, noInstance, instanceAt}
+use Rattle.store.specs.declared.row.Cell.{Cell}
 use Rattle.store.specs.declared.row.Instance.{Instance}
 use Rattle.store.specs.declared.row.Row.{Row}
 use Rattle.store.proofs.Turns.{is-active, not-active}
@@ -33,3 +39,28 @@ module _ (row : Row) (j : ℕ) where
   pub instance-address : active row j ≡ true → instanceAt row j .address ≡ cellAt row j .address
   unfolding instanceAt
   instance-address h = rw h
+
+  -- the service of an instance that is active is no 0
+  pub active-some : active row j ≡ true → cellAt row j .service ≡ 0 → ⊥
+  unfolding active
+  active-some h = eqb-false (cellAt row j .service) 0 (pick-else (eqb (cellAt row j .service) 0) true h .0)
+
+  -- the row holds its address, and nothing where none is active
+  pub held-some : active row j ≡ true → held row j ≡ some (tidyAddress (cellAt row j .address))
+  unfolding held
+  held-some h = rw h
+
+  pub held-none : active row j ≡ false → held row j ≡ none
+  unfolding held
+  held-none h = rw h
+
+  -- both go by the cell alone
+  module _ (other : Row) (same : cellAt row j ≡ cellAt other j) where
+    pub active-same : active row j ≡ active other j
+    unfolding active
+    active-same = ap (λ (x : Cell). pick (eqb (x .service) 0) false true) same
+
+    pub held-same : held row j ≡ held other j
+    unfolding held active
+    held-same =
+        ap (λ (x : Cell). pick (pick (eqb (x .service) 0) false true) (some (tidyAddress (x .address))) none) same

@@ -1,4 +1,4 @@
-use Rattle.nightly.proofs.Placings.{Placing, placing-first, placing-ranged, placing-out, placing-next, placing-all, in-slot}
+use Rattle.nightly.proofs.Placings.{Placing, placing-first, placing-bounded, placing-out, placing-next, placing-all, in-slot}
 use Rattle.nightly.specs.Record.{placed}
 use borrow.Author.Tests.{not-true, not-false}
 use borrow.Author.Needs.{needs}
@@ -24,7 +24,7 @@ instance-at-requires : tie.Need-instance-at-requires Inv-loop μ-loop
 instance-at-requires c κs = search needs
 
 in-profile-requires : tie.Need-in-profile-requires Inv-loop μ-loop
-in-profile-requires c κs = let a = c .before .before .before .before .before .before .args in let l = c .before .before .before .loop in let here = c .before .before .loop-test .taken in let told = c .before .instance-at .ensures in placing-ranged (a .p) (a .s .now) (a .at) (a .count) (l .grid) (l .here) (l .i) (l .inv) here _ told .0
+in-profile-requires c κs = let a = c .before .before .before .before .before .before .args in let l = c .before .before .before .loop in let here = c .before .before .loop-test .taken in let told = c .before .instance-at .ensures in placing-bounded (a .p) (a .s .now) (a .at) (a .count) (l .grid) (l .here) (l .i) (l .inv) here _ told .procedure
 
 no-grid-requires : tie.Need-no-grid-requires Inv-loop μ-loop
 no-grid-requires c κs = search needs
@@ -33,28 +33,28 @@ returns : tie.Need-returns Inv-loop μ-loop
 returns c = let a = c .before .before .before .before .before .before .before .before .before .args in let l = c .before .before .before .before .before .before .loop in let here = c .before .before .before .before .before .loop-test .taken in let told = c .before .before .before .before .instance-at .ensures in rw (placing-out (a .p) (a .s .now) (a .at) (a .count) (l .grid) (l .here) (l .i) (l .inv) here _ told (sym (c .before .before .in-profile .ensures) ∙ not-true _ (c .before .if1 .taken))) (c .no-grid .ensures)
 
 place-in-requires : tie.Need-place-in-requires Inv-loop μ-loop
-place-in-requires c κs = let a = c .before .before .before .before .before .before .before .before .args in let l = c .before .before .before .before .before .loop in let here = c .before .before .before .before .loop-test .taken in let told = c .before .before .before .instance-at .ensures in let slot = in-slot (a .p) _ (sym (c .before .in-profile .ensures) ∙ not-false _ (c .if1 .left)) in (placing-ranged (a .p) (a .s .now) (a .at) (a .count) (l .grid) (l .here) (l .i) (l .inv) here _ told .1, omega (arith, slot, c .before .before .before .before .before .before .before .before .pre .0))
+place-in-requires c κs = let a = c .before .before .before .before .before .before .before .before .args in let l = c .before .before .before .before .before .loop in let here = c .before .before .before .before .loop-test .taken in let told = c .before .before .before .instance-at .ensures in let slot = in-slot (a .p) _ (sym (c .before .in-profile .ensures) ∙ not-false _ (c .if1 .left)) in (placing-bounded (a .p) (a .s .now) (a .at) (a .count) (l .grid) (l .here) (l .i) (l .inv) here _ told .number, omega (arith, slot, c .before .before .before .before .before .before .before .before .pre .0))
 
 cast-procedure : tie.Need-cast-procedure Inv-loop μ-loop
 cast-procedure c = search needs
 
 mul-row : tie.Need-mul-row Inv-loop μ-loop
-mul-row c = let a = c .before .before .before .before .before .before .before .before .before .before .before .args in let l = c .before .before .before .before .before .before .before .before .loop in let here = c .before .before .before .before .before .before .before .loop-test .taken in let told = c .before .before .before .before .before .before .instance-at .ensures in omega (arith, placing-ranged (a .p) (a .s .now) (a .at) (a .count) (l .grid) (l .here) (l .i) (l .inv) here _ told .0)
+mul-row c = let a = c .before .before .before .before .before .before .before .before .before .before .before .args in let l = c .before .before .before .before .before .before .before .before .loop in let here = c .before .before .before .before .before .before .before .loop-test .taken in let told = c .before .before .before .before .before .before .instance-at .ensures in omega (arith, placing-bounded (a .p) (a .s .now) (a .at) (a .count) (l .grid) (l .here) (l .i) (l .inv) here _ told .procedure)
 
 element-copy-out-row : tie.Need-element-copy-out-row Inv-loop μ-loop
-element-copy-out-row c = let a = c .before .before .before .before .before .before .before .before .before .before .before .args in let l = c .before .before .before .before .before .before .before .before .loop in let here = c .before .before .before .before .before .before .before .loop-test .taken in let told = c .before .before .before .before .before .before .instance-at .ensures in placing-ranged (a .p) (a .s .now) (a .at) (a .count) (l .grid) (l .here) (l .i) (l .inv) here _ told .0
+element-copy-out-row c = let a = c .before .before .before .before .before .before .before .before .before .before .before .args in let l = c .before .before .before .before .before .before .before .before .loop in let here = c .before .before .before .before .before .before .before .loop-test .taken in let told = c .before .before .before .before .before .before .instance-at .ensures in placing-bounded (a .p) (a .s .now) (a .at) (a .count) (l .grid) (l .here) (l .i) (l .inv) here _ told .procedure
 
 mul-t17 : tie.Need-mul-t17 Inv-loop μ-loop
-mul-t17 c = let a = c .before .before .before .before .before .before .before .before .before .before .before .before .args in let l = c .before .before .before .before .before .before .before .before .before .loop in let here = c .before .before .before .before .before .before .before .before .loop-test .taken in let told = c .before .before .before .before .before .before .before .instance-at .ensures in let slot = in-slot (a .p) _ (sym (c .before .before .before .before .before .in-profile .ensures) ∙ not-false _ (c .before .before .before .before .if1 .left)) in omega (arith, placing-ranged (a .p) (a .s .now) (a .at) (a .count) (l .grid) (l .here) (l .i) (l .inv) here _ told .1, slot, c .before .before .before .before .before .before .before .before .before .before .before .before .pre .0, c .before .before .before .place-in .ensures)
+mul-t17 c = let a = c .before .before .before .before .before .before .before .before .before .before .before .before .args in let l = c .before .before .before .before .before .before .before .before .before .loop in let here = c .before .before .before .before .before .before .before .before .loop-test .taken in let told = c .before .before .before .before .before .before .before .instance-at .ensures in let slot = in-slot (a .p) _ (sym (c .before .before .before .before .before .in-profile .ensures) ∙ not-false _ (c .before .before .before .before .if1 .left)) in omega (arith, placing-bounded (a .p) (a .s .now) (a .at) (a .count) (l .grid) (l .here) (l .i) (l .inv) here _ told .number, slot, c .before .before .before .before .before .before .before .before .before .before .before .before .pre .0, c .before .before .before .place-in .ensures)
 
 element-set-from-row : tie.Need-element-set-from-row Inv-loop μ-loop
-element-set-from-row c = let a = c .before .before .before .before .before .before .before .before .before .before .before .before .args in let l = c .before .before .before .before .before .before .before .before .before .loop in let here = c .before .before .before .before .before .before .before .before .loop-test .taken in let told = c .before .before .before .before .before .before .before .instance-at .ensures in let slot = in-slot (a .p) _ (sym (c .before .before .before .before .before .in-profile .ensures) ∙ not-false _ (c .before .before .before .before .if1 .left)) in omega (arith, placing-ranged (a .p) (a .s .now) (a .at) (a .count) (l .grid) (l .here) (l .i) (l .inv) here _ told .1, slot, c .before .before .before .before .before .before .before .before .before .before .before .before .pre .0, c .before .before .before .place-in .ensures)
+element-set-from-row c = let a = c .before .before .before .before .before .before .before .before .before .before .before .before .args in let l = c .before .before .before .before .before .before .before .before .before .loop in let here = c .before .before .before .before .before .before .before .before .loop-test .taken in let told = c .before .before .before .before .before .before .before .instance-at .ensures in let slot = in-slot (a .p) _ (sym (c .before .before .before .before .before .in-profile .ensures) ∙ not-false _ (c .before .before .before .before .if1 .left)) in omega (arith, placing-bounded (a .p) (a .s .now) (a .at) (a .count) (l .grid) (l .here) (l .i) (l .inv) here _ told .number, slot, c .before .before .before .before .before .before .before .before .before .before .before .before .pre .0, c .before .before .before .place-in .ensures)
 
 mul-t17-2 : tie.Need-mul-t17-2 Inv-loop μ-loop
-mul-t17-2 c = let a = c .before .before .before .before .before .before .before .before .before .before .before .before .args in let l = c .before .before .before .before .before .before .before .before .before .loop in let here = c .before .before .before .before .before .before .before .before .loop-test .taken in let told = c .before .before .before .before .before .before .before .instance-at .ensures in omega (arith, placing-ranged (a .p) (a .s .now) (a .at) (a .count) (l .grid) (l .here) (l .i) (l .inv) here _ told .0)
+mul-t17-2 c = let a = c .before .before .before .before .before .before .before .before .before .before .before .before .args in let l = c .before .before .before .before .before .before .before .before .before .loop in let here = c .before .before .before .before .before .before .before .before .loop-test .taken in let told = c .before .before .before .before .before .before .before .instance-at .ensures in omega (arith, placing-bounded (a .p) (a .s .now) (a .at) (a .count) (l .grid) (l .here) (l .i) (l .inv) here _ told .procedure)
 
 element-set-from-grid : tie.Need-element-set-from-grid Inv-loop μ-loop
-element-set-from-grid c = let a = c .before .before .before .before .before .before .before .before .before .before .before .before .args in let l = c .before .before .before .before .before .before .before .before .before .loop in let here = c .before .before .before .before .before .before .before .before .loop-test .taken in let told = c .before .before .before .before .before .before .before .instance-at .ensures in placing-ranged (a .p) (a .s .now) (a .at) (a .count) (l .grid) (l .here) (l .i) (l .inv) here _ told .0
+element-set-from-grid c = let a = c .before .before .before .before .before .before .before .before .before .before .before .before .args in let l = c .before .before .before .before .before .before .before .before .before .loop in let here = c .before .before .before .before .before .before .before .before .loop-test .taken in let told = c .before .before .before .before .before .before .before .instance-at .ensures in placing-bounded (a .p) (a .s .now) (a .at) (a .count) (l .grid) (l .here) (l .i) (l .inv) here _ told .procedure
 
 add-i : tie.Need-add-i Inv-loop μ-loop
 add-i c = search needs

@@ -1,4 +1,5 @@
-use Rattle.nightly.proofs.Writers.{wrote-length, digits-above, digits-room, sub-room, address-wrote}
+use Rattle.laws.proofs.Over.{wrote-length}
+use Rattle.nightly.proofs.Writers.{digits-above, digits-room, sub-room, address-wrote}
 use Rattle.numbers.specs.Number.{most}
 use Rattle.numbers.proofs.Goods.{good-number, good-address}
 use lib.ListN.{length}

@@ -1,5 +1,5 @@
 use Rattle.sheet.proofs.Sizes.{InstanceFits}
-use Rattle.nightly.proofs.Writers.{wrote-length}
+use Rattle.laws.proofs.Over.{wrote-length}
 use Rattle.nightly.proofs.InstanceWriters.{cell-empty, cell-room, cell-wrote, cellInstance}
 use Prim.Native.Nat.{ℕ}
 use mathlib.Core.Path.{_≡_}

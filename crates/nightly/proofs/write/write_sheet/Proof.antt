@@ -1,4 +1,4 @@
-use Rattle.nightly.proofs.Writers.{wrote-length}
+use Rattle.laws.proofs.Over.{wrote-length}
 use Rattle.nightly.proofs.InstanceWriters.{sheet-space, sheet-wrote}
 use Rattle.nightly.proofs.WrittenSheets.{writes-short, writes-profile, writes-table, writes-sheet, refused-writes, sheet-writes, Ready, ready}
 use Rattle.sheet.specs.Form.{form1, sheetMost}

@@ -1,0 +1,222 @@
+-- A table that is written as a night sheet and read again: a table with the same last handled identifier that holds the same.
+-- Assumes nothing.
+use Prim.Native.Nat.{ℕ, zero, suc, _+_, _*_, _<_}
+use mathlib.Core.Path.{_≡_, refl, sym, ap, _∙_}
+use mathlib.Core.Bool.{true, false}
+use mathlib.Core.List.{List, [], _∷_, _++_, map, map-append}
+use mathlib.Core.Option.{none, some}
+use native.Mathlib.Nat.{add-zero}
+use native.Mathlib.Omega.{arith}
+use lib.ListN.{length}
+use lib.Dec.{ltb, eqb}
+use borrow.Author.Tests.{lt-ltb, le-ltb, ltb-true, ltb-false, eqb-true, eqb-false}
+use Rattle.laws.specs.Pick.{pick}
+use Rattle.laws.specs.Places.{gathered}
+use Rattle.laws.proofs.Picks.{pick-ind}
+use Rattle.laws.proofs.Stands.{stands-whole}
+use Rattle.laws.proofs.Walks.{gathered-none, gathered-more}
+use Rattle.numbers.specs.Address.{tidyAddress}
+use Rattle.access.specs.Access.{accessRead}
+use Rattle.access.specs.Profile.{servicesMost, profileGood}
+use Rattle.access.specs.declared.profile.Profile.{Profile}
+use Rattle.access.proofs.Records.{access-good, access-services}
+use Rattle.lists.specs.Entries.{limit}
+use Rattle.store.specs.Row.{places, cellAt, active, held}
+use Rattle.store.specs.Grid.{procedures, noGrid, rowAt}
+use Rattle.store.specs.declared.row.Cell.{Cell}
+use Rattle.store.specs.declared.row.Row.{Row}
+use Rattle.store.specs.declared.grid.Grid.{Grid}
+use Rattle.store.proofs.Turns.{is-active}
+use Rattle.store.proofs.Instances.{active-some, held-some, held-none, held-same}
+use Rattle.exchange.specs.Table.{tableGood}
+use Rattle.exchange.specs.declared.table.Table.{Table}
+use Rattle.exchange.proofs.Tables.{table-good}
+use Rattle.sheet.specs.Form.{form1}
+use Rattle.sheet.specs.Sheet.{sheetOctets}
+use Rattle.sheet.specs.declared.instance.Instance.{Instance}
+use Rattle.sheet.proofs.Parts.{by-test}
+use Rattle.sheet.proofs.Trips.{tidyInstance, tidy-twice}
+use Rattle.sheet.proofs.SheetTrips.{sheet-back}
+use Rattle.nightly.specs.Instances.{instanceOf, instancesOf}
+use Rattle.nightly.specs.Record.{Read, placeIn, placed, allPlaced, readSheet}
+use Rattle.nightly.specs.Write.{placeInstances}
+use Rattle.nightly.proofs.WrittenTables.{rowOf, rows-all}
+use Rattle.nightly.proofs.WrittenInstances.{Arrays, one-place, table-sheeted, table-all}
+use Rattle.nightly.proofs.PlacedCells.{Shaped, shaped-none, none-active, placed-shaped, cell-here, cell-else}
+
+-- ---- places in the order of procedures
+
+-- what is below the next place and not at this one is below this one
+below-next : (x n : ℕ) → (x ≡ n → ⊥) → ltb x n ≡ ltb x (suc n)
+below-next x n other =
+    by-test (ltb x n)
+    (λ e. rw (e, lt-ltb x (suc n) (omega (arith, ltb-true x n e))))
+    (λ e. rw (e, le-ltb x (suc n) (omega (arith, ltb-false x n e, other))))
+
+module _ (p : Profile) where
+  placed-both : (grid : Grid) (xs ys : List Instance) → allPlaced p grid (xs ++ ys) ≡ allPlaced p (allPlaced p grid xs) ys
+  unfolding allPlaced
+  placed-both grid [] ys = refl
+  placed-both grid (x ∷ xs) ys = placed-both (placed p grid x) xs ys
+
+  -- a walk over what places give, place by place
+  placed-gathered :
+      (P : ℕ → Grid → Type 0) (f : ℕ → List Instance) (n : ℕ) (grid : Grid) → P 0 grid →
+      ((j : ℕ) (g : Grid) → j < n → P j g → P (suc j) (allPlaced p g (map tidyInstance (f j)))) →
+      P n (allPlaced p grid (map tidyInstance (gathered f n)))
+  unfolding allPlaced
+  placed-gathered P f zero grid first step = rw (gathered-none f) first
+  placed-gathered P f (suc n) grid first step =
+      rw (
+        gathered-more f n,
+        map-append tidyInstance (gathered f n) (f n),
+        placed-both grid (map tidyInstance (gathered f n)) (map tidyInstance (f n)),
+      )
+      (step n (allPlaced p grid (map tidyInstance (gathered f n))) (omega arith)
+      (placed-gathered P f n grid first (λ j g lt. step j g (omega arith))))
+
+-- ---- a grid on which instances of a table were placed
+
+-- it holds what the table does at the first n places, and nothing at others
+record Copied (t : Table) (n : ℕ) (grid : Grid) : Type 0 where
+  shaped : Shaped grid
+  holds : (k j : ℕ) → k < procedures → j < places →
+      held (rowAt grid k) j ≡ pick (ltb (places * k + j) n) (held (rowAt (t .grid) k) j) none
+
+copied-none : (t : Table) → Copied t 0 noGrid
+copied-none t = record {
+  shaped = shaped-none;
+  holds = λ k j h lt. rw (le-ltb (places * k + j) 0 (omega arith)) (held-none (rowAt noGrid k) j (none-active k j h lt));
+}
+
+-- one place more: it holds there what the table does, and at the others what it did
+copied-step :
+    (t : Table) (k j : ℕ) → k < procedures → j < places → (grid more : Grid) → Copied t (places * k + j) grid → Shaped more →
+    held (rowAt more k) j ≡ held (rowAt (t .grid) k) j →
+    ((l m : ℕ) → (l ≡ k → m ≡ j → ⊥) → held (rowAt more l) m ≡ held (rowAt grid l) m) →
+    Copied t (suc (places * k + j)) more
+copied-step t k j h lt grid more so shaped here others = record {
+  shaped = shaped;
+  holds = λ l m hl lm. by-test (eqb (places * l + m) (places * k + j))
+      (λ e.
+      let same = eqb-true (places * l + m) (places * k + j) e in
+      let row : l ≡ k = omega (arith, same, lt, lm) in
+      let place : m ≡ j = omega (arith, same, lt, lm) in
+      rw (row, place, lt-ltb (places * k + j) (suc (places * k + j)) (omega arith)) here)
+      (λ e.
+      let apart = eqb-false (places * l + m) (places * k + j) e in
+      others l m (λ a b. apart (rw (a, b)))
+      ∙ so .holds l m hl lm
+      ∙ ap (λ b. pick b (held (rowAt (t .grid) l) m) none) (below-next (places * l + m) (places * k + j) apart));
+}
+
+module _ (p : Profile) (t : Table) (good : tableGood limit p t ≡ true) (profile : profileGood p ≡ true)
+    (long : length (p .services) ≡ servicesMost) where
+  -- an instance of the table is placed where it is there
+  module _ (k j : ℕ) (h : k < procedures) (lt : j < places) (grid : Grid) (so : Copied t (places * k + j) grid) where
+    abbrev row : Row
+    row = rowAt (t .grid) k
+
+    module _ (there : active row j ≡ true) where
+      abbrev one : Instance
+      one = tidyInstance (instanceOf (t .grid) k j)
+
+      abbrev more : Grid
+      more = placed p grid one
+
+      its : placeIn p one ≡ j
+      its = one-place p t good profile long k j h lt there
+
+      room : placeIn p one < places
+      room = omega (arith, its, lt)
+
+      its-cell : cellAt (rowAt more k) j ≡ record { service = one .service; address = one .address }
+      its-cell = ap (λ (m : ℕ). cellAt (rowAt more k) m) (sym its) ∙ cell-here p grid (so .shaped) one h room
+
+      its-held : held (rowAt more k) j ≡ held row j
+      its-held =
+          let used : active (rowAt more k) j ≡ true =
+          is-active (rowAt more k) j (λ e. active-some row j there (sym (ap (λ (x : Cell). x .service) its-cell) ∙ e)) in
+          held-some (rowAt more k) j used
+          ∙ ap (λ (x : Cell). some (tidyAddress (x .address))) its-cell
+          ∙ ap (λ (i : Instance). some (i .address)) (tidy-twice (instanceOf (t .grid) k j))
+          ∙ sym (held-some row j there)
+
+      copied-next : Copied t (suc (places * k + j)) more
+      copied-next =
+          copied-step t k j h lt grid more so (placed-shaped p grid (so .shaped) one h room) its-held (λ l m other.
+          held-same (rowAt more l) m (rowAt grid l) (cell-else p grid (so .shaped) one h room l m (λ a b. other a (b ∙ its))))
+
+    -- where there is none, nothing is placed
+    copied-skip : active row j ≡ false → Copied t (suc (places * k + j)) grid
+    copied-skip empty =
+        copied-step t k j h lt grid grid so (so .shaped)
+        (so .holds k j h lt
+        ∙ rw (le-ltb (places * k + j) (places * k + j) (omega arith)) (sym (held-none row j empty)))
+        (λ l m _. refl)
+
+    copied-place : Copied t (places * k + suc j) (allPlaced p grid (map tidyInstance (placeInstances k row j)))
+    unfolding allPlaced
+    copied-place =
+        let next : places * k + suc j ≡ suc (places * k + j) = omega arith in
+        rw next
+        (pick-ind (λ is. Copied t (suc (places * k + j)) (allPlaced p grid (map tidyInstance is))) (active row j)
+        copied-next
+        copied-skip)
+
+  copied-row :
+      (k : ℕ) (grid : Grid) → k < procedures → Copied t (places * k) grid →
+      Copied t (places * suc k) (allPlaced p grid (map tidyInstance (rowOf (t .grid) k)))
+  copied-row k grid h so =
+      let next : places * suc k ≡ places * k + places = omega arith in
+      rw next
+      (placed-gathered p (λ j g. Copied t (places * k + j) g) (placeInstances k (rowAt (t .grid) k)) places grid
+      (rw (add-zero (places * k)) so)
+      (λ j g lt now. copied-place k j h lt g now))
+
+  copied-all : Copied t (places * procedures) (allPlaced p noGrid (map tidyInstance (instancesOf (t .grid))))
+  copied-all =
+      rw (rows-all (t .grid))
+      (placed-gathered p (λ k g. Copied t (places * k) g) (rowOf (t .grid)) procedures noGrid (copied-none t) copied-row)
+
+  all-held :
+      (k j : ℕ) → k < procedures → j < places →
+      held (rowAt (allPlaced p noGrid (map tidyInstance (instancesOf (t .grid)))) k) j ≡ held (rowAt (t .grid) k) j
+  all-held k j h lt =
+      copied-all .holds k j h lt ∙ rw (lt-ltb (places * k + j) (places * procedures) (omega (arith, h, lt)))
+
+-- ---- tables that hold the same
+
+-- at every place of every procedure, with the same last handled identifier
+pub record Alike (t u : Table) : Type 0 where
+  pub last : u .last ≡ t .last
+  pub holds : (k j : ℕ) → k < procedures → j < places → held (rowAt (u .grid) k) j ≡ held (rowAt (t .grid) k) j
+
+-- a sheet that is read as a table like t
+pub record ReadsAs (access s : List ℕ) (t : Table) : Type 0 where
+  pub accepted : readSheet access s .number ≡ 0
+  pub alike : Alike t (readSheet access s .table)
+
+-- the octets of a table that breaks no rule are read as that table
+pub table-back :
+    (access : List ℕ) (t : Table) → accessRead access .ok ≡ true → tableGood limit (accessRead access .profile) t ≡ true →
+    Arrays t →
+    ReadsAs access (sheetOctets form1 (t .last) (instancesOf (t .grid))) t
+unfolding readSheet
+table-back access t ok good arrays =
+    let p : Profile = accessRead access .profile in
+    let profile = access-good access ok in
+    let long = access-services access in
+    let s : List ℕ = sheetOctets form1 (t .last) (instancesOf (t .grid)) in
+    let found =
+    sheet-back (t .last) (instancesOf (t .grid)) s (table-good limit p t good .0) (table-sheeted p t good profile long arrays)
+    (stands-whole s) refl in
+    let again : Table = record { last = t .last; grid = allPlaced p noGrid (map tidyInstance (instancesOf (t .grid))) } in
+    let is : readSheet access s ≡ record { number = 0; table = again } = rw (ok, found, table-all p t good profile long) in
+    record {
+      accepted = ap (λ (r : Read). r .number) is;
+      alike = record {
+        last = ap (λ (r : Read). r .table .last) is;
+        holds = λ k j h lt. ap (λ (r : Read). held (rowAt (r .table .grid) k) j) is ∙ all-held p t good profile long k j h lt;
+      };
+    }
