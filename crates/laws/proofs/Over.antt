@@ -108,6 +108,11 @@ module _ {xs ws : List ℕ} {n : ℕ} {ys : List ℕ} (w : Wrote xs 0 ws n ys) (
   pub wrote-count : n ≡ length (take n ys)
   wrote-count = rw wrote-taken (omega (arith, w .moved))
 
+-- what is written over keeps its length
+pub wrote-length :
+    {xs : List ℕ} {at : ℕ} {ws : List ℕ} {n : ℕ} {ys : List ℕ} → Wrote xs at ws n ys → length ys ≡ length xs
+wrote-length {xs} {at} {ws} w = ap length (w .holds) ∙ length-over xs at ws
+
 -- nothing is written
 pub wrote-none : {xs : List ℕ} {at : ℕ} → Wrote xs at [] at xs
 wrote-none {xs} {at} = record { moved = omega arith; holds = sym (over-nil xs at) }

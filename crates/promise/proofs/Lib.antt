@@ -7,6 +7,7 @@ pub mod OnlyCodes
 pub mod OnlyCoding
 pub mod OnlyExchange
 pub mod OnlyGroups
+pub mod OnlyLister
 pub mod OnlyLists
 pub mod OnlyNightly
 pub mod OnlyNumbers

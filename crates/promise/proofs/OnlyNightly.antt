@@ -6,17 +6,9 @@ use Rattle.laws.proofs.Picks.{both}
 use Rattle.exchange.specs.declared.table.Table.{Table}
 use Rattle.sheet.specs.declared.record.Outcome.{Outcome}
 use Rattle.sheet.specs.declared.record.Written.{Written}
-use Rattle.sheet.proofs.Outcomes.{outcome-same}
+use Rattle.sheet.proofs.Outcomes.{outcome-same, written-same}
 use Rattle.nightly.specs.Record.{WritesSheet, ReadsSheet}
 use Rattle.nightly.specs.declared.table.SheetRead.{SheetRead}
-
-abbrev writtenOf : Outcome → ℕ → Written
-writtenOf outcome count = record { outcome = outcome; count = count }
-
--- an answer is its parts
-written-same : (r q : Written) → r .outcome ≡ q .outcome → r .count ≡ q .count → r ≡ q
-written-same r q outcome count =
-    ap (λ (o : Outcome). writtenOf o (r .count)) outcome ∙ ap (writtenOf (q .outcome)) count
 
 pub only-write-sheet :
     (access : List ℕ) (t : Table) (xs : List ℕ) {r q : Written} {ys zs : List ℕ} → WritesSheet access t xs r ys →

@@ -1,4 +1,4 @@
--- The samples of document 01 that are marked P, as one table. `Each samples` is the one statement about them.
+-- The samples of document 01 that are marked P, and its night sheet, as one table. `Each samples` is the one statement about them.
 use Prim.Native.Nat.{ℕ}
 use mathlib.Core.Path.{_≡_}
 use mathlib.Core.List.{List, [], _∷_, _++_}
@@ -24,6 +24,9 @@ use Rattle.store.specs.Grid.{noRow}
 use Rattle.exchange.specs.Table.{freshTable, withRow, withLast}
 use Rattle.exchange.specs.Arrive.{outputLeast, done}
 use Rattle.exchange.specs.declared.table.Table.{Table}
+use Rattle.sheet.specs.Form.{form1, sheetMost}
+use Rattle.lister.specs.Listing.{listingMost, printedSheet}
+use Rattle.nightly.specs.Record.{wroteSheet}
 use Rattle.calls.specs.Divert.{Told, refuses, passes, diverts, comes}
 use Rattle.coding.specs.Heard.{local, heard}
 use Rattle.coding.specs.Request.{activation, interrogation, allNumbers, nowhere, requestOf, argumentAt}
@@ -49,8 +52,10 @@ pub data Sample : Type 0 where
   lists-entries : List ℕ → (at end : ℕ) → List Entry → Sample
   arrives : (access : List ℕ) → Table → List ℕ → (reply : List ℕ) → (next : Table) → Sample
   diverts-to : (access : List ℕ) → Table → (call : List ℕ) → Told → (counter option : ℕ) → Sample
+  writes-sheet : (access : List ℕ) → Table → (sheet : List ℕ) → Sample
+  prints-sheet : (sheet text : List ℕ) → Sample
 
--- what a sample says: octets are read from the first to the end, and the output lent to the exchange is the least there may be
+-- what a sample says: octets are read from the first to the end, and output that is lent is the least there may be
 abbrev pub Says : Sample → Type 0
 Says (reads-identifier s r) = identAt 1 s 0 (length s) ≡ r
 Says (writes-identifier z s) = identOctets z ≡ s
@@ -66,6 +71,8 @@ Says (arrives access t s reply next) =
     (done access t s outputLeast .octets ≡ reply) × (done access t s outputLeast .table ≡ next)
 Says (diverts-to access t s is counter option) =
     (comes access t s .told ≡ is) × (comes access t s .call .counter ≡ counter) × (comes access t s .call .option ≡ option)
+Says (writes-sheet access t s) = wroteSheet access t (sheetMost form1) .octets ≡ s
+Says (prints-sheet s text) = printedSheet s (listingMost form1) ≡ text
 
 abbrev pub Each : List Sample → Type 0
 Each [] = Unit {0}
@@ -118,6 +125,20 @@ activatedTable =
 abbrev pub callWith : ℕ → ℕ → List ℕ
 callWith counter option = 0 ∷ 1 ∷ 1 ∷ counter ∷ option ∷ 0 ∷ 0 ∷ 0 ∷ replicate 20 0
 
+-- "Sheet `01 02 01 01 00 01 00 00 05 02 04 06 08 00 00`"
+abbrev pub nightSheet : List ℕ
+nightSheet =
+    0x01 ∷ 0x02 ∷ 0x01 ∷ 0x01 ∷ 0x00 ∷ 0x01 ∷ 0x00 ∷ 0x00 ∷ 0x05 ∷ 0x02 ∷ 0x04 ∷ 0x06 ∷ 0x08 ∷ 0x00 ∷ 0x00 ∷ []
+
+-- "`form 1 last 2 count 1` then `cfb 0 1 u 24680 -`", and "`refused 9`"
+abbrev pub nightListing : List ℕ
+nightListing =
+    0x66 ∷ 0x6F ∷ 0x72 ∷ 0x6D ∷ 0x20 ∷ 0x31 ∷ 0x20 ∷ 0x6C ∷ 0x61 ∷ 0x73 ∷ 0x74 ∷ 0x20 ∷ 0x32 ∷ 0x20 ∷ 0x63 ∷ 0x6F ∷ 0x75 ∷ 0x6E ∷ 0x74 ∷ 0x20 ∷ 0x31 ∷ 0x0A
+    ∷ 0x63 ∷ 0x66 ∷ 0x62 ∷ 0x20 ∷ 0x30 ∷ 0x20 ∷ 0x31 ∷ 0x20 ∷ 0x75 ∷ 0x20 ∷ 0x32 ∷ 0x34 ∷ 0x36 ∷ 0x38 ∷ 0x30 ∷ 0x20 ∷ 0x2D ∷ 0x0A ∷ []
+
+abbrev pub refusedListing : List ℕ
+refusedListing = 0x72 ∷ 0x65 ∷ 0x66 ∷ 0x75 ∷ 0x73 ∷ 0x65 ∷ 0x64 ∷ 0x20 ∷ 0x39 ∷ 0x0A ∷ []
+
 abbrev pub samples : List Sample
 samples =
     -- "identifier 128 is `02 02 00 80`, −128 is `02 01 80`"; "`02 02 00 7F` is unreadable"
@@ -168,4 +189,8 @@ samples =
     ∷ diverts-to sampleAccess freshTable (callWith 5 0) passes 0 0
     -- "option 2 received, profile 1, counter 1: 1"
     ∷ diverts-to (accessWith 1) activatedTable (callWith 1 2) (diverts 2 1) 2 1
+    -- the table that the activation left as a night sheet, its listing, and that of no sheet
+    ∷ writes-sheet sampleAccess activatedTable nightSheet
+    ∷ prints-sheet nightSheet nightListing
+    ∷ prints-sheet [] refusedListing
     ∷ []

@@ -78,3 +78,6 @@ module _ (s : List ℕ) (f : Formed s) (r : Opening) (e : r ≡ openingRead (ope
 
   pub opened-last : r .last ≡ f .opened .last
   opened-last = ap (λ (x : Opening). x .last) opened-is
+
+  pub opened-count : r .count ≡ f .opened .count
+  opened-count = ap (λ (x : Opening). x .count) opened-is

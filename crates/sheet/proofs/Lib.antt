@@ -2,10 +2,14 @@ pub mod Sizes
 pub mod Fields
 pub mod Parts
 pub mod Readers
+pub mod Bounds
 pub mod Sheets
 pub mod Formed
+pub mod Walks
+pub mod Counts
 pub mod Order
 pub mod Trips
 pub mod SheetTrips
 pub mod Accepted
+pub mod AcceptedSheets
 pub mod Outcomes

@@ -10,7 +10,7 @@ use lib.Dec.{ltb, leb, eqb, leb·suc-suc}
 use borrow.Author.Tests.{lt-ltb, le-ltb, eq-eqb, ne-eqb, ltb-true, eqb-true}
 use Rattle.laws.specs.Pick.{pick}
 use Rattle.laws.specs.Got.{Got, got, wrong, andThen}
-use Rattle.laws.proofs.Gots.{Found, found-then, found-is}
+use Rattle.laws.proofs.Gots.{found-is}
 use Rattle.laws.proofs.Picks.{pick-ind, pick-then, pick-else}
 use Rattle.codes.specs.Codes.{serviceCode}
 use Rattle.numbers.specs.Number.{most, unknown, padded, fair, typeGood, allDigits, digitsOf, numberGood, numberOf}
@@ -19,8 +19,7 @@ use Rattle.numbers.specs.declared.number.Number.{Number}
 use Rattle.numbers.specs.declared.address.Address.{Address}
 use Rattle.numbers.proofs.Goods.{fair-some, some-fair, type-most, good-number, digits-fair}
 use Rattle.numbers.proofs.Readers.{digits-step, digits-end, record-good}
-use Rattle.sheet.specs.Form.{form1}
-use Rattle.sheet.specs.Instance.{fieldAt, fieldsAt, kindGood, addressIn, serviceOf, instanceAt}
+use Rattle.sheet.specs.Instance.{fieldAt, fieldsAt, kindGood, addressIn, serviceOf}
 use Rattle.sheet.specs.Formed.{instanceRead}
 use Rattle.sheet.specs.Reading.{fieldBelow, fieldsBelow, numberIn, forwardedRead}
 use Rattle.sheet.specs.declared.instance.Instance.{Instance}
@@ -43,7 +42,7 @@ count-small : (n : ℕ) → fair n ≡ true → ltb n 21 ≡ true
 count-small n e = lt-ltb n 21 (omega (arith, fair-some n e))
 
 -- characters of digits
-characters : (ds : List ℕ) → AllPass (λ d. ltb d 10) ds → allDigits (map (λ d. 48 + d) ds) ≡ true
+pub characters : (ds : List ℕ) → AllPass (λ d. ltb d 10) ds → allDigits (map (λ d. 48 + d) ds) ≡ true
 characters [] h = digits-end []
 characters (d ∷ ds) h =
     let small : d < 10 = ltb-true d 10 (h .0) in
@@ -66,7 +65,7 @@ module _ (form kind : ℕ) (cs : List ℕ) (low : form < 2) (digits : allDigits 
   shaped (suc zero) h = refl
   shaped (suc (suc n)) h = absurd (omega arith)
 
-  fair-good : fair (length cs) ≡ true → numberGood (numberOf form kind cs) ≡ kindGood form kind
+  pub fair-good : fair (length cs) ≡ true → numberGood (numberOf form kind cs) ≡ kindGood form kind
   fair-good e =
       let some = fair-some (length cs) e in
       record-good (numberOf form kind cs) (some .0) (some .1) long ∙ rw (held, digits) (shaped form low)
@@ -258,16 +257,3 @@ pub instance-named :
     (g : Got Instance) (r : InstanceRead) (i : Instance) (next : ℕ) → r ≡ instanceRead g → g ≡ got i next →
     (r .instance ≡ i) × (r .next ≡ next)
 instance-named g r i next e f = (rw (e, f), rw (e, f))
-
--- its procedure and number are within the form's bounds
-abbrev pub Ranged : Instance → Type 0
-Ranged i = (i .procedure < 3) × (i .number < 4)
-
-pub instance-ranged : (s : List ℕ) (at : ℕ) → Found Ranged (instanceAt form1 s at)
-unfolding instanceAt
-instance-ranged s at =
-    found-then Ranged (fieldBelow 3 s at) _ (λ procedure p e.
-    found-then Ranged (fieldBelow 4 s p) _ (λ number q f.
-    found-then Ranged (fieldAt serviceOf s q) _ (λ service a _.
-    found-then Ranged (addressIn s a) _ (λ address next _.
-    (below-small s at 3 procedure p e, below-small s p 4 number q f)))))

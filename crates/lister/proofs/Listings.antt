@@ -1,0 +1,105 @@
+-- Laws of the lines of a sheet's instances, over plain values: what their writer leaves, instance by instance. Assumes nothing.
+use Prim.Native.Nat.{ℕ, suc, _+_, _-_, _*_, _≤_, _<_}
+use mathlib.Core.Path.{_≡_, refl, sym, ap, _∙_}
+use mathlib.Core.List.{List, [], _∷_, _++_, append-assoc, append-nil}
+use native.Mathlib.Nat.{sub-zero}
+use native.Mathlib.Omega.{arith}
+use lib.ListN.{length}
+use Rattle.laws.specs.Over.{Wrote}
+use Rattle.laws.proofs.Over.{wrote-length, then, wrote-none}
+use Rattle.sheet.specs.Form.{form1}
+use Rattle.sheet.specs.Sheet.{instancesFrom, noInstance}
+use Rattle.sheet.specs.Formed.{Holds, InstanceFound}
+use Rattle.sheet.specs.declared.instance.Instance.{Instance}
+use Rattle.sheet.specs.declared.read.InstanceRead.{InstanceRead}
+use Rattle.sheet.proofs.Bounds.{Bounded}
+use Rattle.sheet.proofs.Walks.{Left, left-first, left-none, left-bounded, left-others, left-is, left-next}
+use Rattle.lister.specs.Listing.{instanceLine, instanceLines, lineMost}
+use Rattle.lister.specs.Write.{Counted, linesFound}
+use Rattle.lister.proofs.Lines.{line-most}
+
+-- ---- lines, one after the other
+
+pub lines-none : instanceLines [] ≡ []
+unfolding instanceLines
+lines-none = refl
+
+pub lines-more : (i : Instance) (is : List Instance) → instanceLines (i ∷ is) ≡ instanceLine i ++ instanceLines is
+unfolding instanceLines
+lines-more i is = refl
+
+lines-after : (is : List Instance) (k : Instance) → instanceLines (is ++ (k ∷ [])) ≡ instanceLines is ++ instanceLine k
+lines-after [] k = rw (lines-more k [], lines-none, append-nil (instanceLine k))
+lines-after (i ∷ is) k =
+    rw (lines-more i (is ++ (k ∷ [])), lines-after is k, lines-more i is, append-assoc (instanceLine i) (instanceLines is) (instanceLine k))
+
+-- A writer of the lines of `count` instances that are there has come to `here` in the sheet and to p in the output, with i of them
+-- listed: those that are `done`, and then the `rest`.
+pub record Going (s : List ℕ) (from count : ℕ) (xs : List ℕ) (at i here p : ℕ) (ys : List ℕ) : Type 0 where
+  pub few : i ≤ count
+  pub done : List Instance
+  pub rest : List Instance
+  pub left : Left s here (count - i) rest
+  pub all : linesFound (instancesFrom form1 count noInstance 0 s from) ≡ instanceLines (done ++ rest)
+  pub wrote : Wrote xs at (instanceLines done) p ys
+  pub within : p ≤ at + lineMost * i
+
+module _ (s : List ℕ) (from count : ℕ) (xs : List ℕ) (at : ℕ) where
+  pub going-first : Holds (instancesFrom form1 count noInstance 0 s from) → Going s from count xs at 0 from at xs
+  going-first there = record {
+    few = omega arith;
+    done = [];
+    rest = there .thing;
+    left = rw sub-zero (left-first s from count (there .thing) (there .next) (there .is));
+    all = rw (there .is);
+    wrote = rw lines-none wrote-none;
+    within = omega arith;
+  }
+
+  module _ {i here p : ℕ} {ys : List ℕ} (so : Going s from count xs at i here p ys) where
+    -- it has listed them all
+    pub going-all :
+        count ≤ i → Wrote xs at (linesFound (instancesFrom form1 count noInstance 0 s from)) p ys
+    going-all h =
+        let none : count - i ≡ 0 = omega arith in
+        let end : [] ≡ so .rest = left-none s here (so .rest) (rw none at (so .left)) in
+        rw (so .all, ← end, append-nil (so .done)) (so .wrote)
+
+    module _ (more : i < count) where
+      one-left : Left s here (suc (count - (i + 1))) (so .rest)
+      one-left = let one : count - i ≡ suc (count - (i + 1)) = omega arith in rw one at (so .left)
+
+      -- the next one is there, as the reader names it
+      module _ (r : InstanceRead) (told : InstanceFound s here r) where
+        abbrev k : Instance
+        k = r .instance
+
+        bounded : Bounded k
+        bounded = left-bounded s here (count - (i + 1)) (so .rest) one-left r told
+
+        pub going-counted : Counted (k .address)
+        going-counted = record { digits = bounded .address .digits; sub = bounded .address .sub }
+
+        -- there is room for its line
+        pub going-room : at + lineMost * count ≤ length xs → p + length (instanceLine k) ≤ length ys
+        going-room fits = omega (arith, so .within, line-most k bounded, wrote-length (so .wrote))
+
+        others : List Instance
+        others = left-others s here (count - (i + 1)) (so .rest) one-left r told
+
+        is-rest : k ∷ others ≡ so .rest
+        unfolding others
+        is-rest = left-is s here (count - (i + 1)) (so .rest) one-left r told
+
+        -- it is written after the others
+        pub going-next : {q : ℕ} {zs : List ℕ} → Wrote ys p (instanceLine k) q zs → Going s from count xs at (i + 1) (r .next) q zs
+        unfolding others
+        going-next line = record {
+          few = omega arith;
+          done = so .done ++ (k ∷ []);
+          rest = others;
+          left = left-next s here (count - (i + 1)) (so .rest) one-left r told;
+          all = so .all ∙ ap instanceLines (ap (λ (is : List Instance). so .done ++ is) (sym is-rest) ∙ sym (append-assoc (so .done) (k ∷ []) others));
+          wrote = rw (lines-after (so .done) k) (then (so .wrote) line);
+          within = omega (arith, so .within, line .moved, line-most k bounded);
+        }
