@@ -178,4 +178,41 @@ struct sconcetoad_diversion sconcetoad_divert(struct sconcetoad_table table, con
 size_t sconcetoad_original(struct sconcetoad_table table, const uint8_t *access, size_t access_length, const uint8_t *call,
                            size_t call_length, uint8_t *out, size_t out_length);
 
+/* The longest night sheet and the longest listing of one: the least output for each. */
+#define SCONCETOAD_SHEET 1613
+#define SCONCETOAD_LISTING 1827
+
+/* The local refusal of a night sheet that is read or listed, beside those above. */
+enum {
+    SCONCETOAD_BAD_SHEET = 9 /* the octets are no night sheet; or, where one is read, hold what no table of the profile holds */
+};
+
+/* How many octets were written, 0 for a refusal. */
+struct sconcetoad_sheet_written {
+    uint8_t refusal;
+    size_t count;
+};
+
+/* Writes the table as a night sheet at the start of `out`. Its refusals are SCONCETOAD_SHORT_OUTPUT, where the output has fewer octets than
+   SCONCETOAD_SHEET, SCONCETOAD_BAD_PROFILE and SCONCETOAD_BAD_TABLE; the lowest that applies is told, and then nothing is written. The
+   access record and the octets of `out` after the sheet are not altered. */
+struct sconcetoad_sheet_written sconcetoad_write_sheet(struct sconcetoad_table table, const uint8_t *access, size_t access_length,
+                                                       uint8_t *out, size_t out_length);
+
+/* The table that was read; that of a new access where the sheet is refused. */
+struct sconcetoad_sheet_taken {
+    uint8_t refusal;
+    struct sconcetoad_table table;
+};
+
+/* The table that a night sheet of any length holds, by the profile of an access. Its refusals are SCONCETOAD_BAD_PROFILE and
+   SCONCETOAD_BAD_SHEET; the lowest that applies is told. Alters nothing. */
+struct sconcetoad_sheet_taken sconcetoad_read_sheet(const uint8_t *access, size_t access_length, const uint8_t *sheet,
+                                                    size_t sheet_length);
+
+/* Writes the listing of a night sheet of any length at the start of `out`: characters, each line with its newline. Its refusals are
+   SCONCETOAD_SHORT_OUTPUT, where the output has fewer octets than SCONCETOAD_LISTING, and SCONCETOAD_BAD_SHEET; the lowest that applies is
+   told, and then nothing is written. The sheet and the octets of `out` after the listing are not altered. */
+struct sconcetoad_sheet_written sconcetoad_list_sheet(const uint8_t *sheet, size_t sheet_length, uint8_t *out, size_t out_length);
+
 #endif

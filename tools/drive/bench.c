@@ -85,9 +85,50 @@ static int bench_original(const char *what, const struct occasion *o, long turns
     return 0;
 }
 
+/* The sheets of the two tables, without instances and with 24 of five digits. */
+#define SHEET_EMPTY 3
+#define SHEET_FULL 291
+
+static int bench_write_sheet(const char *what, const struct occasion *o, size_t count, long turns)
+{
+    uint8_t out[SCONCETOAD_SHEET];
+    for (long i = 0; i < turns; i++)
+        if (sconcetoad_write_sheet(o->table, o->access, sizeof o->access, out, sizeof out).count != count)
+            return unlike(what, 0);
+    return 0;
+}
+
+static int bench_read_sheet(const char *what, const struct occasion *o, long turns)
+{
+    uint8_t sheet[SCONCETOAD_SHEET];
+    size_t count = sconcetoad_write_sheet(o->table, o->access, sizeof o->access, sheet, sizeof sheet).count;
+    for (long i = 0; i < turns; i++)
+        if (sconcetoad_read_sheet(o->access, sizeof o->access, sheet, count).refusal != SCONCETOAD_ANSWERED)
+            return unlike(what, count);
+    return 0;
+}
+
+static int bench_list_sheet(const char *what, const struct occasion *o, long turns)
+{
+    uint8_t sheet[SCONCETOAD_SHEET], out[SCONCETOAD_LISTING];
+    size_t count = sconcetoad_write_sheet(o->table, o->access, sizeof o->access, sheet, sizeof sheet).count;
+    for (long i = 0; i < turns; i++)
+        if (sconcetoad_list_sheet(sheet, count, out, sizeof out).refusal != SCONCETOAD_ANSWERED)
+            return unlike(what, count);
+    return 0;
+}
+
 int bench(const char *what, long turns)
 {
     struct occasion occasion;
+    if (strcmp(what, "sheet-write-empty") == 0 && occasion_named("arrive-activation-empty", &occasion))
+        return bench_write_sheet(what, &occasion, SHEET_EMPTY, turns);
+    if (strcmp(what, "sheet-write-full") == 0 && occasion_named("arrive-activation-full", &occasion))
+        return bench_write_sheet(what, &occasion, SHEET_FULL, turns);
+    if (strcmp(what, "sheet-read-full") == 0 && occasion_named("arrive-activation-full", &occasion))
+        return bench_read_sheet(what, &occasion, turns);
+    if (strcmp(what, "sheet-list-full") == 0 && occasion_named("arrive-activation-full", &occasion))
+        return bench_list_sheet(what, &occasion, turns);
     if (strcmp(what, "divert-empty") == 0 && occasion_named("arrive-activation-empty", &occasion))
         return bench_call(what, &occasion, 0, turns);
     if (strcmp(what, "divert-full") == 0 && occasion_named("arrive-activation-full", &occasion))

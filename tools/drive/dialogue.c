@@ -7,10 +7,12 @@
 /* The longest line, and the most octets of what a line sets. */
 #define LINE_MOST 16000
 #define ACCESS_MOST 512
+#define COMPONENT_MOST 1100
 #define CALL_MOST 64
-#define OUTPUT_MOST 1024
+#define SHEET_MOST 2000
+#define OUTPUT_MOST 2048
 
-static struct lent access_record, component, call, output, digits;
+static struct lent access_record, component, call, sheet, output, digits, listing;
 static struct sconcetoad_table table;
 static unsigned turn;
 static long line_number;
@@ -44,15 +46,33 @@ static int set_output(const char *text)
     char *end;
     unsigned long size = strtoul(text, &end, 10);
     if (text[0] < '0' || text[0] > '9' || *end || size > OUTPUT_MOST)
-        return wrong("an output has 0 to 1024 octets");
+        return wrong("an output has 0 to 2048 octets");
     output.size = size;
     return 0;
+}
+
+/* How many octets of the output may be others than before: none where it is refused. */
+static size_t written_of(uint8_t refusal, size_t count)
+{
+    return refusal == SCONCETOAD_ANSWERED ? count : 0;
+}
+
+static char *table_said(char *at, const struct sconcetoad_table *said)
+{
+    static uint8_t octets[TABLE_MOST];
+    at += sprintf(at, "table ");
+    return octets_to(at, octets, table_to(octets, said));
+}
+
+static void end_line(char *line, char *at)
+{
+    *at++ = '\n';
+    fwrite(line, 1, (size_t)(at - line), stdout);
 }
 
 static void say(const struct sconcetoad_arrival *arrival, int kept)
 {
     static char line[LINE_MOST];
-    static uint8_t octets[TABLE_MOST];
     char *at = line;
     if (arrival->refusal != SCONCETOAD_ANSWERED) {
         at += sprintf(at, "refused %d", arrival->refusal);
@@ -62,15 +82,16 @@ static void say(const struct sconcetoad_arrival *arrival, int kept)
         at += sprintf(at, "replied ");
         at = octets_to(at, lent_octets(&output), arrival->count);
     }
-    at += sprintf(at, " %s table ", kept ? "kept" : "spilled");
-    at = octets_to(at, octets, table_to(octets, &arrival->table));
-    *at++ = '\n';
-    fwrite(line, 1, (size_t)(at - line), stdout);
+    at += sprintf(at, " %s ", kept ? "kept" : "spilled");
+    at = table_said(at, &arrival->table);
+    if (arrival->refusal == SCONCETOAD_ANSWERED && !comes_back(&arrival->table, &access_record, turn))
+        at += sprintf(at, " sheet differs");
+    end_line(line, at);
 }
 
 static int arrive(const char *text)
 {
-    if (set_octets(&component, text, LENT_MOST, "a component has 0 to 1100 octets, in upper-case hexadecimal"))
+    if (set_octets(&component, text, COMPONENT_MOST, "a component has 0 to 1100 octets, in upper-case hexadecimal"))
         return 1;
     turn++;
     lend(&access_record, turn);
@@ -79,7 +100,7 @@ static int arrive(const char *text)
     struct sconcetoad_arrival arrival =
         sconcetoad_arrive(table, lent_octets(&access_record), access_record.size, lent_octets(&component), component.size,
                           lent_octets(&output), output.size);
-    size_t written = arrival.refusal == SCONCETOAD_ANSWERED ? arrival.count : 0;
+    size_t written = written_of(arrival.refusal, arrival.count);
     if (written > output.size)
         return wrong("the reply is longer than the output");
     int kept = lent_kept(&access_record, 0) && lent_kept(&component, 0) && lent_kept(&output, written);
@@ -102,8 +123,7 @@ static void say_diversion(const struct sconcetoad_diversion *diversion, size_t c
         at += sprintf(at, count == 0 ? " original" : " original ");
         at = octets_to(at, lent_octets(&digits), count);
     }
-    *at++ = '\n';
-    fwrite(line, 1, (size_t)(at - line), stdout);
+    end_line(line, at);
 }
 
 static int divert(const char *text)
@@ -122,6 +142,65 @@ static int divert(const char *text)
         return wrong("an octet changed that should not");
     say_diversion(&diversion, count);
     return 0;
+}
+
+static int write_sheet(void)
+{
+    static char line[LINE_MOST];
+    char *at = line;
+    turn++;
+    lend(&access_record, turn);
+    lend_filled(&output, turn);
+    struct sconcetoad_sheet_written written =
+        sconcetoad_write_sheet(table, lent_octets(&access_record), access_record.size, lent_octets(&output), output.size);
+    if (written.count > output.size)
+        return wrong("the sheet is longer than the output");
+    if (written.refusal != SCONCETOAD_ANSWERED) {
+        at += sprintf(at, "refused %d", written.refusal);
+    } else {
+        at += sprintf(at, "wrote ");
+        at = octets_to(at, lent_octets(&output), written.count);
+    }
+    int kept = lent_kept(&access_record, 0) && lent_kept(&output, written_of(written.refusal, written.count));
+    at += sprintf(at, kept ? " kept" : " spilled");
+    end_line(line, at);
+    return 0;
+}
+
+static int read_sheet(const char *text)
+{
+    static char line[LINE_MOST];
+    if (set_octets(&sheet, text, SHEET_MOST, "a sheet has 0 to 2000 octets, in upper-case hexadecimal"))
+        return 1;
+    turn++;
+    lend(&access_record, turn);
+    lend(&sheet, turn);
+    struct sconcetoad_sheet_taken taken =
+        sconcetoad_read_sheet(lent_octets(&access_record), access_record.size, lent_octets(&sheet), sheet.size);
+    if (!lent_kept(&access_record, 0) || !lent_kept(&sheet, 0))
+        return wrong("an octet changed that should not");
+    if (taken.refusal != SCONCETOAD_ANSWERED)
+        return printf("refused %d\n", taken.refusal) < 0;
+    table = taken.table;
+    end_line(line, table_said(line + sprintf(line, "read "), &table));
+    return 0;
+}
+
+static int list_sheet(const char *text)
+{
+    if (set_octets(&sheet, text, SHEET_MOST, "a sheet has 0 to 2000 octets, in upper-case hexadecimal"))
+        return 1;
+    turn++;
+    lend(&sheet, turn);
+    lend_filled(&listing, turn);
+    struct sconcetoad_sheet_written listed =
+        sconcetoad_list_sheet(lent_octets(&sheet), sheet.size, lent_octets(&listing), listing.size);
+    size_t count = written_of(listed.refusal, listed.count);
+    if (count > listing.size || !lent_kept(&sheet, 0) || !lent_kept(&listing, count))
+        return wrong("an octet changed that should not");
+    if (listed.refusal != SCONCETOAD_ANSWERED)
+        return printf("refused %d\n", listed.refusal) < 0;
+    return fwrite(lent_octets(&listing), 1, count, stdout) != count;
 }
 
 /* A line is a word and what stands after one space, or the word alone. */
@@ -144,6 +223,12 @@ static int obey(char *line)
         return arrive(rest);
     if (strcmp(line, "call") == 0)
         return divert(rest);
+    if (strcmp(line, "write") == 0 && *rest == '\0')
+        return write_sheet();
+    if (strcmp(line, "read") == 0)
+        return read_sheet(rest);
+    if (strcmp(line, "list") == 0)
+        return list_sheet(rest);
     return wrong("this is no line of a dialogue");
 }
 
@@ -152,6 +237,7 @@ int dialogue(void)
     static char line[LINE_MOST + 2];
     output.size = SCONCETOAD_OUTPUT;
     digits.size = SCONCETOAD_DIGITS;
+    listing.size = SCONCETOAD_LISTING;
     table = sconcetoad_fresh_table();
     while (fgets(line, sizeof line, stdin)) {
         line_number++;

@@ -24,7 +24,7 @@ size_t table_to(uint8_t *octets, const struct sconcetoad_table *table);
 
 /* ---- lent.c: what is lent to the library, and whether it was kept */
 
-#define LENT_MOST 1100
+#define LENT_MOST 2048
 #define LENT_GUARD 8
 
 /* `size` octets between two guards, and a copy of all three from before the call. */
@@ -44,6 +44,12 @@ void lend_filled(struct lent *lent, unsigned turn);
 
 /* Whether the guards and the octets from `from` on are as they were. */
 int lent_kept(const struct lent *lent, size_t from);
+
+/* ---- sheets.c: night sheets there and back */
+
+/* Whether the table, written as a sheet and read again, is written as the same sheet and has the same last handled identifier, with every
+   octet kept that should be. Octets that carry no meaning are in no sheet, so the tables themselves may differ. */
+int comes_back(const struct sconcetoad_table *table, struct lent *access_record, unsigned turn);
 
 /* ---- occasions.c: arrivals that are measured */
 

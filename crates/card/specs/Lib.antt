@@ -2,3 +2,4 @@ pub mod Said
 pub mod Told
 pub mod Arrival
 pub mod Diversion
+pub mod Sheets

@@ -3,6 +3,7 @@ mod arrival;
 mod diversion;
 mod list;
 mod said;
+mod sheets;
 
 pub use arrival::Arrival;
 pub use arrival::sconcetoad_arrive;
@@ -15,3 +16,8 @@ pub use list::sconcetoad_list;
 pub use list::sconcetoad_put_list;
 pub use said::Said;
 pub use said::sconcetoad_said;
+pub use sheets::SheetTaken;
+pub use sheets::SheetWritten;
+pub use sheets::sconcetoad_list_sheet;
+pub use sheets::sconcetoad_read_sheet;
+pub use sheets::sconcetoad_write_sheet;

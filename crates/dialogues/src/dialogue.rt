@@ -1,14 +1,19 @@
 // A dialogue with the exchange: what there is, and what each line makes of it.
 use crate::call::put_call;
+use crate::lent::BEFORE;
+use crate::lent::LENT;
+use crate::lent::MARGIN;
+use crate::lent::OUTPUTMOST;
 use crate::line;
 use crate::line::Kind;
 use crate::line::kind_of;
-use crate::said::BEFORE;
-use crate::said::LENT;
-use crate::said::MARGIN;
-use crate::said::OUTPUTMOST;
+use crate::said::answered;
 use crate::said::outcome_said;
 use crate::say;
+use crate::sheets::comes_back;
+use crate::sheets::put_listing;
+use crate::sheets::put_sheet;
+use crate::sheets::take_sheet;
 use crate::tables::say_table;
 use crate::tables::table_of;
 use exchange::Table;
@@ -16,7 +21,7 @@ use exchange::fresh_table;
 use text::find;
 use text::last_number;
 
-// The most octets of an access record, of a table, of a component and of a call in a line.
+// The most octets of an access record, of a table, of a component, of a call and of a sheet in a line.
 const ACCESSMOST: usize = 512;
 
 const TABLEMOST: usize = 3500;
@@ -24,6 +29,8 @@ const TABLEMOST: usize = 3500;
 const COMPONENTMOST: usize = 1100;
 
 const CALLMOST: usize = 64;
+
+const SHEETMOST: usize = 2000;
 
 // The access record is the first `size` octets of `access`; the output has `output` octets.
 pub(crate) struct Dialogue {
@@ -97,7 +104,14 @@ fn arrived(d: Dialogue, access: &[u8], component: &[u8]) -> Dialogue {
     let outcome = next.outcome;
     let table = next.table;
     outcome_said(outcome, &lent, output, next.count);
+    say::text(b" ");
     say_table(table);
+    if answered(outcome) {
+        if !comes_back(table, access) {
+            say::text(b" sheet differs");
+        }
+    }
+    say::text(b"\n");
     with_table(d, table)
 }
 
@@ -124,6 +138,36 @@ fn call_line(d: Dialogue, text: &[u8], at: usize) {
     put_call(table, &access[..size], &call[..n]);
 }
 
+fn write_line(d: Dialogue) {
+    let access = d.access;
+    let size = d.size;
+    let table = d.table;
+    if ACCESSMOST < size {
+        return;
+    }
+    put_sheet(table, &access[..size], d.output);
+}
+
+// The table that is read is the one there is from now on.
+fn read_line(d: Dialogue, text: &[u8], at: usize) -> Dialogue {
+    let mut sheet = [0u8; SHEETMOST];
+    let n = line::octets(text, at, &mut sheet);
+    let access = d.access;
+    let size = d.size;
+    let table = d.table;
+    if ACCESSMOST < size {
+        return d;
+    }
+    let next = take_sheet(table, &access[..size], &sheet[..n]);
+    with_table(d, next)
+}
+
+fn list_line(text: &[u8], at: usize) {
+    let mut sheet = [0u8; SHEETMOST];
+    let n = line::octets(text, at, &mut sheet);
+    put_listing(&sheet[..n]);
+}
+
 // What there is after a line.
 pub(crate) fn after(d: Dialogue, text: &[u8]) -> Dialogue {
     let end = find(text, 0, b' ');
@@ -132,6 +176,15 @@ pub(crate) fn after(d: Dialogue, text: &[u8]) -> Dialogue {
         Kind::Component => component_line(d, text, at),
         Kind::Call => {
             call_line(d, text, at);
+            d
+        }
+        Kind::Write => {
+            write_line(d);
+            d
+        }
+        Kind::Read => read_line(d, text, at),
+        Kind::List => {
+            list_line(text, at);
             d
         }
         Kind::Access => access_line(d, text, at),

@@ -11,6 +11,9 @@ pub(crate) enum Kind {
     Output,
     Component,
     Call,
+    Write,
+    Read,
+    List,
     Unknown,
 }
 
@@ -32,6 +35,15 @@ pub(crate) fn kind_of(word: &[u8]) -> Kind {
     }
     if same(word, b"call") {
         return Kind::Call;
+    }
+    if same(word, b"write") {
+        return Kind::Write;
+    }
+    if same(word, b"read") {
+        return Kind::Read;
+    }
+    if same(word, b"list") {
+        return Kind::List;
     }
     Kind::Unknown
 }

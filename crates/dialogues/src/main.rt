@@ -1,17 +1,19 @@
-// Replays dialogues with the exchange from standard input, a thing to a line, and prints what comes of each component. What must
-// come of it stands in the file stdout, worked out from document 01 without this library; docs/ARCHITECTURE.md says how a line is
+// Replays dialogues with the exchange from standard input, a thing to a line, and prints what comes of each. What must come
+// of it stands in the file stdout, worked out from document 01 without this library; docs/ARCHITECTURE.md says how a line is
 // built.
 mod call;
 mod dialogue;
+mod lent;
 mod line;
 mod said;
 mod say;
+mod sheets;
 mod tables;
 
 use text::find;
 
 // Room for all lines; more is said to be too much.
-const SPACE: usize = 262144;
+const SPACE: usize = 524288;
 
 fn main() {
     let mut space = [0u8; SPACE];

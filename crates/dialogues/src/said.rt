@@ -1,19 +1,13 @@
 // What is printed of an arrived component: the refusal or the reply, and whether the octets beside the reply stayed.
+use crate::lent::LENT;
+use crate::lent::MARGIN;
+use crate::lent::OUTPUTMOST;
+use crate::lent::say_kept;
 use crate::say;
 use exchange::Outcome;
 use exchange::Refusal;
-use text::all_outside;
 ghost use Prim.Native.Nat.{_≤_};
 ghost use lib.ListN.{length};
-
-// The octets before the output and after it, the most output, and all of them together; and what they hold beforehand.
-pub(crate) const MARGIN: usize = 8;
-
-pub(crate) const OUTPUTMOST: usize = 1024;
-
-pub(crate) const LENT: usize = MARGIN + OUTPUTMOST + MARGIN;
-
-pub(crate) const BEFORE: u8 = 0x5A;
 
 fn refused(refusal: Refusal) {
     match refusal {
@@ -35,29 +29,28 @@ fn replied(lent: &[u8], end: usize)
     say::octets(&lent[MARGIN..end]);
 }
 
-// Whether the reply ends within its output, and every octet beside it is as it was.
-fn kept(lent: &[u8], output: usize, count: usize) -> bool
-    requires { ⌜ count ≤ 1024 ⌝ }
-{
-    if output < count {
-        return false;
-    }
-    all_outside(lent, MARGIN, MARGIN + count, BEFORE)
-}
-
 pub(crate) fn outcome_said(outcome: Outcome, room: &[u8; LENT], output: usize, count: usize) {
     if OUTPUTMOST < count {
-        say::text(b"spilled ");
+        say::text(b"spilled");
         return;
     }
     let lent = &room[..];
     match outcome {
-        Outcome::Refuses { refusal } => refused(refusal),
-        _ => replied(lent, MARGIN + count),
+        Outcome::Refuses { refusal } => {
+            refused(refusal);
+            say_kept(lent, output, 0);
+        }
+        _ => {
+            replied(lent, MARGIN + count);
+            say_kept(lent, output, count);
+        }
     }
-    if kept(lent, output, count) {
-        say::text(b" kept ");
-    } else {
-        say::text(b" spilled ");
+}
+
+// Whether the component was answered, be it by silence.
+pub(crate) fn answered(outcome: Outcome) -> bool {
+    match outcome {
+        Outcome::Refuses { refusal: _ } => false,
+        _ => true,
     }
 }

@@ -104,5 +104,4 @@ pub(crate) fn say_table(table: Table) {
         say_cell(place as u8, cell);
         place += 1;
     }
-    say::text(b"\n");
 }

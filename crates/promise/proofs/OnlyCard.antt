@@ -15,6 +15,9 @@ use Rattle.card.specs.declared.list.Told.{Told}
 use Rattle.card.specs.declared.arrival.Arrival.{Arrival}
 use Rattle.card.specs.Diversion.{DivertedBy, CopiesOriginal}
 use Rattle.card.specs.declared.diversion.Diverted.{Diverted}
+use Rattle.card.specs.Sheets.{SheetWrittenBy, SheetTakenBy, SheetListedBy}
+use Rattle.card.specs.declared.sheets.SheetWritten.{SheetWritten}
+use Rattle.card.specs.declared.sheets.SheetTaken.{SheetTaken}
 use Rattle.calls.specs.declared.diverting.Onward.{Onward}
 use Rattle.exchange.specs.Table.{FreshTable}
 use Rattle.exchange.specs.declared.table.Table.{Table}
@@ -77,3 +80,37 @@ pub only-sconcetoad-original :
     CopiesOriginal access t s xs n zs →
     (m ≡ n) × (ys ≡ zs)
 only-sconcetoad-original access t s xs = only-puts
+
+abbrev sheetWrittenOf : ℕ → ℕ → SheetWritten
+sheetWrittenOf refusal count = record { refusal = refusal; count = count }
+
+-- what is told of a sheet that is written is its parts
+sheet-written-same : (r q : SheetWritten) → r .refusal ≡ q .refusal → r .count ≡ q .count → r ≡ q
+sheet-written-same r q refusal count =
+    ap (λ (n : ℕ). sheetWrittenOf n (r .count)) refusal ∙ ap (sheetWrittenOf (q .refusal)) count
+
+pub only-sconcetoad-write-sheet :
+    (access : List ℕ) (t : Table) (xs : List ℕ) {r q : SheetWritten} {ys zs : List ℕ} → SheetWrittenBy access t xs r ys →
+    SheetWrittenBy access t xs q zs →
+    (r ≡ q) × (ys ≡ zs)
+only-sconcetoad-write-sheet access t xs {r} {q} a b = (
+  sheet-written-same r q (both (a .refusal) (b .refusal)) (both (a .count) (b .count)),
+  both (a .lent) (b .lent),
+)
+
+pub only-sconcetoad-list-sheet :
+    (s xs : List ℕ) {r q : SheetWritten} {ys zs : List ℕ} → SheetListedBy s xs r ys → SheetListedBy s xs q zs →
+    (r ≡ q) × (ys ≡ zs)
+only-sconcetoad-list-sheet s xs {r} {q} a b = (
+  sheet-written-same r q (both (a .refusal) (b .refusal)) (both (a .count) (b .count)),
+  both (a .lent) (b .lent),
+)
+
+abbrev sheetTakenOf : ℕ → Table → SheetTaken
+sheetTakenOf refusal table = record { refusal = refusal; table = table }
+
+pub only-sconcetoad-read-sheet :
+    (access s : List ℕ) {r q : SheetTaken} → SheetTakenBy access s r → SheetTakenBy access s q → r ≡ q
+only-sconcetoad-read-sheet access s {r} {q} a b =
+    ap (λ (n : ℕ). sheetTakenOf n (r .table)) (both (a .refusal) (b .refusal))
+    ∙ ap (sheetTakenOf (q .refusal)) (both (a .table) (b .table))

@@ -31,23 +31,41 @@ call-line-requires c κs = search needs
 enum-told-3 : tie.Need-enum-told-3
 enum-told-3 c = search needs
 
-access-line-requires : tie.Need-access-line-requires
-access-line-requires c κs = search needs
+write-line-requires : tie.Need-write-line-requires
+write-line-requires c κs = search needs
 
 enum-told-4 : tie.Need-enum-told-4
 enum-told-4 c = search needs
 
-table-line-requires : tie.Need-table-line-requires
-table-line-requires c κs = search needs
+read-line-requires : tie.Need-read-line-requires
+read-line-requires c κs = search needs
 
 enum-told-5 : tie.Need-enum-told-5
 enum-told-5 c = search needs
 
-output-line-requires : tie.Need-output-line-requires
-output-line-requires c κs = search needs
+list-line-requires : tie.Need-list-line-requires
+list-line-requires c κs = search needs
 
 enum-told-6 : tie.Need-enum-told-6
 enum-told-6 c = search needs
+
+access-line-requires : tie.Need-access-line-requires
+access-line-requires c κs = search needs
+
+enum-told-7 : tie.Need-enum-told-7
+enum-told-7 c = search needs
+
+table-line-requires : tie.Need-table-line-requires
+table-line-requires c κs = search needs
+
+enum-told-8 : tie.Need-enum-told-8
+enum-told-8 c = search needs
+
+output-line-requires : tie.Need-output-line-requires
+output-line-requires c κs = search needs
+
+enum-told-9 : tie.Need-enum-told-9
+enum-told-9 c = search needs
 
 text-requires : tie.Need-text-requires
 text-requires c κs = search needs
@@ -58,8 +76,8 @@ slice-aggregate-text c = search needs
 text-requires-2 : tie.Need-text-requires-2
 text-requires-2 c κs = search needs
 
-enum-told-7 : tie.Need-enum-told-7
-enum-told-7 c = search needs
+enum-told-10 : tie.Need-enum-told-10
+enum-told-10 c = search needs
 
 slice-aggregate-text-2 : tie.Need-slice-aggregate-text-2
 slice-aggregate-text-2 c = search needs
@@ -88,6 +106,15 @@ returns-6 c = search needs
 returns-7 : tie.Need-returns-7
 returns-7 c = search needs
 
+returns-8 : tie.Need-returns-8
+returns-8 c = search needs
+
+returns-9 : tie.Need-returns-9
+returns-9 c = search needs
+
+returns-10 : tie.Need-returns-10
+returns-10 c = search needs
+
 pub after-spec : {M : Type 1} → statement M
 after-spec =
     tie.close
@@ -101,16 +128,22 @@ after-spec =
     enum-told-2
     call-line-requires
     enum-told-3
-    access-line-requires
+    write-line-requires
     enum-told-4
-    table-line-requires
+    read-line-requires
     enum-told-5
-    output-line-requires
+    list-line-requires
     enum-told-6
+    access-line-requires
+    enum-told-7
+    table-line-requires
+    enum-told-8
+    output-line-requires
+    enum-told-9
     text-requires
     slice-aggregate-text
     text-requires-2
-    enum-told-7
+    enum-told-10
     slice-aggregate-text-2
     text-requires-3
     returns
@@ -119,4 +152,7 @@ after-spec =
     returns-4
     returns-5
     returns-6
-    returns-7)
+    returns-7
+    returns-8
+    returns-9
+    returns-10)

@@ -4,10 +4,10 @@ use Rattle.dialogues.proofs.tables.say_table.Statement.{statement}
 use Rattle.dialogues.proofs.tables.say_table.Tie as tie
 
 abbrev Inv-loop : tie.InvT-loop
-Inv-loop last grid place₀ t8 place = place ≤ 72
+Inv-loop last grid place₀ place = place ≤ 72
 
 abbrev μ-loop : tie.MeasureT-loop
-μ-loop last grid place₀ t8 place = 72 - place
+μ-loop last grid place₀ place = 72 - place
 
 slice-aggregate-text : tie.Need-slice-aggregate-text Inv-loop μ-loop
 slice-aggregate-text c = search needs
@@ -57,12 +57,6 @@ loop-less c = search needs
 loop-again : tie.Need-loop-again Inv-loop μ-loop
 loop-again c = search needs
 
-slice-aggregate-text-2 : tie.Need-slice-aggregate-text-2 Inv-loop μ-loop
-slice-aggregate-text-2 c = search needs
-
-text-requires-2 : tie.Need-text-requires-2 Inv-loop μ-loop
-text-requires-2 c κs = search needs
-
 returns : tie.Need-returns Inv-loop μ-loop
 returns c = search needs
 
@@ -88,6 +82,4 @@ say-table-spec =
     add-place
     loop-less
     loop-again
-    slice-aggregate-text-2
-    text-requires-2
     returns)

@@ -1,0 +1,33 @@
+/* A table as a night sheet, and back. */
+#include <string.h>
+#include "drive.h"
+
+static struct lent first, second;
+
+/* Writes a sheet and lends it to be read; answers whether all was kept. */
+static int written(struct sconcetoad_table table, struct lent *access_record, struct lent *sheet, unsigned turn)
+{
+    sheet->size = SCONCETOAD_SHEET;
+    lend(access_record, turn);
+    lend_filled(sheet, turn);
+    struct sconcetoad_sheet_written answer =
+        sconcetoad_write_sheet(table, lent_octets(access_record), access_record->size, lent_octets(sheet), sheet->size);
+    if (answer.refusal != SCONCETOAD_ANSWERED || answer.count > sheet->size)
+        return 0;
+    int kept = lent_kept(access_record, 0) && lent_kept(sheet, answer.count);
+    sheet->size = answer.count;
+    return kept;
+}
+
+int comes_back(const struct sconcetoad_table *table, struct lent *access_record, unsigned turn)
+{
+    if (!written(*table, access_record, &first, turn))
+        return 0;
+    lend(&first, turn + 1);
+    struct sconcetoad_sheet_taken taken =
+        sconcetoad_read_sheet(lent_octets(access_record), access_record->size, lent_octets(&first), first.size);
+    if (taken.refusal != SCONCETOAD_ANSWERED || !lent_kept(access_record, 0) || !lent_kept(&first, 0))
+        return 0;
+    return taken.table.last == table->last && written(taken.table, access_record, &second, turn + 2) &&
+           second.size == first.size && memcmp(lent_octets(&second), lent_octets(&first), first.size) == 0;
+}
