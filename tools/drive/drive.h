@@ -58,7 +58,7 @@ int comes_back(const struct sconcetoad_table *table, struct lent *access_record,
 extern const uint8_t activation[ACTIVATION_SIZE];
 
 struct occasion {
-    char name[40];
+    const char *name;
     struct sconcetoad_table table;
     uint8_t access[SCONCETOAD_ACCESS];
     const uint8_t *component;

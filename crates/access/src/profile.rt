@@ -182,14 +182,18 @@ fn prefix_good(f: Prefix) -> bool
     })
 }
 
+// Most profiles have no prefix, and then the array is not copied.
 fn prefixes_good(p: Profile) -> bool
     ensures { λ r. ⌜ r ≡ prefixesGood p ⌝ }
 {
     let count = p.prefixcount as usize;
-    let prefixes = p.prefixes;
+    if count == 0 {
+        return true;
+    }
     if PREFIXES < count {
         return false;
     }
+    let prefixes = p.prefixes;
     let mut k: usize = 0;
     while k < count {
         let f = prefixes[k];

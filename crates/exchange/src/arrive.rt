@@ -5,6 +5,7 @@ use crate::table::Table;
 use access::read_access;
 use answers::Answer;
 use answers::put_answer;
+use store::Grid;
 ghost use mathlib.Core.Path.{_≡_};
 ghost use Rattle.exchange.specs.declared.arrive.Outcome.the-variants.{Refuses};
 ghost use Rattle.exchange.specs.Arrive.{refusedBy, Arrives};
@@ -34,11 +35,11 @@ pub struct Arrived {
     pub count: usize,
 }
 
-fn refuses(table: Table, refusal: Refusal) -> Arrived
-    ensures { λ r. ⌜ r ≡ refusedBy table refusal ⌝ }
+fn refuses(last: u16, grid: Grid, refusal: Refusal) -> Arrived
+    ensures { λ r. ⌜ r ≡ refusedBy (record { last = last; grid = grid }) refusal ⌝ }
 {
     Arrived {
-        table,
+        table: Table { last, grid },
         outcome: Outcome::Refuses { refusal },
         count: 0,
     }
@@ -49,23 +50,24 @@ impl Table {
     pub fn arrive(self, access: &[u8], component: &[u8], out: &mut [u8]) -> Arrived
         ensures { λ r. ⌜ Arrives (now (access .entry)) self (now (component .entry)) (now (out .entry)) r (now (out .exit)) ⌝ }
     {
+        // Taken first, and handed back by every refusal: so a compiler needs no other copy of the table.
+        let mut grid = self.grid;
         if out.len() < OUTPUTLEAST {
-            return refuses(self, Refusal::ShortOutput);
+            return refuses(self.last, grid, Refusal::ShortOutput);
         }
         if COMPONENTMOST < component.len() {
-            return refuses(self, Refusal::LongComponent);
+            return refuses(self.last, grid, Refusal::LongComponent);
         }
         let read = read_access(access);
         if !read.ok {
-            return refuses(self, Refusal::BadProfile);
+            return refuses(self.last, grid, Refusal::BadProfile);
         }
         let p = read.profile;
         if !self.good(p) {
-            return refuses(self, Refusal::BadTable);
+            return refuses(self.last, grid, Refusal::BadTable);
         }
         let q = question_of(p, self.last, component);
         let procedure = q.request.procedure as usize;
-        let mut grid = self.grid;
         let row = grid.rows[procedure];
         let done = step_of(p, self.last, row, q);
         let after = done.row;

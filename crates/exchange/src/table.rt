@@ -2,6 +2,7 @@
 use access::Profile;
 use store::Grid;
 use store::fresh_grid;
+use store::rows_good;
 ghost use Rattle.exchange.specs.Table.{FreshTable, TableGood};
 
 const LASTMOST: u16 = 32767;
@@ -28,6 +29,10 @@ impl Table {
         if LASTMOST < self.last {
             return false;
         }
-        self.grid.good(p)
+        let grid = self.grid;
+        let cfu = grid.rows[0];
+        let cfb = grid.rows[1];
+        let cfnr = grid.rows[2];
+        rows_good(p, cfu, cfb, cfnr)
     }
 }

@@ -1,12 +1,12 @@
 -- What a table that breaks no rule gives a night sheet: at most 24 instances, each of at most 67 octets. Assumes nothing.
 use Prim.Native.Nat.{ℕ, zero, suc, _+_, _*_, _≤_, _<_}
-use mathlib.Core.Path.{_≡_, refl, _∙_}
+use mathlib.Core.Path.{_≡_, refl}
 use mathlib.Core.Bool.{Bool, true}
 use mathlib.Core.List.{List, [], _∷_}
 use native.Mathlib.Nat.{mul-suc}
 use native.Mathlib.Numerals.{add-one}
 use native.Mathlib.Omega.{arith}
-use lib.ListN.{length, getD, replicate, length-append, length-take, getD-replicate}
+use lib.ListN.{length, getD, length-append, length-take}
 use lib.Seq.{getD-take}
 use Rattle.laws.specs.Pick.{pick}
 use Rattle.laws.specs.Places.{countTo, gathered}
@@ -18,13 +18,13 @@ use Rattle.access.specs.declared.profile.Profile.{Profile}
 use Rattle.access.proofs.Profiles.{good-profile}
 use Rattle.access.proofs.Rising.{rising-code}
 use Rattle.lists.specs.Entries.{limit}
-use Rattle.store.specs.Row.{places, serviceOfPlace, cellAt, active, rowGood, CountWith}
+use Rattle.store.specs.Row.{places, serviceOfPlace, cellAt, active, rowGood}
 use Rattle.store.specs.Grid.{procedures, rowAt}
 use Rattle.store.specs.declared.row.Cell.{Cell}
 use Rattle.store.specs.declared.row.Row.{Row}
 use Rattle.store.specs.declared.grid.Grid.{Grid}
 use Rattle.store.proofs.Turns.{is-active}
-use Rattle.store.proofs.Rows.{count-nowhere, Ruled, active-rules, good-few}
+use Rattle.store.proofs.Rows.{Ruled, active-rules, good-few}
 use Rattle.store.proofs.Grids.{grid-row}
 use Rattle.exchange.specs.Table.{tableGood}
 use Rattle.exchange.specs.declared.table.Table.{Table}
@@ -53,11 +53,6 @@ gathered-count f g (suc n) =
 
 pub row-count : (procedure : ℕ) (row : Row) → length (rowInstances procedure row) ≡ countTo (active row) places
 row-count procedure row = gathered-count (active row) _ places
-
--- as a row counts itself, where nothing is selected
-pub row-counted : (row : Row) (n : ℕ) → CountWith (record { codes = replicate places 0 }) row n → n ≡ countTo (active row) places
-row-counted row n counted =
-    counted ∙ count-nowhere (record { codes = replicate places 0 }) row (λ j h. getD-replicate places j 0 0 h)
 
 count-most : (f : ℕ → Bool) (n : ℕ) → countTo f n ≤ n
 count-most f zero = omega (arith, count-none f)

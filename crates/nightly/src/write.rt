@@ -12,7 +12,6 @@ use store::Cell;
 use store::Grid;
 use store::PLACES;
 use store::PROCEDURES;
-use store::Places;
 use store::Row;
 ghost use mathlib.Core.Path.{_≡_};
 ghost use mathlib.Core.Bool.{true};
@@ -112,16 +111,15 @@ fn write_grid(out: &mut [u8], at: usize, grid: Grid) -> usize
     p
 }
 
-// How many instances there are: what a row counts where nothing is selected.
+// How many instances there are.
 fn instance_count(grid: Grid) -> usize
     ensures { λ r. ⌜ r ≡ length (instancesOf grid) ⌝ }
 {
-    let nowhere = Places { codes: [0; PLACES] };
     let mut n: usize = 0;
     let mut k: usize = 0;
     while k < PROCEDURES {
         let row = grid.rows[k];
-        n += row.count_with(nowhere);
+        n += row.instances();
         k += 1;
     }
     n

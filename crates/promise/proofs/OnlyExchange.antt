@@ -15,8 +15,8 @@ use Rattle.exchange.proofs.Outcomes.{told-same}
 pub only-fresh-table : {a b : Table} → FreshTable a → FreshTable b → a ≡ b
 only-fresh-table = both
 
-pub only-table-good : (p : Profile) (t : Table) {a b : Bool} → TableGood p t a → TableGood p t b → a ≡ b
-only-table-good p t = both
+pub only-good : (p : Profile) (t : Table) {a b : Bool} → TableGood p t a → TableGood p t b → a ≡ b
+only-good p t = both
 
 abbrev arrivedOf : Table → Outcome → ℕ → Arrived
 arrivedOf table outcome count = record { table = table; outcome = outcome; count = count }

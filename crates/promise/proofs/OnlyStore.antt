@@ -6,8 +6,8 @@ use Rattle.laws.proofs.Picks.{both}
 use Rattle.numbers.specs.declared.address.Address.{Address}
 use Rattle.access.specs.declared.profile.Profile.{Profile}
 use Rattle.lists.specs.declared.entries.Entries.{Entries}
-use Rattle.store.specs.Row.{CountWith, ActiveOf, PutIn, ClearIn, InstanceAt}
-use Rattle.store.specs.Grid.{FreshGrid, GridGood, EntriesIn}
+use Rattle.store.specs.Row.{Instances, CountWith, ActiveOf, PutIn, ClearIn, InstanceAt}
+use Rattle.store.specs.Grid.{FreshGrid, RowsGood, EntriesIn}
 use Rattle.store.specs.declared.row.Instance.{Instance}
 use Rattle.store.specs.declared.row.Places.{Places}
 use Rattle.store.specs.declared.row.Row.{Row}
@@ -35,8 +35,12 @@ pub only-entries :
     a ≡ b
 only-entries p procedure w row = both
 
+pub only-instances : (row : Row) {a b : ℕ} → Instances row a → Instances row b → a ≡ b
+only-instances row = both
+
 pub only-fresh-grid : {a b : Grid} → FreshGrid a → FreshGrid b → a ≡ b
 only-fresh-grid = both
 
-pub only-good : (p : Profile) (grid : Grid) {a b : Bool} → GridGood p grid a → GridGood p grid b → a ≡ b
-only-good p grid = both
+pub only-rows-good :
+    (p : Profile) (cfu cfb cfnr : Row) {a b : Bool} → RowsGood p cfu cfb cfnr a → RowsGood p cfu cfb cfnr b → a ≡ b
+only-rows-good p cfu cfb cfnr = both

@@ -93,10 +93,14 @@ fn begins_with(f: Prefix, n: Number) -> bool
     true
 }
 
+// Most profiles have no prefix, and then the array is not copied.
 pub(crate) fn begins_any(p: Profile, n: Number) -> bool
     ensures { λ b. ⌜ b ≡ beginsAny (barred p) (digitsOf n) ⌝ }
 {
     let count = p.prefixcount as usize;
+    if count == 0 {
+        return false;
+    }
     let prefixes = p.prefixes;
     let mut k: usize = 0;
     while k < PREFIXES {

@@ -26,7 +26,7 @@ use Rattle.store.specs.Row.{places, numberOfPlace, serviceOfPlace, noCel
 use Rattle.store.specs.declared.row.Cell.{Cell}
 use Rattle.store.specs.declared.row.Row.{Row}
 use Rattle.store.specs.declared.row.Places.{Places}
-use Rattle.store.proofs.Turns.{not-selected, withAt, putAt, clearAt, goodAt, none-at, good-none, entriesAt}
+use Rattle.store.proofs.Turns.{withAt, putAt, clearAt, goodAt, none-at, good-none, entriesAt}
 
 -- ---- a cell that may be changed
 
@@ -97,14 +97,6 @@ module _ (w : Places) (address : Address) (row : Row) where
   count-put long =
       count-same (active (putIn w address row)) (withAt w row) places (λ j h.
       active-put j (omega arith) ∙ pick-or (selected w j) (active row j))
-
--- where nothing is selected, the instances there are are counted
-pub count-nowhere :
-    (w : Places) (row : Row) → ((j : ℕ) → j < places → codeAt w j ≡ 0) → countWith w row ≡ countTo (active row) places
-unfolding countWith
-count-nowhere w row nowhere =
-    count-same (withAt w row) (active row) places (λ j h.
-    rw (not-selected w j (nowhere j h)) (pick-or (active row j) false))
 
 -- ---- a row that is cleared
 

@@ -2,7 +2,7 @@
 use Prim.Native.Nat.{ℕ}
 use mathlib.Core.Path.{_≡_}
 use mathlib.Core.Bool.{Bool}
-use mathlib.Core.List.{List, []}
+use mathlib.Core.List.{List, [], _∷_}
 use lib.ListN.{getD, replicate, take}
 use Rattle.laws.specs.Places.{everyTo}
 use Rattle.access.specs.declared.profile.Profile.{Profile}
@@ -28,6 +28,10 @@ noGrid = record { rows = replicate procedures noRow }
 abbrev pub rowAt : Grid → ℕ → Row
 rowAt grid procedure = getD (grid .rows) procedure (record { cells = [] })
 
+-- the grid with these rows
+abbrev pub gridOf : Row → Row → Row → Grid
+gridOf cfu cfb cfnr = record { rows = cfu ∷ cfb ∷ cfnr ∷ [] }
+
 -- every procedure's row breaks no rule
 unfoldable pub gridGood : ℕ → Profile → Grid → Bool
 gridGood most p grid = everyTo (λ procedure. rowGood most p procedure (rowAt grid procedure)) procedures
@@ -36,8 +40,8 @@ gridGood most p grid = everyTo (λ procedure. rowGood most p procedure (rowAt gr
 abbrev pub FreshGrid : Grid → Type 0
 FreshGrid r = r ≡ noGrid
 
-abbrev pub GridGood : Profile → Grid → Bool → Type 0
-GridGood p grid r = r ≡ gridGood limit p grid
+abbrev pub RowsGood : Profile → Row → Row → Row → Bool → Type 0
+RowsGood p cfu cfb cfnr r = r ≡ gridGood limit p (gridOf cfu cfb cfnr)
 
 -- what `entries` promises: a row that breaks no rule has no more than 8
 abbrev pub EntriesIn : Profile → ℕ → Places → Row → Entries → Type 0

@@ -125,6 +125,9 @@ rowGood limit p procedure row =
     pick (everyTo (λ j. cellGood p procedure j (cellAt row j)) places) (leb (countTo (active row) places) limit) false
 
 -- what the methods of a row promise
+abbrev pub Instances : Row → ℕ → Type 0
+Instances row r = r ≡ countTo (active row) places
+
 abbrev pub CountWith : Places → Row → ℕ → Type 0
 CountWith w row r = r ≡ countWith w row
 

@@ -3,7 +3,7 @@ use crate::row::PLACES;
 use crate::row::Row;
 use crate::row::no_cell;
 use access::Profile;
-ghost use Rattle.store.specs.Grid.{FreshGrid, GridGood};
+ghost use Rattle.store.specs.Grid.{FreshGrid, RowsGood};
 
 pub const PROCEDURES: usize = 3;
 
@@ -25,20 +25,22 @@ pub fn fresh_grid() -> Grid
     }
 }
 
-impl Grid {
-    // Whether a grid breaks no rule of the profile.
-    pub fn good(self, p: Profile) -> bool
-        ensures { λ r. ⌜ GridGood p self r ⌝ }
-    {
-        let cfu = self.rows[0];
+// Whether the rows of cfu, cfb and cfnr break no rule of the profile. Most rows hold nothing, and of those no cell is looked into.
+pub fn rows_good(p: Profile, cfu: Row, cfb: Row, cfnr: Row) -> bool
+    ensures { λ r. ⌜ RowsGood p cfu cfb cfnr r ⌝ }
+{
+    if !cfu.empty() {
         if !cfu.good(p, 0) {
             return false;
         }
-        let cfb = self.rows[1];
+    }
+    if !cfb.empty() {
         if !cfb.good(p, 1) {
             return false;
         }
-        let cfnr = self.rows[2];
-        cfnr.good(p, 2)
     }
+    if cfnr.empty() {
+        return true;
+    }
+    cfnr.good(p, 2)
 }

@@ -5,6 +5,7 @@ mod row;
 pub use grid::Grid;
 pub use grid::PROCEDURES;
 pub use grid::fresh_grid;
+pub use grid::rows_good;
 pub use row::Cell;
 pub use row::Instance;
 pub use row::PLACES;

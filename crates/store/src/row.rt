@@ -11,9 +11,10 @@ use numbers::Number;
 use numbers::address_good;
 ghost use mathlib.Core.Path.{_≡_};
 ghost use Prim.Native.Nat.{_<_};
+ghost use lib.Dec.{eqb};
 ghost use Rattle.lists.specs.Entries.{limit};
 ghost use Rattle.laws.specs.Places.{countTo, everyTo};
-ghost use Rattle.store.specs.Row.{places, noCell, noInstance, cellAt, active, cellGood, rowGood, CountWith, ActiveOf, PutIn, ClearIn, InstanceAt};
+ghost use Rattle.store.specs.Row.{places, noCell, noInstance, cellAt, active, cellGood, rowGood, Instances, CountWith, ActiveOf, PutIn, ClearIn, InstanceAt};
 ghost use Rattle.store.specs.Grid.{EntriesIn};
 
 // The places of a row: a number's are together, by service code.
@@ -214,9 +215,24 @@ impl Row {
         Instance { ok: true, address }
     }
 
+    // Whether there is no instance.
+    pub(crate) fn empty(self) -> bool
+        ensures { λ r. ⌜ r ≡ eqb (countTo (active self) places) 0 ⌝ }
+    {
+        let mut j: usize = 0;
+        while j < PLACES {
+            let x = self.cells[j];
+            if x.service != 0 {
+                return false;
+            }
+            j += 1;
+        }
+        true
+    }
+
     // How many instances there are.
-    fn instances(self) -> usize
-        ensures { λ r. ⌜ r ≡ countTo (active self) places ⌝ }
+    pub fn instances(self) -> usize
+        ensures { λ r. ⌜ Instances self r ⌝ }
     {
         let mut n: usize = 0;
         let mut j: usize = 0;
@@ -246,15 +262,12 @@ impl Row {
         true
     }
 
-    // Whether the row of a procedure breaks no rule. Most rows hold nothing, and of those no cell is looked into.
+    // Whether the row of a procedure breaks no rule.
     pub(crate) fn good(self, p: Profile, procedure: u8) -> bool
         requires { ⌜ procedure < 3 ⌝ }
         ensures { λ r. ⌜ r ≡ rowGood limit p procedure self ⌝ }
     {
         let n = self.instances();
-        if n == 0 {
-            return true;
-        }
         if LIMIT < n {
             return false;
         }

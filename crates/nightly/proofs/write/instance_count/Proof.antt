@@ -1,4 +1,4 @@
-use Rattle.nightly.proofs.WrittenTables.{row-count, row-counted, row-most, rowsTo, rows-none, rows-more, rows-all}
+use Rattle.nightly.proofs.WrittenTables.{row-count, row-most, rowsTo, rows-none, rows-more, rows-all}
 use Rattle.store.specs.Row.{places}
 use Rattle.store.specs.Grid.{procedures, rowAt}
 use lib.ListN.{length}
@@ -10,10 +10,10 @@ use Rattle.nightly.proofs.write.instance_count.Statement.{statement}
 use Rattle.nightly.proofs.write.instance_count.Tie as tie
 
 abbrev Inv-loop : tie.InvT-loop
-Inv-loop grid nowhere n₀ k₀ n k = (k ≤ procedures) × (n ≤ places * k) × (n ≡ length (rowsTo grid k))
+Inv-loop grid n₀ k₀ n k = (k ≤ procedures) × (n ≤ places * k) × (n ≡ length (rowsTo grid k))
 
 abbrev μ-loop : tie.MeasureT-loop
-μ-loop grid nowhere n₀ k₀ n k = procedures - k
+μ-loop grid n₀ k₀ n k = procedures - k
 
 loop-holds : tie.Need-loop-holds Inv-loop μ-loop
 loop-holds c = (omega arith, omega arith, sym (ap length (rows-none (c .args .t1))))
@@ -24,13 +24,13 @@ mul-row c = search needs
 element-copy-out-row : tie.Need-element-copy-out-row Inv-loop μ-loop
 element-copy-out-row c = search needs
 
-count-with-requires : tie.Need-count-with-requires Inv-loop μ-loop
-count-with-requires c κs = search needs
+instances-requires : tie.Need-instances-requires Inv-loop μ-loop
+instances-requires c κs = search needs
 
 add-n : tie.Need-add-n Inv-loop μ-loop
 add-n c =
     let row = rowAt (c .before .before .before .before .args .t1) (c .before .before .before .loop .k) in
-    omega (arith, row-counted row _ (c .count-with .ensures), row-most row)
+    omega (arith, c .instances .ensures, row-most row)
 
 add-k : tie.Need-add-k Inv-loop μ-loop
 add-k c = search needs
@@ -43,7 +43,7 @@ loop-again c =
     let grid = c .before .before .before .before .args .t1 in
     let l = c .before .before .before .loop in
     let row = rowAt grid (l .k) in
-    let counted = row-counted row _ (c .count-with .ensures) in (
+    let counted = c .instances .ensures in (
       omega (arith, c .before .before .loop-test .taken),
       omega (arith, counted, row-most row),
       omega (arith, counted, row-count (l .k) row, rows-more grid (l .k), l .inv .2),
@@ -64,7 +64,7 @@ instance-count-spec =
     loop-holds
     mul-row
     element-copy-out-row
-    count-with-requires
+    instances-requires
     add-n
     add-k
     loop-less

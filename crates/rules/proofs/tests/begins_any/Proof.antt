@@ -20,11 +20,14 @@ abbrev μ-loop : tie.MeasureT-loop
 cast-count : tie.Need-cast-count Inv-loop μ-loop
 cast-count c = search needs
 
+returns : tie.Need-returns Inv-loop μ-loop
+returns c = let s = c .before .before .args in tried-none (s .p .prefixcount) (s .p .prefixes) (digitsOf (s .n)) 0 (omega (arith, c .if1 .taken)) refl
+
 loop-holds : tie.Need-loop-holds Inv-loop μ-loop
 loop-holds c = (omega arith, search (unmapped, needs), refl)
 
-returns : tie.Need-returns Inv-loop μ-loop
-returns c = let l = c .before .before in let s = l .before .before .before .args in tried-none (s .p .prefixcount) (s .p .prefixes) (digitsOf (s .n)) (l .loop .k) (omega arith) (l .loop .inv .2)
+returns-2 : tie.Need-returns-2 Inv-loop μ-loop
+returns-2 c = let l = c .before .before in let s = l .before .before .before .before .args in tried-none (s .p .prefixcount) (s .p .prefixes) (digitsOf (s .n)) (l .loop .k) (omega arith) (l .loop .inv .2)
 
 mul-f : tie.Need-mul-f Inv-loop μ-loop
 mul-f c = search needs
@@ -35,8 +38,8 @@ array-copy-out-f c = search needs
 begins-with-requires : tie.Need-begins-with-requires Inv-loop μ-loop
 begins-with-requires c κs = search needs
 
-returns-2 : tie.Need-returns-2 Inv-loop μ-loop
-returns-2 c = let l = c .before .before .before .before .before in let s = l .before .before .before .args in tried-here (s .p .prefixcount) (s .p .prefixes) (digitsOf (s .n)) (l .loop .k) (omega arith) (omega arith) (sym (c .before .begins-with .ensures) ∙ c .if2 .taken) (l .loop .inv .2)
+returns-3 : tie.Need-returns-3 Inv-loop μ-loop
+returns-3 c = let l = c .before .before .before .before .before in let s = l .before .before .before .before .args in tried-here (s .p .prefixcount) (s .p .prefixes) (digitsOf (s .n)) (l .loop .k) (omega arith) (omega arith) (sym (c .before .begins-with .ensures) ∙ c .if3 .taken) (l .loop .inv .2)
 
 add-k : tie.Need-add-k Inv-loop μ-loop
 add-k c = search needs
@@ -45,10 +48,10 @@ loop-less : tie.Need-loop-less Inv-loop μ-loop
 loop-less c = search needs
 
 loop-again : tie.Need-loop-again Inv-loop μ-loop
-loop-again c = let l = c .before .before .before .before .before in let s = l .before .before .before .args in (omega arith, l .loop .inv .1, tried-next (s .p .prefixcount) (s .p .prefixes) (digitsOf (s .n)) (l .loop .k) (omega arith) (omega arith) (sym (c .before .begins-with .ensures) ∙ c .if2 .left) (l .loop .inv .2))
+loop-again c = let l = c .before .before .before .before .before in let s = l .before .before .before .before .args in (omega arith, l .loop .inv .1, tried-next (s .p .prefixcount) (s .p .prefixes) (digitsOf (s .n)) (l .loop .k) (omega arith) (omega arith) (sym (c .before .begins-with .ensures) ∙ c .if3 .left) (l .loop .inv .2))
 
-returns-3 : tie.Need-returns-3 Inv-loop μ-loop
-returns-3 c = let l = c .before in let s = l .before .before .before .args in tried-none (s .p .prefixcount) (s .p .prefixes) (digitsOf (s .n)) (l .loop .k) (omega arith) (l .loop .inv .2)
+returns-4 : tie.Need-returns-4 Inv-loop μ-loop
+returns-4 c = let l = c .before in let s = l .before .before .before .before .args in tried-none (s .p .prefixcount) (s .p .prefixes) (digitsOf (s .n)) (l .loop .k) (omega arith) (l .loop .inv .2)
 
 pub begins-any-spec : {M : Type 1} → statement M
 begins-any-spec =
@@ -57,13 +60,14 @@ begins-any-spec =
     Inv-loop
     μ-loop
     cast-count
-    loop-holds
     returns
+    loop-holds
+    returns-2
     mul-f
     array-copy-out-f
     begins-with-requires
-    returns-2
+    returns-3
     add-k
     loop-less
     loop-again
-    returns-3)
+    returns-4)

@@ -21,7 +21,7 @@ refuses-requires c κs = search needs
 
 returns : tie.Need-returns
 returns c =
-    let a = c .before .before .before .before .before .args in
+    let a = c .before .before .before .before .before .before .args in
     refused-arrives (a .access .now) (a .self) (a .component .now) (a .out .now) ShortOutput _
     (done-short (a .access .now) (a .self) (a .component .now) (length (a .out .now)) (omega (arith, c .before .if1 .taken)))
     (c .refuses .ensures)
@@ -31,7 +31,7 @@ refuses-requires-2 c κs = search needs
 
 returns-2 : tie.Need-returns-2
 returns-2 c =
-    let a = c .before .before .before .before .before .before .args in
+    let a = c .before .before .before .before .before .before .before .args in
     refused-arrives (a .access .now) (a .self) (a .component .now) (a .out .now) LongComponent _
     (done-long (a .access .now) (a .self) (a .component .now) (length (a .out .now)) (omega (arith, c .before .before .if1 .left)) (omega (arith, c .before .if2 .taken)))
     (c .refuses2 .ensures)
@@ -44,7 +44,7 @@ refuses-requires-3 c κs = search needs
 
 returns-3 : tie.Need-returns-3
 returns-3 c =
-    let a = c .before .before .before .before .before .before .before .before .before .args in
+    let a = c .before .before .before .before .before .before .before .before .before .before .args in
     refused-arrives (a .access .now) (a .self) (a .component .now) (a .out .now) BadProfile _
     (done-profile (a .access .now) (a .self) (a .component .now) (length (a .out .now)) (omega (arith, c .before .before .before .before .before .if1 .left)) (omega (arith, c .before .before .before .before .if2 .left))
     (ap (λ (r : AccessRead). r .ok) (sym (c .before .before .before .read-access .ensures)) ∙ not-true _ (c .before .if3 .taken)))
@@ -58,7 +58,7 @@ refuses-requires-4 c κs = search needs
 
 returns-4 : tie.Need-returns-4
 returns-4 c =
-    let a = c .before .before .before .before .before .before .before .before .before .before .before .before .args in
+    let a = c .before .before .before .before .before .before .before .before .before .before .before .before .before .args in
     let read = c .before .before .before .before .before .before .read-access .ensures in
     refused-arrives (a .access .now) (a .self) (a .component .now) (a .out .now) BadTable _
     (done-table (a .access .now) (a .self) (a .component .now) (length (a .out .now)) (omega (arith, c .before .before .before .before .before .before .before .before .if1 .left)) (omega (arith, c .before .before .before .before .before .before .before .if2 .left))
@@ -77,7 +77,7 @@ mul-row c = search needs
 
 element-copy-out-row : tie.Need-element-copy-out-row
 element-copy-out-row c =
-    let small : c .before .before .question-of .result .request .procedure < 3 = rw (c .before .before .question-of .ensures) (question-procedure _ _ _) in
+    let small : c .before .question-of .result .request .procedure < 3 = rw (c .before .question-of .ensures) (question-procedure _ _ _) in
     search needs
 
 step-of-requires : tie.Need-step-of-requires
@@ -88,7 +88,7 @@ mul-after c = search needs
 
 element-set-from-after : tie.Need-element-set-from-after
 element-set-from-after c =
-    let small : c .before .before .before .before .before .question-of .result .request .procedure < 3 = rw (c .before .before .before .before .before .question-of .ensures) (question-procedure _ _ _) in
+    let small : c .before .before .before .before .question-of .result .request .procedure < 3 = rw (c .before .before .before .before .question-of .ensures) (question-procedure _ _ _) in
     search needs
 
 put-answer-requires : tie.Need-put-answer-requires
@@ -100,19 +100,19 @@ same-length c = search needs
 returns-5 : tie.Need-returns-5
 returns-5 c =
     let a = c .before .before .before .before .before .before .before .before .before .before .before .before .before .before .before .before .before .before .before .before .before .before .args in
-    let read = c .before .before .before .before .before .before .before .before .before .before .before .before .before .before .before .before .read-access .ensures in
-    let ok = ap (λ (r : AccessRead). r .ok) (sym read) ∙ not-false _ (c .before .before .before .before .before .before .before .before .before .before .before .before .before .before .if3 .left) in
-    let good = rw read at (sym (c .before .before .before .before .before .before .before .before .before .before .before .before .good2 .ensures) ∙ not-false _ (c .before .before .before .before .before .before .before .before .before .before .before .if4 .left)) in
-    let room : outputLeast ≤ length (a .out .now) = omega (arith, c .before .before .before .before .before .before .before .before .before .before .before .before .before .before .before .before .before .before .if1 .left) in
-    let q = c .before .before .before .before .before .before .before .before .before .before .question-of .result in
-    let small : q .request .procedure < 3 = rw (c .before .before .before .before .before .before .before .before .before .before .question-of .ensures) (question-procedure _ _ _) in
+    let read = c .before .before .before .before .before .before .before .before .before .before .before .before .before .before .before .read-access .ensures in
+    let ok = ap (λ (r : AccessRead). r .ok) (sym read) ∙ not-false _ (c .before .before .before .before .before .before .before .before .before .before .before .before .before .if3 .left) in
+    let good = rw read at (sym (c .before .before .before .before .before .before .before .before .before .before .before .good2 .ensures) ∙ not-false _ (c .before .before .before .before .before .before .before .before .before .before .if4 .left)) in
+    let room : outputLeast ≤ length (a .out .now) = omega (arith, c .before .before .before .before .before .before .before .before .before .before .before .before .before .before .before .before .before .if1 .left) in
+    let q = c .before .before .before .before .before .before .before .before .before .question-of .result in
+    let small : q .request .procedure < 3 = rw (c .before .before .before .before .before .before .before .before .before .question-of .ensures) (question-procedure _ _ _) in
     let start = c .before .before .before .before .before .before .before .before .before .before .before .before .before .before .before .before .before .before .before .before .before .before in
     let rows : length (start .args .self .grid .rows) ≡ 3 = search (unmapped, needs, start .good) in
-    let steps : Stepping (a .self) (q .request .procedure) (step (c .before .before .before .before .before .before .before .before .before .before .before .before .before .before .before .before .read-access .result .profile) (a .self) (a .component .now)) (c .before .before .before .before .before .before .step-of .result) =
-    rw (step-of _ (a .self) (a .component .now) _ (c .before .before .before .before .before .before .before .before .before .before .question-of .ensures))
+    let steps : Stepping (a .self) (q .request .procedure) (step (c .before .before .before .before .before .before .before .before .before .before .before .before .before .before .before .read-access .result .profile) (a .self) (a .component .now)) (c .before .before .before .before .before .before .step-of .result) =
+    rw (step-of _ (a .self) (a .component .now) _ (c .before .before .before .before .before .before .before .before .before .question-of .ensures))
     (c .before .before .before .before .before .before .step-of .ensures (a .self) refl refl (omega (arith, rows))) in
     answered-arrives (a .access .now) (a .self) (a .component .now) (a .out .now) _ _ _ _ _
-    (done-answers (a .access .now) (a .self) (a .component .now) (length (a .out .now)) room (omega (arith, c .before .before .before .before .before .before .before .before .before .before .before .before .before .before .before .before .before .if2 .left)) ok good)
+    (done-answers (a .access .now) (a .self) (a .component .now) (length (a .out .now)) room (omega (arith, c .before .before .before .before .before .before .before .before .before .before .before .before .before .before .before .before .if2 .left)) ok good)
     (step-fits _ (a .self) (access-good (a .access .now) ok) good (a .component .now))
     (rw read at steps)
     room

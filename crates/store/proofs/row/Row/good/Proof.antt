@@ -1,4 +1,4 @@
-use Rattle.store.proofs.Rows.{row-none, row-many, row-few}
+use Rattle.store.proofs.Rows.{row-many, row-few}
 use Rattle.lists.specs.Entries.{limit}
 use mathlib.Core.Path.{sym, _∙_}
 use native.Mathlib.Omega.{arith}
@@ -12,21 +12,16 @@ instances-requires c κs = search needs
 returns : tie.Need-returns
 returns c =
     let a = c .before .before .args in
-    sym (row-none limit (a .p) (a .procedure) (a .self) (sym (c .before .instances .ensures) ∙ c .if1 .taken))
-
-returns-2 : tie.Need-returns-2
-returns-2 c =
-    let a = c .before .before .before .args in
-    sym (row-many limit (a .p) (a .procedure) (a .self) (omega (arith, c .before .before .instances .ensures, c .if2 .taken)))
+    sym (row-many limit (a .p) (a .procedure) (a .self) (omega (arith, c .before .instances .ensures, c .if1 .taken)))
 
 cells-good-requires : tie.Need-cells-good-requires
 cells-good-requires c κs = search needs
 
-returns-3 : tie.Need-returns-3
-returns-3 c =
-    let a = c .before .before .before .before .args in
+returns-2 : tie.Need-returns-2
+returns-2 c =
+    let a = c .before .before .before .args in
     c .cells-good .ensures
-    ∙ sym (row-few limit (a .p) (a .procedure) (a .self) (omega (arith, c .before .before .before .instances .ensures, c .before .if2 .left)))
+    ∙ sym (row-few limit (a .p) (a .procedure) (a .self) (omega (arith, c .before .before .instances .ensures, c .before .if1 .left)))
 
 pub good-spec : {M : Type 1} → statement M
-good-spec = tie.close (tie.spec instances-requires returns returns-2 cells-good-requires returns-3)
+good-spec = tie.close (tie.spec instances-requires returns cells-good-requires returns-2)
