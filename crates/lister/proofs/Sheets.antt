@@ -15,6 +15,7 @@ use Rattle.laws.proofs.Picks.{pick-ind}
 use Rattle.sheet.specs.Form.{form1}
 use Rattle.sheet.specs.Sheet.{Sheet, instancesFrom, noInstance, sheetIn}
 use Rattle.sheet.specs.Formed.{formedBy, Holds, OpeningOf}
+use Rattle.sheet.specs.Outcome.{notWritten}
 use Rattle.sheet.specs.declared.form.Opening.{Opening}
 use Rattle.sheet.specs.declared.instance.Instance.{Instance}
 use Rattle.sheet.specs.declared.record.Refusal.the-variants.{ShortOutput, BadSheet}
@@ -24,7 +25,7 @@ use Rattle.sheet.proofs.Bounds.{AllBounded}
 use Rattle.sheet.proofs.Formed.{Formed, formed-parts, opened-instances, opened-holds, opened-last, opened-count}
 use Rattle.sheet.proofs.Counts.{formed-count, formed-few, formed-last, formed-bounded}
 use Rattle.lister.specs.Listing.{lineOf, headerLine, instanceLine, instanceLines, headerMost, lineMost, listing, listingMost, listedSheet, ListsSheet, refusedLine, printedAs, printedSheet, PrintsSheet}
-use Rattle.lister.specs.Write.{linesFound, listingFound, notWritten}
+use Rattle.lister.specs.Write.{linesFound, listingFound}
 use Rattle.lister.proofs.Words.{decimal-one}
 use Rattle.lister.proofs.Lines.{header-most, line-most}
 use Rattle.lister.proofs.Listings.{lines-none, lines-more}

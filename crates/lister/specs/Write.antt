@@ -7,9 +7,6 @@ use Rattle.numbers.specs.declared.address.Address.{Address}
 use Rattle.sheet.specs.Form.{form1}
 use Rattle.sheet.specs.Sheet.{Sheet}
 use Rattle.sheet.specs.declared.instance.Instance.{Instance}
-use Rattle.sheet.specs.declared.record.Refusal.{Refusal}
-use Rattle.sheet.specs.declared.record.Outcome.the-variants.{Refuses}
-use Rattle.sheet.specs.declared.record.Written.{Written}
 use Rattle.lister.specs.Listing.{instanceLines, listing}
 
 -- an address whose counts its arrays hold
@@ -25,7 +22,3 @@ linesFound wrong = []
 abbrev pub listingFound : Got Sheet → List ℕ
 listingFound (got sheet next) = listing form1 sheet
 listingFound wrong = []
-
--- nothing is written
-abbrev pub notWritten : Refusal → Written
-notWritten refusal = record { outcome = Refuses refusal; count = 0 }

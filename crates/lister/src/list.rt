@@ -15,8 +15,9 @@ ghost use Rattle.laws.specs.Over.{Wrote};
 ghost use Rattle.sheet.specs.Form.{form1};
 ghost use Rattle.sheet.specs.Sheet.{sheetIn};
 ghost use Rattle.sheet.specs.Formed.{formedBy};
+ghost use Rattle.sheet.specs.Outcome.{notWritten};
 ghost use Rattle.lister.specs.Listing.{listingMost, ListsSheet, PrintsSheet};
-ghost use Rattle.lister.specs.Write.{listingFound, notWritten};
+ghost use Rattle.lister.specs.Write.{listingFound};
 
 // The most octets of an instance's line, and of a listing: the header has at most 27, and there are at most 8 instances of each of
 // three procedures.

@@ -17,11 +17,11 @@ use Rattle.exchange.specs.declared.table.Table.{Table}
 use Rattle.exchange.proofs.Tables.{table-good}
 use Rattle.sheet.specs.Form.{form1, sheetMost}
 use Rattle.sheet.specs.Sheet.{sheetOctets}
-use Rattle.sheet.specs.Outcome.{refusalNo}
+use Rattle.sheet.specs.Outcome.{refusalNo, notWritten}
 use Rattle.nightly.specs.Instances.{instancesOf}
 use Rattle.nightly.specs.Record.{wroteSheet, WritesSheet}
 use Rattle.nightly.specs.Record as record-specs
-use Rattle.nightly.specs.Write.{Space, GridWritable, notWritten}
+use Rattle.nightly.specs.Write.{Space, GridWritable}
 use Rattle.sheet.specs.declared.record.Refusal.{Refusal}
 use Rattle.sheet.specs.declared.record.Refusal.the-variants.{ShortOutput, BadProfile, BadTable}
 use Rattle.sheet.specs.declared.record.Outcome.the-variants.{Done}

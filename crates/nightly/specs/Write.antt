@@ -17,9 +17,6 @@ use Rattle.store.specs.declared.grid.Grid.{Grid}
 use Rattle.sheet.specs.Form.{instanceMost}
 use Rattle.sheet.specs.Sheet.{instancesOctets}
 use Rattle.sheet.specs.declared.instance.Instance.{Instance}
-use Rattle.sheet.specs.declared.record.Refusal.{Refusal}
-use Rattle.sheet.specs.declared.record.Outcome.the-variants.{Refuses}
-use Rattle.sheet.specs.declared.record.Written.{Written}
 
 -- ---- fields
 
@@ -76,9 +73,3 @@ RowWritable row = (j : ℕ) → j < places → Writable (cellAt row j)
 
 abbrev pub GridWritable : Grid → Type 0
 GridWritable grid = (k : ℕ) → k < procedures → RowWritable (rowAt grid k)
-
--- ---- refusals
-
--- nothing is written
-abbrev pub notWritten : Refusal → Written
-notWritten refusal = record { outcome = Refuses refusal; count = 0 }

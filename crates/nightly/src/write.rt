@@ -21,9 +21,10 @@ ghost use Rattle.laws.specs.Over.{Wrote};
 ghost use Rattle.numbers.specs.Number.{most};
 ghost use Rattle.numbers.specs.Address.{addressGood};
 ghost use Rattle.sheet.specs.Instance.{allGroups, addressFields};
+ghost use Rattle.sheet.specs.Outcome.{notWritten};
 ghost use Rattle.nightly.specs.Instances.{instancesOf};
 ghost use Rattle.nightly.specs.Record.{WritesSheet};
-ghost use Rattle.nightly.specs.Write.{Room, above, NoneBelow, Space, WroteInstances, cellInstances, rowInstances, Writable, RowWritable, GridWritable, notWritten};
+ghost use Rattle.nightly.specs.Write.{Room, above, NoneBelow, Space, WroteInstances, cellInstances, rowInstances, Writable, RowWritable, GridWritable};
 
 const FORM: u32 = 1;
 

@@ -4,6 +4,7 @@ use Rattle.sheet.specs.declared.record.Refusal.{Refusal}
 use Rattle.sheet.specs.declared.record.Refusal.the-variants.{ShortOutput, BadProfile, BadTable, BadSheet}
 use Rattle.sheet.specs.declared.record.Outcome.{Outcome}
 use Rattle.sheet.specs.declared.record.Outcome.the-variants.{Refuses, Done}
+use Rattle.sheet.specs.declared.record.Written.{Written}
 
 -- the numbers of "Local refusals"
 abbrev pub refusalNo : Refusal → ℕ
@@ -16,3 +17,7 @@ refusalNo BadSheet = 9
 abbrev pub outcomeNo : Outcome → ℕ
 outcomeNo (Refuses r) = refusalNo r
 outcomeNo Done = 0
+
+-- what is answered where nothing is written
+abbrev pub notWritten : Refusal → Written
+notWritten refusal = record { outcome = Refuses refusal; count = 0 }
