@@ -180,7 +180,7 @@ size_t sconcetoad_original(struct sconcetoad_table table, const uint8_t *access,
 
 /* The longest night sheet and the longest listing of one: the least output for each. */
 #define SCONCETOAD_SHEET 1613
-#define SCONCETOAD_LISTING 1827
+#define SCONCETOAD_LISTING 1811
 
 /* The local refusal of a night sheet that is read or listed, beside those above. */
 enum {

@@ -19,7 +19,7 @@ ghost use Prim.Native.Nat.{_≤_};
 // The most octets of a sheet, and of a listing.
 const SHEETMOST: usize = 1613;
 
-const LISTINGMOST: usize = 1827;
+const LISTINGMOST: usize = 1811;
 
 fn refused(refusal: Refusal) {
     match refusal {

@@ -1,4 +1,5 @@
 pub mod Words
 pub mod Lines
 pub mod Listings
+pub mod Lengths
 pub mod Sheets

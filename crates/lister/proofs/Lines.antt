@@ -114,16 +114,8 @@ module _ (i : Instance) where
                   (line-wrote us k kind digits (sub ∷ []) after-service w4
                   (line-wrote vs m digits sub [] after-kind w5 (rw (line-last sub) w6))))))
 
-  -- a line has at most 75 octets
+  -- a line has at most 71 octets beside its procedure's name
   module _ (b : Bounded i) where
-    name-most : length name ≤ 4
-    unfolding procedureName
-    name-most =
-        pick-ind (λ ws. length ws ≤ 4) (eqb (i .procedure) 0) {x = 99 ∷ 102 ∷ 117 ∷ []} (λ _. omega arith) (λ _.
-        pick-ind (λ ws. length ws ≤ 4) (eqb (i .procedure) 1) {x = 99 ∷ 102 ∷ 98 ∷ []} {y = 99 ∷ 102 ∷ 110 ∷ 114 ∷ []}
-        (λ _. omega arith)
-        (λ _. omega arith))
-
     kind-most : length kind ≤ 2
     unfolding kindText
     kind-most =
@@ -140,7 +132,7 @@ module _ (i : Instance) where
         (λ _. omega arith)
         (λ _. omega (arith, hex-length octets, length-take (a .subcount) (a .sub), b .address .sub))
 
-    pub line-most : length (instanceLine i) ≤ lineMost
+    pub line-most : length (instanceLine i) ≤ lineMost (i .procedure)
     line-most =
         omega (
           arith,
@@ -162,7 +154,6 @@ module _ (i : Instance) where
           length-append digits (32 ∷ []),
           ap length (line-last sub),
           length-append sub (10 ∷ []),
-          name-most,
           decimal-most 0 (i .number) (omega (arith, b .number)),
           decimal-most 1 (i .service) (omega (arith, b .service)),
           kind-most,

@@ -1,10 +1,10 @@
 -- Laws of the lines of a sheet's instances, over plain values: what their writer leaves, instance by instance. Assumes nothing.
-use Prim.Native.Nat.{ℕ, suc, _+_, _-_, _*_, _≤_, _<_}
+use Prim.Native.Nat.{ℕ, suc, _+_, _-_, _≤_, _<_}
 use mathlib.Core.Path.{_≡_, refl, sym, ap, _∙_}
 use mathlib.Core.List.{List, [], _∷_, _++_, append-assoc, append-nil}
 use native.Mathlib.Nat.{sub-zero}
 use native.Mathlib.Omega.{arith}
-use lib.ListN.{length}
+use lib.ListN.{length, length-append}
 use Rattle.laws.specs.Over.{Wrote}
 use Rattle.laws.proofs.Over.{wrote-length, then, wrote-none}
 use Rattle.sheet.specs.Form.{form1}
@@ -14,9 +14,8 @@ use Rattle.sheet.specs.declared.instance.Instance.{Instance}
 use Rattle.sheet.specs.declared.read.InstanceRead.{InstanceRead}
 use Rattle.sheet.proofs.Bounds.{Bounded}
 use Rattle.sheet.proofs.Walks.{Left, left-first, left-none, left-bounded, left-others, left-is, left-next}
-use Rattle.lister.specs.Listing.{instanceLine, instanceLines, lineMost}
+use Rattle.lister.specs.Listing.{instanceLine, instanceLines}
 use Rattle.lister.specs.Write.{Counted, linesFound}
-use Rattle.lister.proofs.Lines.{line-most}
 
 -- ---- lines, one after the other
 
@@ -28,10 +27,13 @@ pub lines-more : (i : Instance) (is : List Instance) → instanceLines (i ∷ is
 unfolding instanceLines
 lines-more i is = refl
 
-lines-after : (is : List Instance) (k : Instance) → instanceLines (is ++ (k ∷ [])) ≡ instanceLines is ++ instanceLine k
-lines-after [] k = rw (lines-more k [], lines-none, append-nil (instanceLine k))
-lines-after (i ∷ is) k =
-    rw (lines-more i (is ++ (k ∷ [])), lines-after is k, lines-more i is, append-assoc (instanceLine i) (instanceLines is) (instanceLine k))
+lines-append : (is ks : List Instance) → instanceLines (is ++ ks) ≡ instanceLines is ++ instanceLines ks
+lines-append [] ks = rw lines-none
+lines-append (i ∷ is) ks =
+    rw (lines-more i (is ++ ks), lines-append is ks, lines-more i is, append-assoc (instanceLine i) (instanceLines is) (instanceLines ks))
+
+lines-one : (k : Instance) → instanceLines (k ∷ []) ≡ instanceLine k
+lines-one k = rw (lines-more k [], lines-none, append-nil (instanceLine k))
 
 -- A writer of the lines of `count` instances that are there has come to `here` in the sheet and to p in the output, with i of them
 -- listed: those that are `done`, and then the `rest`.
@@ -42,7 +44,6 @@ pub record Going (s : List ℕ) (from count : ℕ) (xs : List ℕ) (at i here p 
   pub left : Left s here (count - i) rest
   pub all : linesFound (instancesFrom form1 count noInstance 0 s from) ≡ instanceLines (done ++ rest)
   pub wrote : Wrote xs at (instanceLines done) p ys
-  pub within : p ≤ at + lineMost * i
 
 module _ (s : List ℕ) (from count : ℕ) (xs : List ℕ) (at : ℕ) where
   pub going-first : Holds (instancesFrom form1 count noInstance 0 s from) → Going s from count xs at 0 from at xs
@@ -53,7 +54,6 @@ module _ (s : List ℕ) (from count : ℕ) (xs : List ℕ) (at : ℕ) where
     left = rw sub-zero (left-first s from count (there .thing) (there .next) (there .is));
     all = rw (there .is);
     wrote = rw lines-none wrote-none;
-    within = omega arith;
   }
 
   module _ {i here p : ℕ} {ys : List ℕ} (so : Going s from count xs at i here p ys) where
@@ -80,16 +80,28 @@ module _ (s : List ℕ) (from count : ℕ) (xs : List ℕ) (at : ℕ) where
         pub going-counted : Counted (k .address)
         going-counted = record { digits = bounded .address .digits; sub = bounded .address .sub }
 
-        -- there is room for its line
-        pub going-room : at + lineMost * count ≤ length xs → p + length (instanceLine k) ≤ length ys
-        going-room fits = omega (arith, so .within, line-most k bounded, wrote-length (so .wrote))
-
         others : List Instance
         others = left-others s here (count - (i + 1)) (so .rest) one-left r told
 
         is-rest : k ∷ others ≡ so .rest
         unfolding others
         is-rest = left-is s here (count - (i + 1)) (so .rest) one-left r told
+
+        -- there is room for its line where there is for them all
+        pub going-room :
+            at + length (linesFound (instancesFrom form1 count noInstance 0 s from)) ≤ length xs →
+            p + length (instanceLine k) ≤ length ys
+        going-room fits =
+            omega (
+              arith,
+              fits,
+              so .wrote .moved,
+              wrote-length (so .wrote),
+              ap length (so .all ∙ lines-append (so .done) (so .rest)),
+              length-append (instanceLines (so .done)) (instanceLines (so .rest)),
+              ap length (sym (ap instanceLines is-rest) ∙ lines-more k others),
+              length-append (instanceLine k) (instanceLines others),
+            )
 
         -- it is written after the others
         pub going-next : {q : ℕ} {zs : List ℕ} → Wrote ys p (instanceLine k) q zs → Going s from count xs at (i + 1) (r .next) q zs
@@ -100,6 +112,5 @@ module _ (s : List ℕ) (from count : ℕ) (xs : List ℕ) (at : ℕ) where
           rest = others;
           left = left-next s here (count - (i + 1)) (so .rest) one-left r told;
           all = so .all ∙ ap instanceLines (ap (λ (is : List Instance). so .done ++ is) (sym is-rest) ∙ sym (append-assoc (so .done) (k ∷ []) others));
-          wrote = rw (lines-after (so .done) k) (then (so .wrote) line);
-          within = omega (arith, so .within, line .moved, line-most k bounded);
+          wrote = rw (lines-append (so .done) (k ∷ []), lines-one k) (then (so .wrote) line);
         }

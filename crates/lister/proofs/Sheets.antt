@@ -1,5 +1,5 @@
 -- Laws of a night sheet that is listed, over plain values: how long its listing is, and what is answered. Assumes nothing.
-use Prim.Native.Nat.{ℕ, _+_, _*_, _≤_, _<_}
+use Prim.Native.Nat.{ℕ, _+_, _≤_, _<_}
 use mathlib.Core.Path.{_≡_, refl, sym, ap, _∙_}
 use mathlib.Core.Bool.{true, false}
 use mathlib.Core.List.{List, [], _∷_, _++_}
@@ -11,6 +11,7 @@ use borrow.Author.Tests.{lt-ltb, le-ltb, ltb-false}
 use Rattle.laws.specs.Got.{Got, got, wrong}
 use Rattle.laws.specs.Over.{Wrote, Puts}
 use Rattle.laws.proofs.Over.{wrote, wrote-length, length-over, over-nil, then}
+use Rattle.laws.proofs.Gots.{found-is}
 use Rattle.laws.proofs.Picks.{pick-ind}
 use Rattle.sheet.specs.Form.{form1}
 use Rattle.sheet.specs.Sheet.{Sheet, instancesFrom, noInstance, sheetIn}
@@ -24,11 +25,13 @@ use Rattle.sheet.specs.declared.record.Written.{Written}
 use Rattle.sheet.proofs.Bounds.{AllBounded}
 use Rattle.sheet.proofs.Formed.{Formed, formed-parts, opened-instances, opened-holds, opened-last, opened-count}
 use Rattle.sheet.proofs.Counts.{formed-count, formed-few, formed-last, formed-bounded}
-use Rattle.lister.specs.Listing.{lineOf, headerLine, instanceLine, instanceLines, headerMost, lineMost, listing, listingMost, listedSheet, ListsSheet, refusedLine, printedAs, printedSheet, PrintsSheet}
+use Rattle.sheet.proofs.SheetTrips.{countOf}
+use Rattle.sheet.proofs.AcceptedSheets.{Allowed, sheet-allowed}
+use Rattle.lister.specs.Listing.{procedureName, lineOf, headerLine, instanceLines, headerMost, linesMost, listing, listingMost, listedSheet, ListsSheet, refusedLine, printedAs, printedSheet, PrintsSheet}
 use Rattle.lister.specs.Write.{linesFound, listingFound}
 use Rattle.lister.proofs.Words.{decimal-one}
-use Rattle.lister.proofs.Lines.{header-most, line-most}
-use Rattle.lister.proofs.Listings.{lines-none, lines-more}
+use Rattle.lister.proofs.Lines.{header-most}
+use Rattle.lister.proofs.Lengths.{lines-most, more-most}
 
 -- ---- how long a listing is
 
@@ -38,16 +41,10 @@ listing-parts :
 unfolding listing
 listing-parts sheet = refl
 
-lines-most : (is : List Instance) → AllBounded is → length (instanceLines is) ≤ lineMost * length is
-lines-most [] b = rw lines-none (omega arith)
-lines-most (i ∷ is) b =
-    rw (lines-more i is)
-    (omega (arith, length-append (instanceLine i) (instanceLines is), line-most i (b .0), lines-most is (b .1)))
-
--- the listing of n instances is at most 75 n + 27 octets
+-- by how many instances there are of each procedure
 pub listing-most :
     (sheet : Sheet) → sheet .last ≤ 32767 → length (sheet .instances) < 100 → AllBounded (sheet .instances) →
-    length (listing form1 sheet) ≤ lineMost * length (sheet .instances) + headerMost
+    length (listing form1 sheet) ≤ headerMost + linesMost (λ procedure. countOf procedure (sheet .instances)) (form1 .procedures)
 listing-most sheet few small b =
     let is : List Instance = sheet .instances in
     omega (
@@ -58,7 +55,8 @@ listing-most sheet few small b =
       lines-most is b,
     )
 
-pub listing-octets : listingMost form1 ≡ 1827
+pub listing-octets : listingMost form1 ≡ 1811
+unfolding procedureName
 listing-octets = refl
 
 -- ---- a sheet that is there
@@ -70,43 +68,46 @@ module _ (s : List ℕ) (ok : formedBy (sheetIn form1 s) .ok ≡ true) where
   abbrev sheet : Sheet
   sheet = record { last = formed .opened .last; instances = formed .instances }
 
-  -- every listing fits in 1,827 octets
+  few : (procedure : ℕ) → countOf procedure (formed .instances) ≤ form1 .perProcedure
+  few = found-is Allowed (formed .whole) (sheet-allowed s) .1 .few
+
+  -- every listing fits in 1,811 octets
   pub listing-fits : length (listingFound (sheetIn form1 s)) ≤ listingMost form1
   listing-fits =
       rw (formed .whole)
       (omega (
         arith,
         listing-most sheet (formed-last s formed) (omega (arith, formed-few s formed)) (formed-bounded s formed),
-        formed-few s formed,
+        more-most (λ procedure. countOf procedure (formed .instances)) (λ _. form1 .perProcedure) few (form1 .procedures),
       ))
 
   -- its parts, as the reader of its opening names them, in output that has room for the longest listing
   module _ (r : Opening) (told : OpeningOf s r) (xs : List ℕ) (fits : listingMost form1 ≤ length xs) where
-    last-few : r .last ≤ 32767
-    last-few = omega (arith, opened-last s formed r told, formed-last s formed)
-
     count-is : r .count ≡ length (formed .instances)
     count-is = opened-count s formed r told ∙ formed-count s formed
 
-    header-long : length (headerLine 1 (r .last) (r .count)) ≤ headerMost
-    header-long = header-most (r .last) (r .count) last-few (omega (arith, count-is, formed-few s formed))
+    abbrev lines : List ℕ
+    lines = linesFound (instancesFrom form1 (r .count) noInstance 0 s (r .next))
+
+    parts-long : length (headerLine 1 (r .last) (r .count)) + length lines ≡ length (listingFound (sheetIn form1 s))
+    parts-long =
+        rw (opened-instances s formed r told, opened-last s formed r told, count-is, formed .whole, listing-parts sheet)
+        (sym (length-append (headerLine 1 (formed .opened .last) (length (formed .instances))) (instanceLines (formed .instances))))
 
     pub header-room : length (headerLine 1 (r .last) (r .count)) ≤ length xs
-    header-room = omega (arith, header-long, fits)
+    header-room = omega (arith, parts-long, listing-fits, fits)
 
     pub lines-there : Holds (instancesFrom form1 (r .count) noInstance 0 s (r .next))
     lines-there = opened-holds s formed r told
 
     module _ {p : ℕ} {ys : List ℕ} (header : Wrote xs 0 (headerLine 1 (r .last) (r .count)) p ys) where
-      pub lines-room : p + lineMost * r .count ≤ length ys
-      lines-room =
-          omega (arith, header .moved, header-long, count-is, formed-few s formed, fits, wrote-length header)
+      pub lines-room : p + length lines ≤ length ys
+      lines-room = omega (arith, header .moved, parts-long, listing-fits, fits, wrote-length header)
 
       pub listing-wrote :
-          {q : ℕ} {zs : List ℕ} → Wrote ys p (linesFound (instancesFrom form1 (r .count) noInstance 0 s (r .next))) q zs →
-          Wrote xs 0 (listingFound (sheetIn form1 s)) q zs
-      listing-wrote {q} {zs} lines =
-          let rest : Wrote ys p (instanceLines (formed .instances)) q zs = rw (opened-instances s formed r told) at lines in
+          {q : ℕ} {zs : List ℕ} → Wrote ys p lines q zs → Wrote xs 0 (listingFound (sheetIn form1 s)) q zs
+      listing-wrote {q} {zs} more =
+          let rest : Wrote ys p (instanceLines (formed .instances)) q zs = rw (opened-instances s formed r told) at more in
           let head : Wrote xs 0 (headerLine 1 (formed .opened .last) (length (formed .instances))) p ys =
           rw (opened-last s formed r told, count-is) at header in
           rw (formed .whole, listing-parts sheet) (then head rest)
@@ -177,14 +178,13 @@ printed-fits : (s : List ℕ) (size : ℕ) → length (printedSheet s size) ≤ 
 unfolding printedSheet
 printed-fits s size =
     pick-ind (λ ws. length ws ≤ size) (ltb size (listingMost form1)) {x = []} (λ _. omega arith) (λ e.
-    let room : 1827 ≤ size = omega (arith, ltb-false size (listingMost form1) e) in
-    each (sheetIn form1 s) refl room)
+    each (sheetIn form1 s) refl (omega (arith, ltb-false size (listingMost form1) e)))
   where
-    each : (g : Got Sheet) → sheetIn form1 s ≡ g → 1827 ≤ size → length (printedAs g) ≤ size
+    each : (g : Got Sheet) → sheetIn form1 s ≡ g → listingMost form1 ≤ size → length (printedAs g) ≤ size
     each (got sheet next) e room =
         let ok : formedBy (sheetIn form1 s) .ok ≡ true = rw e in
         omega (arith, rw e at (listing-fits s ok), room)
-    each wrong e room = omega (arith, ap length refused-text)
+    each wrong e room = omega (arith, ap length refused-text, listing-octets, room)
 
 pub prints-within : {s xs : List ℕ} {r : ℕ} {ys : List ℕ} → PrintsSheet s xs r ys → r ≤ length ys
 prints-within {s} {xs} p =

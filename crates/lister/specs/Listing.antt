@@ -94,15 +94,21 @@ instanceLines (i ∷ is) = instanceLine i ++ instanceLines is
 unfoldable pub listing : Form → Sheet → List ℕ
 listing f sheet = headerLine (f .code) (sheet .last) (length (sheet .instances)) ++ instanceLines (sheet .instances)
 
--- the most octets of an instance's line, and of a listing over its form: 1,827 for form 1
-abbrev pub lineMost : ℕ
-lineMost = 75
+-- the most octets of an instance's line: 71 beside its procedure's name
+abbrev pub lineMost : ℕ → ℕ
+lineMost procedure = 71 + length (procedureName procedure)
+
+-- of the lines of the procedures below n, over how many there are of each
+abbrev pub linesMost : (ℕ → ℕ) → ℕ → ℕ
+linesMost count zero = 0
+linesMost count (suc n) = linesMost count n + count n * lineMost n
 
 abbrev pub headerMost : ℕ
 headerMost = 27
 
+-- of a listing over its form: 1,811 for form 1
 abbrev pub listingMost : Form → ℕ
-listingMost f = lineMost * (f .procedures * f .perProcedure) + headerMost
+listingMost f = headerMost + linesMost (λ _. f .perProcedure) (f .procedures)
 
 -- ---- a sheet is listed
 

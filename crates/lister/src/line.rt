@@ -7,13 +7,13 @@ use crate::word::write_sub;
 use octets::put_all;
 use sheet::Instance;
 use sheet::instance_at;
-ghost use Prim.Native.Nat.{_+_, _*_, _≤_};
+ghost use Prim.Native.Nat.{_+_, _≤_};
 ghost use lib.ListN.{length};
 ghost use Rattle.laws.specs.Over.{Wrote};
 ghost use Rattle.sheet.specs.Form.{form1};
 ghost use Rattle.sheet.specs.Sheet.{instancesFrom, noInstance};
 ghost use Rattle.sheet.specs.Formed.{Holds};
-ghost use Rattle.lister.specs.Listing.{headerLine, instanceLine, lineMost};
+ghost use Rattle.lister.specs.Listing.{headerLine, instanceLine};
 ghost use Rattle.lister.specs.Write.{Counted, linesFound};
 
 // The header at the start of the output.
@@ -45,7 +45,7 @@ fn write_line(out: &mut [u8], at: usize, i: Instance) -> usize
 
 // The lines of `count` instances from `from` on, which `sheet_form` has found there.
 pub(crate) fn write_lines(out: &mut [u8], at: usize, s: &[u8], from: usize, count: u32) -> usize
-    requires { ⌜ Holds (instancesFrom form1 count noInstance 0 (now s) from) × (at + lineMost * count ≤ length (now out)) ⌝ }
+    requires { ⌜ Holds (instancesFrom form1 count noInstance 0 (now s) from) × (at + length (linesFound (instancesFrom form1 count noInstance 0 (now s) from)) ≤ length (now out)) ⌝ }
     ensures { λ r. ⌜ Wrote (now (out .entry)) at (linesFound (instancesFrom form1 count noInstance 0 (now (s .entry)) from)) r (now (out .exit)) ⌝ }
 {
     let mut p = at;

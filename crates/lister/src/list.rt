@@ -19,11 +19,8 @@ ghost use Rattle.sheet.specs.Outcome.{notWritten};
 ghost use Rattle.lister.specs.Listing.{listingMost, ListsSheet, PrintsSheet};
 ghost use Rattle.lister.specs.Write.{listingFound};
 
-// The most octets of an instance's line, and of a listing: the header has at most 27, and there are at most 8 instances of each of
-// three procedures.
-const LINEMOST: usize = 75;
-
-const LISTINGMOST: usize = LINEMOST * (3 * 8) + 27;
+// The most octets of a listing: 27 of its header, and at most 8 lines of each procedure, which have 74 for cfu, 74 for cfb and 75 for cfnr.
+const LISTINGMOST: usize = 27 + 8 * (74 + 74 + 75);
 
 // The listing of a sheet that `sheet_form` has found, in two passes: nothing is written of what is no sheet.
 fn write_listing(out: &mut [u8], s: &[u8]) -> usize

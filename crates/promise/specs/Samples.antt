@@ -1,10 +1,12 @@
--- The samples of document 01 that are marked P, and its night sheet, as one table. `Each samples` is the one statement about them.
-use Prim.Native.Nat.{ℕ}
+-- The samples of document 01 that are marked P, its night sheet, and the longest listing, as one table. `Each samples` is the one statement
+-- about them.
+use Prim.Native.Nat.{ℕ, _+_, _/_, _%_}
 use mathlib.Core.Path.{_≡_}
 use mathlib.Core.List.{List, [], _∷_, _++_}
 use lib.IntN.{ℤ, pos, negsuc}
 use lib.ListN.{length, set, replicate}
 use Rattle.laws.specs.Got.{got}
+use Rattle.laws.specs.Places.{gathered}
 use Rattle.values.specs.Ident.{identAt, identOctets}
 use Rattle.groups.specs.Groups.{groupsAt, groups}
 use Rattle.values.specs.declared.ident.Ident.{Ident}
@@ -25,7 +27,7 @@ use Rattle.exchange.specs.Table.{freshTable, withRow, withLast}
 use Rattle.exchange.specs.Arrive.{outputLeast, done}
 use Rattle.exchange.specs.declared.table.Table.{Table}
 use Rattle.sheet.specs.Form.{form1, sheetMost}
-use Rattle.lister.specs.Listing.{listingMost, printedSheet}
+use Rattle.lister.specs.Listing.{listingMost, listedSheet, printedSheet}
 use Rattle.nightly.specs.Record.{wroteSheet}
 use Rattle.calls.specs.Divert.{Told, refuses, passes, diverts, comes}
 use Rattle.coding.specs.Heard.{local, heard}
@@ -54,6 +56,7 @@ pub data Sample : Type 0 where
   diverts-to : (access : List ℕ) → Table → (call : List ℕ) → Told → (counter option : ℕ) → Sample
   writes-sheet : (access : List ℕ) → Table → (sheet : List ℕ) → Sample
   prints-sheet : (sheet text : List ℕ) → Sample
+  fills-listing : (sheet : List ℕ) → Sample
 
 -- what a sample says: octets are read from the first to the end, and output that is lent is the least there may be
 abbrev pub Says : Sample → Type 0
@@ -73,6 +76,7 @@ Says (diverts-to access t s is counter option) =
     (comes access t s .told ≡ is) × (comes access t s .call .counter ≡ counter) × (comes access t s .call .option ≡ option)
 Says (writes-sheet access t s) = wroteSheet access t (sheetMost form1) .octets ≡ s
 Says (prints-sheet s text) = printedSheet s (listingMost form1) ≡ text
+Says (fills-listing s) = length (listedSheet s (listingMost form1) .octets) ≡ listingMost form1
 
 abbrev pub Each : List Sample → Type 0
 Each [] = Unit {0}
@@ -139,6 +143,15 @@ nightListing =
 abbrev pub refusedListing : List ℕ
 refusedListing = 0x72 ∷ 0x65 ∷ 0x66 ∷ 0x75 ∷ 0x73 ∷ 0x65 ∷ 0x64 ∷ 0x20 ∷ 0x39 ∷ 0x0A ∷ []
 
+-- a sheet with the longest listing: the identifier 32,767, and 8 instances of each procedure, two services of two digits for each number,
+-- with 20 digits of public type 1 and 20 octets of subaddress
+abbrev pub longestInstance : ℕ → List ℕ
+longestInstance j =
+    (j / 8) ∷ (j % 8 / 2) ∷ (41 + j % 2) ∷ 1 ∷ 1 ∷ 20 ∷ replicate 20 9 ++ (20 ∷ replicate 20 0x7F)
+
+abbrev pub longestSheet : List ℕ
+longestSheet = 0x01 ∷ 0xFF ∷ 0xFF ∷ 0x01 ∷ 24 ∷ gathered longestInstance 24
+
 abbrev pub samples : List Sample
 samples =
     -- "identifier 128 is `02 02 00 80`, −128 is `02 01 80`"; "`02 02 00 7F` is unreadable"
@@ -193,4 +206,6 @@ samples =
     ∷ writes-sheet sampleAccess activatedTable nightSheet
     ∷ prints-sheet nightSheet nightListing
     ∷ prints-sheet [] refusedListing
+    -- the least output for a listing is no larger than there is need for
+    ∷ fills-listing longestSheet
     ∷ []

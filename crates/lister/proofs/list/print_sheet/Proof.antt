@@ -7,14 +7,14 @@ use Rattle.sheet.specs.Form.{form1}
 use Rattle.sheet.specs.Sheet.{sheetIn}
 use Rattle.sheet.specs.declared.form.SheetForm.{SheetForm}
 use Rattle.sheet.proofs.Formed.{formed-none}
-use Rattle.lister.proofs.Sheets.{prints-short, prints-none, prints-sheet}
+use Rattle.lister.proofs.Sheets.{listing-octets, prints-short, prints-none, prints-sheet}
 use Rattle.lister.proofs.list.print_sheet.Statement.{statement}
 use Rattle.lister.proofs.list.print_sheet.Tie as tie
 
 returns : tie.Need-returns
 returns c =
     let a = c .before .before .before .args in
-    prints-short (a .s .now) (a .out .now) (omega (arith, c .if1 .taken))
+    prints-short (a .s .now) (a .out .now) (omega (arith, listing-octets, c .if1 .taken))
 
 sheet-form-requires : tie.Need-sheet-form-requires
 sheet-form-requires c κs = search needs
@@ -31,10 +31,10 @@ same-length c = search needs
 returns-2 : tie.Need-returns-2
 returns-2 c =
     let a = c .before .before .before .before .before .before .before .before .before .before .before .args in
-    prints-none (a .s .now) (a .out .now) (omega (arith, c .before .before .before .before .before .before .before .before .if1 .left)) (formed-none (sheetIn form1 _) _ (c .before .before .before .before .before .before .before .sheet-form .ensures) (not-true _ (c .before .before .before .before .before .if2 .taken))) (c .before .before .put-all .ensures)
+    prints-none (a .s .now) (a .out .now) (omega (arith, listing-octets, c .before .before .before .before .before .before .before .before .if1 .left)) (formed-none (sheetIn form1 _) _ (c .before .before .before .before .before .before .before .sheet-form .ensures) (not-true _ (c .before .before .before .before .before .if2 .taken))) (c .before .before .put-all .ensures)
 
 write-listing-requires : tie.Need-write-listing-requires
-write-listing-requires c κs = (omega (arith, c .before .before .before .before .if1 .left), ap (λ (r : SheetForm). r .ok) (sym (c .before .before .before .sheet-form .ensures)) ∙ not-false _ (c .before .if2 .left))
+write-listing-requires c κs = (omega (arith, listing-octets, c .before .before .before .before .if1 .left), ap (λ (r : SheetForm). r .ok) (sym (c .before .before .before .sheet-form .ensures)) ∙ not-false _ (c .before .if2 .left))
 
 same-length-2 : tie.Need-same-length-2
 same-length-2 c = wrote-length (c .before .before .write-listing .ensures)
@@ -42,7 +42,7 @@ same-length-2 c = wrote-length (c .before .before .write-listing .ensures)
 returns-3 : tie.Need-returns-3
 returns-3 c =
     let a = c .before .before .before .before .before .before .before .before .before .before .args in
-    prints-sheet (a .s .now) (a .out .now) (omega (arith, c .before .before .before .before .before .before .before .if1 .left)) (ap (λ (r : SheetForm). r .ok) (sym (c .before .before .before .before .before .before .sheet-form .ensures)) ∙ not-false _ (c .before .before .before .before .if2 .left)) (c .before .before .write-listing .ensures)
+    prints-sheet (a .s .now) (a .out .now) (omega (arith, listing-octets, c .before .before .before .before .before .before .before .if1 .left)) (ap (λ (r : SheetForm). r .ok) (sym (c .before .before .before .before .before .before .sheet-form .ensures)) ∙ not-false _ (c .before .before .before .before .if2 .left)) (c .before .before .write-listing .ensures)
 
 pub print-sheet-spec : {M : Type 1} → statement M
 print-sheet-spec =
