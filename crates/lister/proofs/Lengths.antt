@@ -44,7 +44,7 @@ module _ (count : ℕ → ℕ) (q : ℕ) where
       rw (e, most-one n less) (omega arith))
 
 pub lines-most :
-    (is : List Instance) → AllBounded is →
+    (is : List Instance) → AllBounded form1 is →
     length (instanceLines is) ≤ linesMost (λ procedure. countOf procedure is) (form1 .procedures)
 lines-most [] b = rw lines-none (omega arith)
 lines-most (i ∷ is) b =

@@ -10,6 +10,7 @@ use Rattle.laws.proofs.Over.{then, wrote, room-then}
 use Rattle.laws.proofs.Picks.{pick-ind}
 use Rattle.numbers.specs.Number.{unknown, digitsOf}
 use Rattle.numbers.specs.declared.address.Address.{Address}
+use Rattle.sheet.specs.Form.{form1}
 use Rattle.sheet.specs.declared.instance.Instance.{Instance}
 use Rattle.sheet.proofs.Bounds.{Bounded}
 use Rattle.lister.specs.Listing.{decimal, procedureName, kindText, hexText, subText, marked, lineOf, headerLine, headerMost, instanceLine, lineMost}
@@ -115,7 +116,7 @@ module _ (i : Instance) where
                   (line-wrote vs m digits sub [] after-kind w5 (rw (line-last sub) w6))))))
 
   -- a line has at most 71 octets beside its procedure's name
-  module _ (b : Bounded i) where
+  module _ (b : Bounded form1 i) where
     kind-most : length kind ≤ 2
     unfolding kindText
     kind-most =

@@ -41,7 +41,7 @@ pub record Going (s : List ℕ) (from count : ℕ) (xs : List ℕ) (at i here p 
   pub few : i ≤ count
   pub done : List Instance
   pub rest : List Instance
-  pub left : Left s here (count - i) rest
+  pub left : Left form1 s here (count - i) rest
   pub all : linesFound (instancesFrom form1 count noInstance 0 s from) ≡ instanceLines (done ++ rest)
   pub wrote : Wrote xs at (instanceLines done) p ys
 
@@ -51,7 +51,7 @@ module _ (s : List ℕ) (from count : ℕ) (xs : List ℕ) (at : ℕ) where
     few = omega arith;
     done = [];
     rest = there .thing;
-    left = rw sub-zero (left-first s from count (there .thing) (there .next) (there .is));
+    left = rw sub-zero (left-first form1 s from count (there .thing) (there .next) (there .is));
     all = rw (there .is);
     wrote = rw lines-none wrote-none;
   }
@@ -62,30 +62,30 @@ module _ (s : List ℕ) (from count : ℕ) (xs : List ℕ) (at : ℕ) where
         count ≤ i → Wrote xs at (linesFound (instancesFrom form1 count noInstance 0 s from)) p ys
     going-all h =
         let none : count - i ≡ 0 = omega arith in
-        let end : [] ≡ so .rest = left-none s here (so .rest) (rw none at (so .left)) in
+        let end : [] ≡ so .rest = left-none form1 s here (so .rest) (rw none at (so .left)) in
         rw (so .all, ← end, append-nil (so .done)) (so .wrote)
 
     module _ (more : i < count) where
-      one-left : Left s here (suc (count - (i + 1))) (so .rest)
+      one-left : Left form1 s here (suc (count - (i + 1))) (so .rest)
       one-left = let one : count - i ≡ suc (count - (i + 1)) = omega arith in rw one at (so .left)
 
       -- the next one is there, as the reader names it
-      module _ (r : InstanceRead) (told : InstanceFound s here r) where
+      module _ (r : InstanceRead) (told : InstanceFound form1 s here r) where
         abbrev k : Instance
         k = r .instance
 
-        bounded : Bounded k
-        bounded = left-bounded s here (count - (i + 1)) (so .rest) one-left r told
+        bounded : Bounded form1 k
+        bounded = left-bounded form1 s here (count - (i + 1)) (so .rest) one-left r told
 
         pub going-counted : Counted (k .address)
         going-counted = record { digits = bounded .address .digits; sub = bounded .address .sub }
 
         others : List Instance
-        others = left-others s here (count - (i + 1)) (so .rest) one-left r told
+        others = left-others form1 s here (count - (i + 1)) (so .rest) one-left r told
 
         is-rest : k ∷ others ≡ so .rest
         unfolding others
-        is-rest = left-is s here (count - (i + 1)) (so .rest) one-left r told
+        is-rest = left-is form1 s here (count - (i + 1)) (so .rest) one-left r told
 
         -- there is room for its line where there is for them all
         pub going-room :
@@ -110,7 +110,7 @@ module _ (s : List ℕ) (from count : ℕ) (xs : List ℕ) (at : ℕ) where
           few = omega arith;
           done = so .done ++ (k ∷ []);
           rest = others;
-          left = left-next s here (count - (i + 1)) (so .rest) one-left r told;
+          left = left-next form1 s here (count - (i + 1)) (so .rest) one-left r told;
           all = so .all ∙ ap instanceLines (ap (λ (is : List Instance). so .done ++ is) (sym is-rest) ∙ sym (append-assoc (so .done) (k ∷ []) others));
           wrote = rw (lines-append (so .done) (k ∷ []), lines-one k) (then (so .wrote) line);
         }

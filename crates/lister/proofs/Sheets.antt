@@ -43,7 +43,7 @@ listing-parts sheet = refl
 
 -- by how many instances there are of each procedure
 pub listing-most :
-    (sheet : Sheet) → sheet .last ≤ 32767 → length (sheet .instances) < 100 → AllBounded (sheet .instances) →
+    (sheet : Sheet) → sheet .last ≤ 32767 → length (sheet .instances) < 100 → AllBounded form1 (sheet .instances) →
     length (listing form1 sheet) ≤ headerMost + linesMost (λ procedure. countOf procedure (sheet .instances)) (form1 .procedures)
 listing-most sheet few small b =
     let is : List Instance = sheet .instances in
@@ -62,13 +62,13 @@ listing-octets = refl
 -- ---- a sheet that is there
 
 module _ (s : List ℕ) (ok : formedBy (sheetIn form1 s) .ok ≡ true) where
-  formed : Formed s
-  formed = formed-parts s (formedBy (sheetIn form1 s)) refl ok
+  formed : Formed form1 s
+  formed = formed-parts form1 s (formedBy (sheetIn form1 s)) refl ok
 
   abbrev sheet : Sheet
   sheet = record { last = formed .opened .last; instances = formed .instances }
 
-  few : (procedure : ℕ) → countOf procedure (formed .instances) ≤ form1 .perProcedure
+  few : (procedure : ℕ) → countOf procedure (formed .instances) ≤ form1 .perprocedure
   few = found-is Allowed (formed .whole) (sheet-allowed s) .1 .few
 
   -- every listing fits in 1,811 octets
@@ -78,27 +78,27 @@ module _ (s : List ℕ) (ok : formedBy (sheetIn form1 s) .ok ≡ true) where
       (omega (
         arith,
         listing-most sheet (formed-last s formed) (omega (arith, formed-few s formed)) (formed-bounded s formed),
-        more-most (λ procedure. countOf procedure (formed .instances)) (λ _. form1 .perProcedure) few (form1 .procedures),
+        more-most (λ procedure. countOf procedure (formed .instances)) (λ _. form1 .perprocedure) few (form1 .procedures),
       ))
 
   -- its parts, as the reader of its opening names them, in output that has room for the longest listing
-  module _ (r : Opening) (told : OpeningOf s r) (xs : List ℕ) (fits : listingMost form1 ≤ length xs) where
+  module _ (r : Opening) (told : OpeningOf form1 s r) (xs : List ℕ) (fits : listingMost form1 ≤ length xs) where
     count-is : r .count ≡ length (formed .instances)
-    count-is = opened-count s formed r told ∙ formed-count s formed
+    count-is = opened-count form1 s formed r told ∙ formed-count s formed
 
     abbrev lines : List ℕ
     lines = linesFound (instancesFrom form1 (r .count) noInstance 0 s (r .next))
 
     parts-long : length (headerLine 1 (r .last) (r .count)) + length lines ≡ length (listingFound (sheetIn form1 s))
     parts-long =
-        rw (opened-instances s formed r told, opened-last s formed r told, count-is, formed .whole, listing-parts sheet)
+        rw (opened-instances form1 s formed r told, opened-last form1 s formed r told, count-is, formed .whole, listing-parts sheet)
         (sym (length-append (headerLine 1 (formed .opened .last) (length (formed .instances))) (instanceLines (formed .instances))))
 
     pub header-room : length (headerLine 1 (r .last) (r .count)) ≤ length xs
     header-room = omega (arith, parts-long, listing-fits, fits)
 
     pub lines-there : Holds (instancesFrom form1 (r .count) noInstance 0 s (r .next))
-    lines-there = opened-holds s formed r told
+    lines-there = opened-holds form1 s formed r told
 
     module _ {p : ℕ} {ys : List ℕ} (header : Wrote xs 0 (headerLine 1 (r .last) (r .count)) p ys) where
       pub lines-room : p + length lines ≤ length ys
@@ -107,9 +107,9 @@ module _ (s : List ℕ) (ok : formedBy (sheetIn form1 s) .ok ≡ true) where
       pub listing-wrote :
           {q : ℕ} {zs : List ℕ} → Wrote ys p lines q zs → Wrote xs 0 (listingFound (sheetIn form1 s)) q zs
       listing-wrote {q} {zs} more =
-          let rest : Wrote ys p (instanceLines (formed .instances)) q zs = rw (opened-instances s formed r told) at more in
+          let rest : Wrote ys p (instanceLines (formed .instances)) q zs = rw (opened-instances form1 s formed r told) at more in
           let head : Wrote xs 0 (headerLine 1 (formed .opened .last) (length (formed .instances))) p ys =
-          rw (opened-last s formed r told, count-is) at header in
+          rw (opened-last form1 s formed r told, count-is) at header in
           rw (formed .whole, listing-parts sheet) (then head rest)
 
 -- ---- what is answered

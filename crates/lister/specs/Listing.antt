@@ -10,7 +10,8 @@ use Rattle.laws.specs.Got.{Got, got, wrong}
 use Rattle.laws.specs.Over.{over}
 use Rattle.numbers.specs.Number.{unknown, digitsOf}
 use Rattle.numbers.specs.declared.address.Address.{Address}
-use Rattle.sheet.specs.Form.{Form, form1}
+use Rattle.sheet.specs.Form.{form1}
+use Rattle.sheet.specs.declared.forms.Form.{Form}
 use Rattle.sheet.specs.Sheet.{Sheet, sheetIn}
 use Rattle.sheet.specs.Outcome.{refusalNo, outcomeNo}
 use Rattle.sheet.specs.declared.instance.Instance.{Instance}
@@ -108,7 +109,7 @@ headerMost = 27
 
 -- of a listing over its form: 1,811 for form 1
 abbrev pub listingMost : Form → ℕ
-listingMost f = headerMost + linesMost (λ _. f .perProcedure) (f .procedures)
+listingMost f = headerMost + linesMost (λ _. f .perprocedure) (f .procedures)
 
 -- ---- a sheet is listed
 

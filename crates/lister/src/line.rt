@@ -6,6 +6,7 @@ use crate::word::write_number;
 use crate::word::write_sub;
 use octets::put_all;
 use sheet::Instance;
+use sheet::form_one;
 use sheet::instance_at;
 ghost use Prim.Native.Nat.{_+_, _≤_};
 ghost use lib.ListN.{length};
@@ -48,11 +49,12 @@ pub(crate) fn write_lines(out: &mut [u8], at: usize, s: &[u8], from: usize, coun
     requires { ⌜ Holds (instancesFrom form1 count noInstance 0 (now s) from) × (at + length (linesFound (instancesFrom form1 count noInstance 0 (now s) from)) ≤ length (now out)) ⌝ }
     ensures { λ r. ⌜ Wrote (now (out .entry)) at (linesFound (instancesFrom form1 count noInstance 0 (now (s .entry)) from)) r (now (out .exit)) ⌝ }
 {
+    let f = form_one();
     let mut p = at;
     let mut here = from;
     let mut i: u32 = 0;
     while i < count {
-        let read = instance_at(s, here);
+        let read = instance_at(f, s, here);
         let instance = read.instance;
         p = write_line(out, p, instance);
         here = read.next;

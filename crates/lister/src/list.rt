@@ -5,6 +5,7 @@ use octets::put_all;
 use sheet::Outcome;
 use sheet::Refusal;
 use sheet::Written;
+use sheet::form_one;
 use sheet::opening_of;
 use sheet::sheet_form;
 ghost use mathlib.Core.Path.{_≡_};
@@ -27,7 +28,8 @@ fn write_listing(out: &mut [u8], s: &[u8]) -> usize
     requires { ⌜ (listingMost form1 ≤ length (now out)) × (formedBy (sheetIn form1 (now s)) .ok ≡ true) ⌝ }
     ensures { λ r. ⌜ Wrote (now (out .entry)) 0 (listingFound (sheetIn form1 (now (s .entry)))) r (now (out .exit)) ⌝ }
 {
-    let opening = opening_of(s);
+    let f = form_one();
+    let opening = opening_of(f, s);
     let p = write_header(out, opening.last, opening.count);
     write_lines(out, p, s, opening.next, opening.count)
 }
@@ -48,7 +50,8 @@ pub fn list_sheet(s: &[u8], out: &mut [u8]) -> Written
     if out.len() < LISTINGMOST {
         return refuses(Refusal::ShortOutput);
     }
-    let form = sheet_form(s);
+    let f = form_one();
+    let form = sheet_form(f, s);
     if !form.ok {
         return refuses(Refusal::BadSheet);
     }
@@ -66,7 +69,8 @@ pub fn print_sheet(s: &[u8], out: &mut [u8]) -> usize
     if out.len() < LISTINGMOST {
         return 0;
     }
-    let form = sheet_form(s);
+    let f = form_one();
+    let form = sheet_form(f, s);
     if !form.ok {
         return put_all(out, 0, b"refused 9\n");
     }

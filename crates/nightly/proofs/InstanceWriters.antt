@@ -18,7 +18,7 @@ use Rattle.store.specs.Row.{numberOfPlace, cellAt, active}
 use Rattle.store.specs.declared.row.Cell.{Cell}
 use Rattle.store.specs.declared.row.Row.{Row}
 use Rattle.store.proofs.Turns.{is-active, not-active}
-use Rattle.sheet.specs.Form.{Form}
+use Rattle.sheet.specs.declared.forms.Form.{Form}
 use Rattle.sheet.specs.Instance.{allGroups, addressFields, instanceFields}
 use Rattle.sheet.specs.Sheet.{sheetOctets}
 use Rattle.nightly.specs.Write.{Room, Space, WroteInstances, cellInstances, placeInstances}

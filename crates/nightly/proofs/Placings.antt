@@ -63,7 +63,7 @@ gridOn p grid is = pick (allIn p is) (record { ok = true; grid = allPlaced p gri
 pub record Placing (p : Profile) (s : List ℕ) (at count : ℕ) (grid : Grid) (here i : ℕ) : Type 0 where
   pub few : i ≤ count
   pub rest : List Instance
-  pub left : Left s here (count - i) rest
+  pub left : Left form1 s here (count - i) rest
   pub decides : gridRead p (instancesFrom form1 count noInstance 0 s at) ≡ gridOn p grid rest
 
 module _ (p : Profile) (s : List ℕ) (at count : ℕ) where
@@ -71,7 +71,7 @@ module _ (p : Profile) (s : List ℕ) (at count : ℕ) where
   placing-first there = record {
     few = omega arith;
     rest = there .thing;
-    left = rw sub-zero (left-first s at count (there .thing) (there .next) (there .is));
+    left = rw sub-zero (left-first form1 s at count (there .thing) (there .next) (there .is));
     decides = rw (there .is);
   }
 
@@ -82,27 +82,27 @@ module _ (p : Profile) (s : List ℕ) (at count : ℕ) where
         _≡_ {A = GridRead} record { ok = true; grid = grid } (gridRead p (instancesFrom form1 count noInstance 0 s at))
     placing-all h =
         let none : count - i ≡ 0 = omega arith in
-        let end : [] ≡ so .rest = left-none s here (so .rest) (rw none at (so .left)) in
+        let end : [] ≡ so .rest = left-none form1 s here (so .rest) (rw none at (so .left)) in
         rw (so .decides, ← end, all-none p, placed-none p grid)
 
     module _ (more : i < count) where
-      one-left : Left s here (suc (count - (i + 1))) (so .rest)
+      one-left : Left form1 s here (suc (count - (i + 1))) (so .rest)
       one-left = let one : count - i ≡ suc (count - (i + 1)) = omega arith in rw one at (so .left)
 
       -- the next one is there, as the reader names it
-      module _ (r : InstanceRead) (told : InstanceFound s here r) where
+      module _ (r : InstanceRead) (told : InstanceFound form1 s here r) where
         abbrev k : Instance
         k = r .instance
 
-        pub placing-bounded : Bounded k
-        placing-bounded = left-bounded s here (count - (i + 1)) (so .rest) one-left r told
+        pub placing-bounded : Bounded form1 k
+        placing-bounded = left-bounded form1 s here (count - (i + 1)) (so .rest) one-left r told
 
         others : List Instance
-        others = left-others s here (count - (i + 1)) (so .rest) one-left r told
+        others = left-others form1 s here (count - (i + 1)) (so .rest) one-left r told
 
         is-rest : k ∷ others ≡ so .rest
         unfolding others
-        is-rest = left-is s here (count - (i + 1)) (so .rest) one-left r told
+        is-rest = left-is form1 s here (count - (i + 1)) (so .rest) one-left r told
 
         -- it is not in the profile
         pub placing-out :
@@ -115,7 +115,7 @@ module _ (p : Profile) (s : List ℕ) (at count : ℕ) where
         placing-next h = record {
           few = omega arith;
           rest = others;
-          left = left-next s here (count - (i + 1)) (so .rest) one-left r told;
+          left = left-next form1 s here (count - (i + 1)) (so .rest) one-left r told;
           decides =
               so .decides
               ∙ ap (gridOn p grid) (sym is-rest)

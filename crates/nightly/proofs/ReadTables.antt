@@ -146,7 +146,7 @@ module _ (access s : List ℕ) (accepted : readSheet access s .number ≡ 0) whe
       ((i : ℕ) → getD s i 0 < 256) →
       s ≡ sheetOctets form1 (readSheet access s .table .last) (instancesOf (readSheet access s .table .grid))
   accepted-table small =
-      sheet-only s small (was .sheet) (was .next) (was .found)
+      sheet-only s small form1 (was .sheet) (was .next) (was .found)
       ∙ ap (λ (last : ℕ). sheetOctets form1 last (was .sheet .instances)) (sym (ap (λ (t : Table). t .last) table-is))
       ∙ ap (sheetOctets form1 (readSheet access s .table .last)) (sym instances-are)
 

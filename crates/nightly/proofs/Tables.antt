@@ -52,7 +52,7 @@ module _ (access s : List ℕ) (a : AccessRead) (read : a ≡ accessRead access)
     reads-form h r e = record { outcome = rw (e, reads-from wrong h); table = rw (e, reads-from wrong h) }
 
     module _
-        (f : Formed s) (o : Opening) (told : o ≡ openingRead (openingIn form1 s)) (g : GridRead)
+        (f : Formed form1 s) (o : Opening) (told : o ≡ openingRead (openingIn form1 s)) (g : GridRead)
         (is : g ≡ gridRead profile (instancesFrom form1 (o .count) noInstance 0 s (o .next))) where
       abbrev all : Bool
       all = allIn profile (f .instances)
@@ -61,7 +61,7 @@ module _ (access s : List ℕ) (a : AccessRead) (read : a ≡ accessRead access)
       full = allPlaced profile noGrid (f .instances)
 
       grid-is : g ≡ pick all (record { ok = true; grid = full }) notPlaced
-      grid-is = is ∙ ap (gridRead profile) (opened-instances s f o told)
+      grid-is = is ∙ ap (gridRead profile) (opened-instances form1 s f o told)
 
       read-is : readSheet access s ≡ tableFrom profile (got (record { last = f .opened .last; instances = f .instances }) (f .next))
       read-is = reads-from _ (f .whole)
@@ -87,4 +87,4 @@ module _ (access s : List ℕ) (a : AccessRead) (read : a ≡ accessRead access)
           g .ok ≡ true → ReadsSheet access s (record { outcome = Done; table = record { last = o .last; grid = g .grid } })
       reads-table h =
           let t = all-are h in
-          record { outcome = rw (read-is, t .0); table = rw (read-is, t .0, t .1, opened-last s f o told) }
+          record { outcome = rw (read-is, t .0); table = rw (read-is, t .0, t .1, opened-last form1 s f o told) }

@@ -134,7 +134,7 @@ module _ (p : Profile) (t : Table) (good : tableGood limit p t ≡ true) (profil
       gathered-ind AllFit tt fit-both (placeInstances k (rowAt (t .grid) k)) places (λ j lt.
       pick-ind AllFit (active (rowAt (t .grid) k) j) (λ there. (one-fits k j h lt there arrays, tt)) (λ _. tt))))
 
-  few : (q : ℕ) → countOf q (instancesOf (t .grid)) ≤ form1 .perProcedure
+  few : (q : ℕ) → countOf q (instancesOf (t .grid)) ≤ form1 .perprocedure
   few q =
       by-test (leb procedures q)
       (λ e. omega (arith, procedure-none (t .grid) q (leb-true procedures q e)))

@@ -8,6 +8,7 @@ use exchange::fresh_table;
 use sheet::Instance;
 use sheet::Outcome;
 use sheet::Refusal;
+use sheet::form_one;
 use sheet::instance_at;
 use sheet::opening_of;
 use sheet::sheet_form;
@@ -73,11 +74,12 @@ fn placed_from(p: Profile, s: &[u8], at: usize, count: u32) -> GridRead
     requires { ⌜ (p .servicecount ≤ servicesMost) × Holds (instancesFrom form1 count noInstance 0 (now s) at) ⌝ }
     ensures { λ r. ⌜ r ≡ gridRead p (instancesFrom form1 count noInstance 0 (now (s .entry)) at) ⌝ }
 {
+    let f = form_one();
     let mut grid = fresh_grid();
     let mut here = at;
     let mut i: u32 = 0;
     while i < count {
-        let read = instance_at(s, here);
+        let read = instance_at(f, s, here);
         let instance = read.instance;
         if !in_profile(p, instance) {
             return no_grid();
@@ -115,11 +117,12 @@ pub fn read_sheet(access: &[u8], s: &[u8]) -> SheetRead
     if !read.ok {
         return refuses(Refusal::BadProfile);
     }
-    let form = sheet_form(s);
+    let f = form_one();
+    let form = sheet_form(f, s);
     if !form.ok {
         return refuses(Refusal::BadSheet);
     }
-    let opening = opening_of(s);
+    let opening = opening_of(f, s);
     let p = read.profile;
     let placed = placed_from(p, s, opening.next, opening.count);
     if !placed.ok {

@@ -8,6 +8,7 @@ use numbers::Address;
 use sheet::Outcome;
 use sheet::Refusal;
 use sheet::Written;
+use sheet::form_one;
 use store::Cell;
 use store::Grid;
 use store::PLACES;
@@ -25,8 +26,6 @@ ghost use Rattle.sheet.specs.Outcome.{notWritten};
 ghost use Rattle.nightly.specs.Instances.{instancesOf};
 ghost use Rattle.nightly.specs.Record.{WritesSheet};
 ghost use Rattle.nightly.specs.Write.{Room, above, NoneBelow, Space, WroteInstances, cellInstances, rowInstances, Writable, RowWritable, GridWritable};
-
-const FORM: u32 = 1;
 
 // The most octets of an instance, and of a sheet: form, last handled and count are five.
 const INSTANCEMOST: usize = 67;
@@ -152,7 +151,8 @@ pub fn write_sheet(table: Table, access: &[u8], out: &mut [u8]) -> Written
     }
     let grid = table.grid;
     let instances = instance_count(grid);
-    let p = put_groups(out, 0, FORM);
+    let f = form_one();
+    let p = put_groups(out, 0, f.code as u32);
     let q = put_groups(out, p, table.last as u32);
     let k = put_groups(out, q, instances as u32);
     let count = write_grid(out, k, grid);

@@ -3,17 +3,22 @@ use Prim.Native.Nat.{ℕ}
 use mathlib.Core.List.{List}
 use mathlib.Core.Path.{_≡_}
 use Rattle.laws.proofs.Picks.{both}
+use Rattle.sheet.specs.Form.{FormOne}
 use Rattle.sheet.specs.Formed.{SheetFormed, OpeningOf, InstanceFound}
+use Rattle.sheet.specs.declared.forms.Form.{Form}
 use Rattle.sheet.specs.declared.form.SheetForm.{SheetForm}
 use Rattle.sheet.specs.declared.form.Opening.{Opening}
 use Rattle.sheet.specs.declared.read.InstanceRead.{InstanceRead}
 
-pub only-sheet-form : (s : List ℕ) {a b : SheetForm} → SheetFormed s a → SheetFormed s b → a ≡ b
-only-sheet-form s = both
+pub only-form-one : {a b : Form} → FormOne a → FormOne b → a ≡ b
+only-form-one = both
 
-pub only-opening-of : (s : List ℕ) {a b : Opening} → OpeningOf s a → OpeningOf s b → a ≡ b
-only-opening-of s = both
+pub only-sheet-form : (f : Form) (s : List ℕ) {a b : SheetForm} → SheetFormed f s a → SheetFormed f s b → a ≡ b
+only-sheet-form f s = both
+
+pub only-opening-of : (f : Form) (s : List ℕ) {a b : Opening} → OpeningOf f s a → OpeningOf f s b → a ≡ b
+only-opening-of f s = both
 
 pub only-instance-at :
-    (s : List ℕ) (at : ℕ) {a b : InstanceRead} → InstanceFound s at a → InstanceFound s at b → a ≡ b
-only-instance-at s at = both
+    (f : Form) (s : List ℕ) (at : ℕ) {a b : InstanceRead} → InstanceFound f s at a → InstanceFound f s at b → a ≡ b
+only-instance-at f s at = both

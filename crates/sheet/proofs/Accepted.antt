@@ -20,7 +20,7 @@ use Rattle.groups.specs.declared.groups.Groups.the-variants as variants
 use Rattle.groups.proofs.GroupLaws.{StandsTo, groups-at-only}
 use Rattle.numbers.specs.Number.{most, fair}
 use Rattle.numbers.specs.declared.address.Address.{Address}
-use Rattle.sheet.specs.Form.{form1}
+use Rattle.sheet.specs.declared.forms.Form.{Form}
 use Rattle.sheet.specs.Instance.{allGroups, digitOf, addressOf, addressFields, instanceFields, fieldOf, fieldAt, fieldsAt, kindGood, addressIn, serviceOf, instanceAt}
 use Rattle.sheet.specs.Sheet.{Sheet, follows, runOf, instancesFrom, instancesOctets, noInstance, sheetOctets, sheetIn}
 use Rattle.sheet.specs.declared.instance.Instance.{Instance}
@@ -146,40 +146,41 @@ module _ (s : List ℕ) (small : (i : ℕ) → getD s i 0 < 256) where
   abbrev Is : ℕ → Instance → ℕ → Type 0
   Is at i next = StandsTo s at (allGroups (instanceFields i)) next
 
-  instance-only : (at : ℕ) → FoundAt (Is at) (instanceAt form1 s at)
+  instance-only : (form : Form) (at : ℕ) → FoundAt (Is at) (instanceAt form s at)
   unfolding instanceAt
-  instance-only at =
-      found-at-then (Is at) (fieldAt (λ n. ltb n 3) s at) _ (λ procedure p e.
-      found-at-then (Is at) (fieldAt (λ n. ltb n 4) s p) _ (λ number q f.
+  instance-only form at =
+      found-at-then (Is at) (fieldAt (λ n. ltb n (form .procedures)) s at) _ (λ procedure p e.
+      found-at-then (Is at) (fieldAt (λ n. ltb n (form .numbers)) s p) _ (λ number q f.
       found-at-then (Is at) (fieldAt serviceOf s q) _ (λ service a g.
       found-at-then (Is at) (addressIn s a) _ (λ address next h.
       let rest : List ℕ = addressFields address in
       cons-only s small at procedure p (number ∷ service ∷ rest) next
-      (field-stands s small (λ n. ltb n 3) at procedure p e)
-      (cons-only s small p number q (service ∷ rest) next (field-stands s small (λ n. ltb n 4) p number q f)
+      (field-stands s small (λ n. ltb n (form .procedures)) at procedure p e)
+      (cons-only s small p number q (service ∷ rest) next (field-stands s small (λ n. ltb n (form .numbers)) p number q f)
       (cons-only s small q service a rest next (field-stands s small serviceOf q service a g)
       (found-at-is (Of a) h (address-only a))))))))
 
   abbrev Are : ℕ → List Instance → ℕ → Type 0
   Are at is next = StandsTo s at (instancesOctets is) next
 
-  instances-only : (n : ℕ) (last : Instance) (run at : ℕ) → FoundAt (Are at) (instancesFrom form1 n last run s at)
+  instances-only :
+      (form : Form) (n : ℕ) (last : Instance) (run at : ℕ) → FoundAt (Are at) (instancesFrom form n last run s at)
   unfolding instancesFrom
-  instances-only zero last run at = rw octets-none (nothing s at)
-  instances-only (suc n) last run at =
-      found-at-then (Are at) (instanceAt form1 s at) _ (λ k p e.
-      pick-ind (FoundAt (Are at)) (follows form1 last run k)
+  instances-only form zero last run at = rw octets-none (nothing s at)
+  instances-only form (suc n) last run at =
+      found-at-then (Are at) (instanceAt form s at) _ (λ k p e.
+      pick-ind (FoundAt (Are at)) (follows form last run k)
       (λ _.
-      found-at-then (Are at) (instancesFrom form1 n k (runOf last run k) s p) _ (λ ks q f.
+      found-at-then (Are at) (instancesFrom form n k (runOf last run k) s p) _ (λ ks q f.
       rw (octets-more k ks)
-      (joined s at (allGroups (instanceFields k)) p (instancesOctets ks) q (found-at-is (Is at) e (instance-only at))
-      (found-at-is (Are p) f (instances-only n k (runOf last run k) p)))))
+      (joined s at (allGroups (instanceFields k)) p (instancesOctets ks) q (found-at-is (Is at) e (instance-only form at))
+      (found-at-is (Are p) f (instances-only form n k (runOf last run k) p)))))
       (λ _. tt))
 
   -- ---- the sheet
 
-  abbrev Exactly : Sheet → ℕ → Type 0
-  Exactly sheet next = s ≡ sheetOctets form1 (sheet .last) (sheet .instances)
+  abbrev Exactly : Form → Sheet → ℕ → Type 0
+  Exactly form sheet next = s ≡ sheetOctets form (sheet .last) (sheet .instances)
 
   -- octets that stand at the start and end where s ends are s
   whole : (ws : List ℕ) (next : ℕ) → next ≡ length s → StandsTo s 0 ws next → s ≡ ws
@@ -187,29 +188,31 @@ module _ (s : List ℕ) (small : (i : ℕ) → getD s i 0 < 256) where
       let long : length s ≡ 0 + length ws = sym e ∙ st .ends in
       sym (take-length s) ∙ rw (← long) at (slice-stands s 0 ws (st .stands) (omega (arith, long)))
 
-  exactly : FoundAt Exactly (sheetIn form1 s)
+  exactly : (form : Form) → FoundAt (Exactly form) (sheetIn form s)
   unfolding sheetIn
-  exactly =
-      found-at-then Exactly (fieldAt (eqb 1) s 0) _ (λ form p e.
-      found-at-then Exactly (fieldAt (λ n. leb n 32767) s p) _ (λ last q f.
-      found-at-then Exactly (fieldAt (λ n. true) s q) _ (λ count a g.
-      found-at-then Exactly (instancesFrom form1 count noInstance 0 s a) _ (λ is next h.
-      pick-ind (FoundAt Exactly) (eqb next (length s))
+  exactly form =
+      let P : Sheet → ℕ → Type 0 = Exactly form in
+      found-at-then P (fieldAt (eqb (form .code)) s 0) _ (λ code p e.
+      found-at-then P (fieldAt (λ n. leb n (form .lastmost)) s p) _ (λ last q f.
+      found-at-then P (fieldAt (λ n. true) s q) _ (λ count a g.
+      found-at-then P (instancesFrom form count noInstance 0 s a) _ (λ is next h.
+      pick-ind (FoundAt P) (eqb next (length s))
       (λ end.
-      let one : 1 ≡ form = eqb-true 1 form (found-is (λ n. eqb 1 n ≡ true) e (field-passes s 0 (eqb 1))) in
-      let counted : length is ≡ count = found-is (λ ks. length ks ≡ count) h (instances-count form1 s count noInstance 0 a) in
+      let same : form .code ≡ code =
+      eqb-true (form .code) code (found-is (λ n. eqb (form .code) n ≡ true) e (field-passes s 0 (eqb (form .code)))) in
+      let counted : length is ≡ count = found-is (λ ks. length ks ≡ count) h (instances-count form s count noInstance 0 a) in
       let head =
-      cons-only s small 0 form p (last ∷ count ∷ []) a (field-stands s small (eqb 1) 0 form p e)
-      (cons-only s small p last q (count ∷ []) a (field-stands s small (λ n. leb n 32767) p last q f)
+      cons-only s small 0 code p (last ∷ count ∷ []) a (field-stands s small (eqb (form .code)) 0 code p e)
+      (cons-only s small p last q (count ∷ []) a (field-stands s small (λ n. leb n (form .lastmost)) p last q f)
       (cons-only s small q count a [] a (field-stands s small (λ n. true) q count a g) (rw groups-none (nothing s a)))) in
-      whole (sheetOctets form1 last is) next (eqb-true next (length s) end)
-      (rw (sheet-octets form1 last is, one, counted)
-      (joined s 0 (allGroups (form ∷ last ∷ count ∷ [])) a (instancesOctets is) next head
-      (found-at-is (Are a) h (instances-only count noInstance 0 a)))))
+      whole (sheetOctets form last is) next (eqb-true next (length s) end)
+      (rw (sheet-octets form last is, same, counted)
+      (joined s 0 (allGroups (code ∷ last ∷ count ∷ [])) a (instancesOctets is) next head
+      (found-at-is (Are a) h (instances-only form count noInstance 0 a)))))
       (λ _. tt)))))
 
   -- the octets of a sheet that is accepted are exactly those in which it is written
   pub sheet-only :
-      (sheet : Sheet) (next : ℕ) → sheetIn form1 s ≡ got sheet next →
-      s ≡ sheetOctets form1 (sheet .last) (sheet .instances)
-  sheet-only sheet next e = found-at-is Exactly e exactly
+      (form : Form) (sheet : Sheet) (next : ℕ) → sheetIn form s ≡ got sheet next →
+      s ≡ sheetOctets form (sheet .last) (sheet .instances)
+  sheet-only form sheet next e = found-at-is (Exactly form) e (exactly form)

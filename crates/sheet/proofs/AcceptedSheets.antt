@@ -183,7 +183,7 @@ module _ (s : List ℕ) where
 -- ---- the sheet
 
 abbrev pub Allowed : Sheet → Type 0
-Allowed sheet = (sheet .last ≤ form1 .lastMost) × Sheeted (sheet .instances)
+Allowed sheet = (sheet .last ≤ form1 .lastmost) × Sheeted (sheet .instances)
 
 pub sheet-allowed : (s : List ℕ) → Found Allowed (sheetIn form1 s)
 unfolding sheetIn

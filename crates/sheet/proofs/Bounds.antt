@@ -15,7 +15,7 @@ use Rattle.numbers.specs.Number.{unknown, most, fair}
 use Rattle.numbers.specs.declared.address.Address.{Address}
 use Rattle.numbers.proofs.Goods.{fair-some, type-most}
 use Rattle.codes.proofs.Tables.{service-most}
-use Rattle.sheet.specs.Form.{form1}
+use Rattle.sheet.specs.declared.forms.Form.{Form}
 use Rattle.sheet.specs.Instance.{fieldAt, fieldsAt, kindGood, addressIn, serviceOf, instanceAt}
 use Rattle.sheet.specs.Sheet.{follows, runOf, instancesFrom}
 use Rattle.sheet.specs.Reading.{fieldBelow}
@@ -54,9 +54,9 @@ address-bounded s at =
     }))))))
 
 -- its procedure and number are within the form's bounds, its service is one of the sixteen
-pub record Bounded (i : Instance) : Type 0 where
-  pub procedure : i .procedure < 3
-  pub number : i .number < 4
+pub record Bounded (form : Form) (i : Instance) : Type 0 where
+  pub procedure : i .procedure < form .procedures
+  pub number : i .number < form .numbers
   pub service : i .service ≤ 42
   pub address : AddressBounded (i .address)
 
@@ -65,34 +65,37 @@ service-few n h =
     let small = pick-else (eqb n 0) (pick (ltb n 256) (serviceCode n) false) h .1 in
     service-most n (pick-then (ltb n 256) (serviceCode n) small .1)
 
-pub instance-bounded : (s : List ℕ) (at : ℕ) → Found Bounded (instanceAt form1 s at)
+pub instance-bounded : (form : Form) (s : List ℕ) (at : ℕ) → Found (Bounded form) (instanceAt form s at)
 unfolding instanceAt
-instance-bounded s at =
-    found-then Bounded (fieldBelow 3 s at) _ (λ procedure p e.
-    found-then Bounded (fieldBelow 4 s p) _ (λ number q f.
-    found-then Bounded (fieldAt serviceOf s q) _ (λ service a g.
-    found-then Bounded (addressIn s a) _ (λ address next h.
+instance-bounded form s at =
+    let P : Instance → Type 0 = Bounded form in
+    found-then P (fieldBelow (form .procedures) s at) _ (λ procedure p e.
+    found-then P (fieldBelow (form .numbers) s p) _ (λ number q f.
+    found-then P (fieldAt serviceOf s q) _ (λ service a g.
+    found-then P (addressIn s a) _ (λ address next h.
     record {
-      procedure = below-small s at 3 procedure p e;
-      number = below-small s p 4 number q f;
+      procedure = below-small s at (form .procedures) procedure p e;
+      number = below-small s p (form .numbers) number q f;
       service = service-few service (found-is (λ n. serviceOf n ≡ true) g (field-passes s q serviceOf));
       address = found-is AddressBounded h (address-bounded s a);
     }))))
 
 -- ---- instances, one after the other
 
-abbrev pub AllBounded : List Instance → Type 0
-AllBounded [] = Unit {0}
-AllBounded (i ∷ is) = Bounded i × AllBounded is
+abbrev pub AllBounded : Form → List Instance → Type 0
+AllBounded form [] = Unit {0}
+AllBounded form (i ∷ is) = Bounded form i × AllBounded form is
 
 pub instances-bounded :
-    (s : List ℕ) (n : ℕ) (last : Instance) (run at : ℕ) → Found AllBounded (instancesFrom form1 n last run s at)
+    (form : Form) (s : List ℕ) (n : ℕ) (last : Instance) (run at : ℕ) →
+    Found (AllBounded form) (instancesFrom form n last run s at)
 unfolding instancesFrom
-instances-bounded s zero last run at = tt
-instances-bounded s (suc n) last run at =
-    found-then AllBounded (instanceAt form1 s at) _ (λ k p e.
-    pick-ind (Found AllBounded) (follows form1 last run k)
+instances-bounded form s zero last run at = tt
+instances-bounded form s (suc n) last run at =
+    let P : List Instance → Type 0 = AllBounded form in
+    found-then P (instanceAt form s at) _ (λ k p e.
+    pick-ind (Found P) (follows form last run k)
     (λ _.
-    found-then AllBounded (instancesFrom form1 n k (runOf last run k) s p) _ (λ ks q f.
-    (found-is Bounded e (instance-bounded s at), found-is AllBounded f (instances-bounded s n k (runOf last run k) p))))
+    found-then P (instancesFrom form n k (runOf last run k) s p) _ (λ ks q f.
+    (found-is (Bounded form) e (instance-bounded form s at), found-is P f (instances-bounded form s n k (runOf last run k) p))))
     (λ _. tt))

@@ -75,7 +75,7 @@ module _ (s : List ℕ) where
       found-then (Few last run) (instancesFrom form1 n k (runOf last run k) s p) _ (λ ks q f.
       let rest =
       few-after n k (runOf last run k) p (run-some last run k) (run-most last run k after)
-      (found-is Bounded e (instance-bounded s at) .procedure) in
+      (found-is (Bounded form1) e (instance-bounded form1 s at) .procedure) in
       run-next last run k (length ks) some room (before-not-later last k (follows-before last run k some after))
       (found-is (Few k (runOf last run k)) f rest)))
       (λ _. tt))
@@ -89,7 +89,7 @@ module _ (s : List ℕ) where
       pick-ind (Found P) (follows form1 noInstance 0 k)
       (λ _.
       found-then P (instancesFrom form1 n k 1 s p) _ (λ ks q f.
-      let rest = few-after n k 1 p (omega arith) (omega arith) (found-is Bounded e (instance-bounded s at) .procedure) in
+      let rest = few-after n k 1 p (omega arith) (omega arith) (found-is (Bounded form1) e (instance-bounded form1 s at) .procedure) in
       let most : Few k 1 ks = found-is (Few k 1) f rest in
       omega (arith, most)))
       (λ _. tt))
@@ -105,15 +105,15 @@ module _ (s : List ℕ) where
       leb-true last 32767 (found-is (λ n. leb n 32767 ≡ true) e (field-passes s p (λ n. leb n 32767))))))
 
   -- what the opening of a sheet says
-  pub formed-count : (f : Formed s) → f .opened .count ≡ length (f .instances)
+  pub formed-count : (f : Formed form1 s) → f .opened .count ≡ length (f .instances)
   formed-count f =
       sym (found-is (λ is. length is ≡ f .opened .count) (f .found) (instances-count form1 s (f .opened .count) noInstance 0 (f .place)))
 
-  pub formed-few : (f : Formed s) → length (f .instances) ≤ 24
+  pub formed-few : (f : Formed form1 s) → length (f .instances) ≤ 24
   formed-few f = found-is (λ is. length is ≤ 24) (f .found) (few-first (f .opened .count) (f .place))
 
-  pub formed-last : (f : Formed s) → f .opened .last ≤ 32767
+  pub formed-last : (f : Formed form1 s) → f .opened .last ≤ 32767
   formed-last f = found-is (λ o. o .last ≤ 32767) (f .opening) opening-last
 
-  pub formed-bounded : (f : Formed s) → AllBounded (f .instances)
-  formed-bounded f = found-is AllBounded (f .found) (instances-bounded s (f .opened .count) noInstance 0 (f .place))
+  pub formed-bounded : (f : Formed form1 s) → AllBounded form1 (f .instances)
+  formed-bounded f = found-is (AllBounded form1) (f .found) (instances-bounded form1 s (f .opened .count) noInstance 0 (f .place))

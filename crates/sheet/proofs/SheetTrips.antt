@@ -44,7 +44,7 @@ AllFit (i ∷ is) = Fits i × AllFit is
 -- ascending, at most 8 of a procedure, each such as a sheet may hold
 pub record Sheeted (is : List Instance) : Type 0 where
   pub ascends : Ascends is
-  pub few : (procedure : ℕ) → countOf procedure is ≤ form1 .perProcedure
+  pub few : (procedure : ℕ) → countOf procedure is ≤ form1 .perprocedure
   pub each : AllFit is
 
 -- each may stand after the one before it
@@ -138,7 +138,7 @@ instances-back (k ∷ ks) last run o f s at st fit =
 
 -- a sheet that stands in its octets, and nothing after it, is read as its instances, each with zeros past its digits and octets
 pub sheet-back :
-    (last : ℕ) (is : List Instance) (s : List ℕ) → last ≤ form1 .lastMost → Sheeted is →
+    (last : ℕ) (is : List Instance) (s : List ℕ) → last ≤ form1 .lastmost → Sheeted is →
     Stands s 0 (sheetOctets form1 last is) → length s ≡ length (sheetOctets form1 last is) →
     sheetIn form1 s ≡ got (record { last = last; instances = map tidyInstance is }) (length s)
 unfolding sheetIn

@@ -12,7 +12,8 @@ use Rattle.laws.specs.Pick.{pick}
 use Rattle.laws.specs.Got.{Got, got, wrong, andThen}
 use Rattle.laws.proofs.Gots.{Found, found-then, found-is}
 use Rattle.laws.proofs.Picks.{pick-ind, pick-then}
-use Rattle.sheet.specs.Form.{Form, form1}
+use Rattle.sheet.specs.Form.{form1}
+use Rattle.sheet.specs.declared.forms.Form.{Form}
 use Rattle.sheet.specs.Instance.{fieldAt, instanceAt}
 use Rattle.sheet.specs.Sheet.{Sheet, before, follows, runOf, instancesFrom, noInstance, sheetIn}
 use Rattle.sheet.specs.Formed.{formedBy, Opened, openingIn, openingRead}
@@ -26,37 +27,42 @@ use Rattle.sheet.proofs.Parts.{then-through}
 
 -- ---- what stands before the instances
 
-module _ (s : List ℕ) where
-  form-field : fieldAt (eqb 1) s 0 ≡ andThen (anyField s 0) (λ n next. pick (eqb 1 n) (got n next) wrong)
-  form-field = field-narrow s 0 (λ _. true) (eqb 1) (λ n _. refl)
+-- "at most" is "below the next"
+most-below : (n most : ℕ) → leb n most ≡ ltb n (most + 1)
+most-below n most = let next : most + 1 ≡ suc most = omega arith in rw next (sym (leb·suc-suc n most))
 
-  pub opening-no-form : anyField s 0 ≡ wrong → openingIn form1 s ≡ wrong
+module _ (f : Form) (s : List ℕ) where
+  form-field : fieldAt (eqb (f .code)) s 0 ≡ andThen (anyField s 0) (λ n next. pick (eqb (f .code) n) (got n next) wrong)
+  form-field = field-narrow s 0 (λ _. true) (eqb (f .code)) (λ n _. refl)
+
+  pub opening-no-form : anyField s 0 ≡ wrong → openingIn f s ≡ wrong
   unfolding openingIn
   opening-no-form e = rw (form-field, e)
 
-  module _ (form p : ℕ) (f : anyField s 0 ≡ got form p) where
-    pub opening-other : (form ≡ 1 → ⊥) → openingIn form1 s ≡ wrong
+  module _ (code p : ℕ) (is : anyField s 0 ≡ got code p) where
+    pub opening-other : (code ≡ f .code → ⊥) → openingIn f s ≡ wrong
     unfolding openingIn
-    opening-other e = rw (form-field, f, ne-eqb 1 form (λ q. e (sym q)))
+    opening-other e = rw (form-field, is, ne-eqb (f .code) code (λ q. e (sym q)))
 
-    module _ (one : form ≡ 1) where
-      last-field : fieldAt (λ n. leb n 32767) s p ≡ fieldBelow 32768 s p
-      last-field = field-same s p (λ n. leb n 32767) (λ n. ltb n 32768) (λ n. sym (leb·suc-suc n 32767))
+    module _ (same : code ≡ f .code) where
+      last-field : fieldAt (λ n. leb n (f .lastmost)) s p ≡ fieldBelow (f .lastmost + 1) s p
+      last-field =
+          field-same s p (λ n. leb n (f .lastmost)) (λ n. ltb n (f .lastmost + 1)) (λ n. most-below n (f .lastmost))
 
-      pub opening-no-last : fieldBelow 32768 s p ≡ wrong → openingIn form1 s ≡ wrong
+      pub opening-no-last : fieldBelow (f .lastmost + 1) s p ≡ wrong → openingIn f s ≡ wrong
       unfolding openingIn
-      opening-no-last e = rw (form-field, f, eq-eqb 1 form (sym one), last-field, e)
+      opening-no-last e = rw (form-field, is, eq-eqb (f .code) code (sym same), last-field, e)
 
-      module _ (last q : ℕ) (l : fieldBelow 32768 s p ≡ got last q) where
-        pub opening-no-count : anyField s q ≡ wrong → openingIn form1 s ≡ wrong
+      module _ (last q : ℕ) (l : fieldBelow (f .lastmost + 1) s p ≡ got last q) where
+        pub opening-no-count : anyField s q ≡ wrong → openingIn f s ≡ wrong
         unfolding openingIn
-        opening-no-count e = rw (form-field, f, eq-eqb 1 form (sym one), last-field, l, e)
+        opening-no-count e = rw (form-field, is, eq-eqb (f .code) code (sym same), last-field, l, e)
 
         pub opening-is :
             (count next : ℕ) → anyField s q ≡ got count next →
-            openingIn form1 s ≡ got (record { last = last; count = count }) next
+            openingIn f s ≡ got (record { last = last; count = count }) next
         unfolding openingIn
-        opening-is count next e = rw (form-field, f, eq-eqb 1 form (sym one), last-field, l, e)
+        opening-is count next e = rw (form-field, is, eq-eqb (f .code) code (sym same), last-field, l, e)
 
 -- an answer with `ok` names what was found
 pub opening-found :
@@ -98,20 +104,28 @@ module _ (f : Form) (s : List ℕ) where
       ap suc (found-is (λ is. length is ≡ n) e (instances-count n k (runOf i run k) p))))
       (λ _. tt))
 
--- of one procedure there are no more than the form has
-pub run-most :
-    (i : Instance) (run : ℕ) (k : Instance) → follows form1 i run k ≡ true → runOf i run k ≤ form1 .perProcedure
+-- of one procedure there are no more than the form has: a bound of that, and of one instance, bounds the run
+pub run-within :
+    (f : Form) (bound : ℕ) → 1 ≤ bound → f .perprocedure ≤ bound → (i : Instance) (run : ℕ) (k : Instance) →
+    follows f i run k ≡ true →
+    runOf i run k ≤ bound
 unfolding follows runOf
-run-most i run k =
-    let P : Bool → Type 0 = λ t. t ≡ true → runOf i run k ≤ 8 in
+run-within f bound some most i run k =
+    let P : Bool → Type 0 = λ t. t ≡ true → runOf i run k ≤ bound in
     pick-ind P (eqb run 0)
-    (λ e _. rw e (omega arith))
+    (λ e _. rw e (omega (arith, some)))
     (λ e h.
-    let inside = pick-then (before i k) (pick (eqb (i .procedure) (k .procedure)) (ltb run 8) true) h .1 in
+    let inside = pick-then (before i k) (pick (eqb (i .procedure) (k .procedure)) (ltb run (f .perprocedure)) true) h .1 in
     pick-ind P (eqb (i .procedure) (k .procedure))
-    (λ same small. rw (e, same) (omega (arith, ltb-true run 8 small)))
-    (λ other _. rw (e, other) (omega arith))
+    (λ same small.
+    let less : run < f .perprocedure = ltb-true run (f .perprocedure) small in
+    rw (e, same) (omega (arith, less, most)))
+    (λ other _. rw (e, other) (omega (arith, some)))
     inside)
+
+pub run-most :
+    (i : Instance) (run : ℕ) (k : Instance) → follows form1 i run k ≡ true → runOf i run k ≤ form1 .perprocedure
+run-most = run-within form1 (form1 .perprocedure) (omega arith) (omega arith)
 
 passed-one :
     (k : Instance) (g : Got (List Instance)) → passedRead (andThen g (λ ks q. got (k ∷ ks) q)) ≡ passedRead g
@@ -120,57 +134,55 @@ passed-one k wrong = refl
 
 -- A reader of `count` instances from `at` on has come to `here`, with i of them read, the last of them `last`, after `run` of its
 -- procedure: what is found from there on decides.
-pub record Going (s : List ℕ) (at count : ℕ) (last : Instance) (run here i : ℕ) : Type 0 where
+pub record Going (f : Form) (s : List ℕ) (at count : ℕ) (last : Instance) (run here i : ℕ) : Type 0 where
   pub few : i ≤ count
-  pub runs : run ≤ form1 .perProcedure
   pub decides :
-      passedRead (instancesFrom form1 count noInstance 0 s at) ≡ passedRead (instancesFrom form1 (count - i) last run s here)
+      passedRead (instancesFrom f count noInstance 0 s at) ≡ passedRead (instancesFrom f (count - i) last run s here)
 
-module _ (s : List ℕ) (at count : ℕ) where
-  pub going-first : Going s at count noInstance 0 at 0
-  going-first = record { few = omega arith; runs = omega arith; decides = rw sub-zero }
+module _ (f : Form) (s : List ℕ) (at count : ℕ) where
+  pub going-first : Going f s at count noInstance 0 at 0
+  going-first = record { few = omega arith; decides = rw sub-zero }
 
-  module _ (last : Instance) (run here i : ℕ) (so : Going s at count last run here i) where
+  module _ (last : Instance) (run here i : ℕ) (so : Going f s at count last run here i) where
     -- it has read them all
     pub going-all :
         count ≤ i →
-        _≡_ {A = Passed} record { ok = true; next = here } (passedRead (instancesFrom form1 count noInstance 0 s at))
+        _≡_ {A = Passed} record { ok = true; next = here } (passedRead (instancesFrom f count noInstance 0 s at))
     going-all h =
         let none : count - i ≡ 0 = omega arith in
-        rw (so .decides, none, instances-end form1 s last run here)
+        rw (so .decides, none, instances-end f s last run here)
 
     module _ (more : i < count) where
       left-one : count - i ≡ suc (count - (i + 1))
       left-one = omega arith
 
       going-step :
-          passedRead (instancesFrom form1 count noInstance 0 s at)
+          passedRead (instancesFrom f count noInstance 0 s at)
           ≡ passedRead
-          (andThen (instanceAt form1 s here) (λ k p.
-          pick (follows form1 last run k)
-          (andThen (instancesFrom form1 (count - (i + 1)) k (runOf last run k) s p) (λ ks q. got (k ∷ ks) q))
+          (andThen (instanceAt f s here) (λ k p.
+          pick (follows f last run k)
+          (andThen (instancesFrom f (count - (i + 1)) k (runOf last run k) s p) (λ ks q. got (k ∷ ks) q))
           wrong))
-      going-step = so .decides ∙ rw (left-one, instances-step form1 s (count - (i + 1)) last run here)
+      going-step = so .decides ∙ rw (left-one, instances-step f s (count - (i + 1)) last run here)
 
       -- no instance stands there
       pub going-wrong :
-          instanceAt form1 s here ≡ wrong → passedRead (instancesFrom form1 count noInstance 0 s at) ≡ passedRead wrong
+          instanceAt f s here ≡ wrong → passedRead (instancesFrom f count noInstance 0 s at) ≡ passedRead wrong
       going-wrong e = going-step ∙ rw e
 
-      module _ (k : Instance) (next : ℕ) (e : instanceAt form1 s here ≡ got k next) where
+      module _ (k : Instance) (next : ℕ) (e : instanceAt f s here ≡ got k next) where
         -- one stands there that may not
         pub going-out :
-            follows form1 last run k ≡ false →
-            passedRead (instancesFrom form1 count noInstance 0 s at) ≡ passedRead wrong
+            follows f last run k ≡ false →
+            passedRead (instancesFrom f count noInstance 0 s at) ≡ passedRead wrong
         going-out h = going-step ∙ rw (e, h)
 
         -- one that may: it goes on after it
         pub going-next :
-            follows form1 last run k ≡ true → Going s at count k (runOf last run k) next (i + 1)
+            follows f last run k ≡ true → Going f s at count k (runOf last run k) next (i + 1)
         going-next h = record {
           few = omega arith;
-          runs = run-most last run k h;
-          decides = going-step ∙ rw (e, h) (passed-one k (instancesFrom form1 (count - (i + 1)) k (runOf last run k) s next));
+          decides = going-step ∙ rw (e, h) (passed-one k (instancesFrom f (count - (i + 1)) k (runOf last run k) s next));
         }
 
 -- an answer with `ok` says that there are instances
@@ -194,31 +206,31 @@ restFrom f s o a =
     andThen (instancesFrom f (o .count) noInstance 0 s a) (λ is next.
     pick (eqb next (length s)) (got (record { last = o .last; instances = is }) next) wrong)
 
-module _ (s : List ℕ) where
-  pub sheet-parts : sheetIn form1 s ≡ andThen (openingIn form1 s) (restFrom form1 s)
+module _ (f : Form) (s : List ℕ) where
+  pub sheet-parts : sheetIn f s ≡ andThen (openingIn f s) (restFrom f s)
   unfolding sheetIn openingIn
   sheet-parts =
-      then-through (fieldAt (eqb 1) s 0) _ _ (restFrom form1 s) (λ form p.
-      then-through (fieldAt (λ n. leb n 32767) s p) _ _ (restFrom form1 s) (λ last q.
-      then-through (fieldAt (λ n. true) s q) _ _ (restFrom form1 s) (λ count a. refl)))
+      then-through (fieldAt (eqb (f .code)) s 0) _ _ (restFrom f s) (λ code p.
+      then-through (fieldAt (λ n. leb n (f .lastmost)) s p) _ _ (restFrom f s) (λ last q.
+      then-through (fieldAt (λ n. true) s q) _ _ (restFrom f s) (λ count a. refl)))
 
-  pub sheet-no-opening : openingIn form1 s ≡ wrong → sheetIn form1 s ≡ wrong
+  pub sheet-no-opening : openingIn f s ≡ wrong → sheetIn f s ≡ wrong
   sheet-no-opening e = sheet-parts ∙ rw e
 
-  module _ (o : Opened) (a : ℕ) (opened : openingIn form1 s ≡ got o a) where
-    pub sheet-no-instances : instancesFrom form1 (o .count) noInstance 0 s a ≡ wrong → sheetIn form1 s ≡ wrong
+  module _ (o : Opened) (a : ℕ) (opened : openingIn f s ≡ got o a) where
+    pub sheet-no-instances : instancesFrom f (o .count) noInstance 0 s a ≡ wrong → sheetIn f s ≡ wrong
     sheet-no-instances e = sheet-parts ∙ rw (opened, e)
 
-    module _ (is : List Instance) (next : ℕ) (found : instancesFrom form1 (o .count) noInstance 0 s a ≡ got is next) where
-      pub sheet-after : (next ≡ length s → ⊥) → sheetIn form1 s ≡ wrong
+    module _ (is : List Instance) (next : ℕ) (found : instancesFrom f (o .count) noInstance 0 s a ≡ got is next) where
+      pub sheet-after : (next ≡ length s → ⊥) → sheetIn f s ≡ wrong
       sheet-after e = sheet-parts ∙ rw (opened, found, ne-eqb next (length s) e)
 
-      pub sheet-is : next ≡ length s → sheetIn form1 s ≡ got (record { last = o .last; instances = is }) next
+      pub sheet-is : next ≡ length s → sheetIn f s ≡ got (record { last = o .last; instances = is }) next
       sheet-is e = sheet-parts ∙ rw (opened, found, eq-eqb next (length s) e)
 
       pub sheet-formed :
           next ≡ length s →
-          _≡_ {A = SheetForm} record { ok = true; last = o .last; count = o .count } (formedBy (sheetIn form1 s))
+          _≡_ {A = SheetForm} record { ok = true; last = o .last; count = o .count } (formedBy (sheetIn f s))
       sheet-formed e =
-          let counted = found-is (λ is. length is ≡ o .count) found (instances-count form1 s (o .count) noInstance 0 a) in
+          let counted = found-is (λ is. length is ≡ o .count) found (instances-count f s (o .count) noInstance 0 a) in
           rw (sheet-is e, counted)

@@ -5,7 +5,7 @@ use mathlib.Core.List.{List, [], _∷_}
 use Rattle.laws.specs.Pick.{pick}
 use Rattle.laws.specs.Got.{Got, got, wrong, andThen}
 use Rattle.laws.proofs.Gots.{found-is}
-use Rattle.sheet.specs.Form.{form1}
+use Rattle.sheet.specs.declared.forms.Form.{Form}
 use Rattle.sheet.specs.Instance.{instanceAt}
 use Rattle.sheet.specs.Sheet.{follows, runOf, instancesFrom, noInstance}
 use Rattle.sheet.specs.Formed.{instanceRead, InstanceFound}
@@ -16,21 +16,21 @@ use Rattle.sheet.proofs.Bounds.{Bounded, instance-bounded}
 use Rattle.sheet.proofs.Sheets.{instances-end, instances-step}
 
 -- n instances are left from `here` on: they are `rest`
-pub record Left (s : List ℕ) (here n : ℕ) (rest : List Instance) : Type 0 where
+pub record Left (form : Form) (s : List ℕ) (here n : ℕ) (rest : List Instance) : Type 0 where
   pub last : Instance
   pub run : ℕ
   pub next : ℕ
-  pub found : instancesFrom form1 n last run s here ≡ got rest next
+  pub found : instancesFrom form n last run s here ≡ got rest next
 
-module _ (s : List ℕ) where
+module _ (form : Form) (s : List ℕ) where
   pub left-first :
-      (at count : ℕ) (is : List Instance) (next : ℕ) → instancesFrom form1 count noInstance 0 s at ≡ got is next →
-      Left s at count is
+      (at count : ℕ) (is : List Instance) (next : ℕ) → instancesFrom form count noInstance 0 s at ≡ got is next →
+      Left form s at count is
   left-first at count is next e = record { last = noInstance; run = 0; next = next; found = e }
 
   -- none are left
-  pub left-none : (here : ℕ) (rest : List Instance) → Left s here 0 rest → [] ≡ rest
-  left-none here rest so = got-same (sym (instances-end form1 s (so .last) (so .run) here) ∙ so .found)
+  pub left-none : (here : ℕ) (rest : List Instance) → Left form s here 0 rest → [] ≡ rest
+  left-none here rest so = got-same (sym (instances-end form s (so .last) (so .run) here) ∙ so .found)
 
 -- an instance that was found is the one that the answer names
 instance-told :
@@ -40,29 +40,29 @@ instance-told g r e {i} {next} f =
     f ∙ sym (ap (λ (x : InstanceRead). got (x .instance) (x .next)) (e ∙ ap instanceRead f))
 
 -- one is left, as the reader names it, and others after it
-module _ (s : List ℕ) (here n : ℕ) (rest : List Instance) (so : Left s here (suc n) rest) (r : InstanceRead)
-    (told : InstanceFound s here r) where
+module _ (form : Form) (s : List ℕ) (here n : ℕ) (rest : List Instance) (so : Left form s here (suc n) rest)
+    (r : InstanceRead) (told : InstanceFound form s here r) where
   abbrev k : Instance
   k = r .instance
 
   after : Instance → ℕ → Got (List Instance)
   after i q =
-      pick (follows form1 (so .last) (so .run) i)
-      (andThen (instancesFrom form1 n i (runOf (so .last) (so .run) i) s q) (λ ks p. got (i ∷ ks) p)) wrong
+      pick (follows form (so .last) (so .run) i)
+      (andThen (instancesFrom form n i (runOf (so .last) (so .run) i) s q) (λ ks p. got (i ∷ ks) p)) wrong
 
-  unfolded : andThen (instanceAt form1 s here) after ≡ got rest (so .next)
+  unfolded : andThen (instanceAt form s here) after ≡ got rest (so .next)
   unfolding after
-  unfolded = sym (instances-step form1 s n (so .last) (so .run) here) ∙ so .found
+  unfolded = sym (instances-step form s n (so .last) (so .run) here) ∙ so .found
 
-  there : instanceAt form1 s here ≡ got k (r .next)
-  there = instance-told (instanceAt form1 s here) r told (then-got (instanceAt form1 s here) after unfolded .first)
+  there : instanceAt form s here ≡ got k (r .next)
+  there = instance-told (instanceAt form s here) r told (then-got (instanceAt form s here) after unfolded .first)
 
-  pub left-bounded : Bounded k
-  left-bounded = found-is Bounded there (instance-bounded s here)
+  pub left-bounded : Bounded form k
+  left-bounded = found-is (Bounded form) there (instance-bounded form s here)
 
-  others : Thened (instancesFrom form1 n k (runOf (so .last) (so .run) k) s (r .next)) (λ ks p. got (k ∷ ks) p) rest (so .next)
+  others : Thened (instancesFrom form n k (runOf (so .last) (so .run) k) s (r .next)) (λ ks p. got (k ∷ ks) p) rest (so .next)
   unfolding after
-  others = then-got _ _ (test-got (follows form1 (so .last) (so .run) k) _ (rw there at unfolded) .1)
+  others = then-got _ _ (test-got (follows form (so .last) (so .run) k) _ (rw there at unfolded) .1)
 
   pub left-others : List Instance
   left-others = others .thing
@@ -71,7 +71,7 @@ module _ (s : List ℕ) (here n : ℕ) (rest : List Instance) (so : Left s here 
   unfolding left-others
   left-is = got-same (others .rest)
 
-  pub left-next : Left s (r .next) n left-others
+  pub left-next : Left form s (r .next) n left-others
   unfolding left-others
   left-next = record {
     last = k;

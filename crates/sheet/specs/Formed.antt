@@ -1,4 +1,4 @@
--- A night sheet and its parts by the rules of form 1 alone, without a profile (document 01, "Night sheet"; "Samples": the listing
+-- A night sheet and its parts by the rules of a form alone, without a profile (document 01, "Night sheet"; "Samples": the listing
 -- program): what is told of it.
 use Prim.Native.Nat.{ℕ}
 use mathlib.Core.Path.{_≡_}
@@ -7,7 +7,7 @@ use mathlib.Core.List.{List}
 use lib.ListN.{length}
 use lib.Dec.{leb, eqb}
 use Rattle.laws.specs.Got.{Got, got, wrong, andThen}
-use Rattle.sheet.specs.Form.{Form, form1}
+use Rattle.sheet.specs.declared.forms.Form.{Form}
 use Rattle.sheet.specs.Instance.{fieldAt, instanceAt}
 use Rattle.sheet.specs.Sheet.{Sheet, noInstance, sheetIn}
 use Rattle.sheet.specs.declared.instance.Instance.{Instance}
@@ -23,8 +23,8 @@ formedBy (got sheet next) = record { ok = true; last = sheet .last; count = leng
 formedBy wrong = record { ok = false; last = 0; count = 0 }
 
 -- what `sheet_form` promises
-abbrev pub SheetFormed : List ℕ → SheetForm → Type 0
-SheetFormed s r = r ≡ formedBy (sheetIn form1 s)
+abbrev pub SheetFormed : Form → List ℕ → SheetForm → Type 0
+SheetFormed f s r = r ≡ formedBy (sheetIn f s)
 
 -- ---- its parts
 
@@ -36,7 +36,7 @@ pub record Opened : Type 0 where
 unfoldable pub openingIn : Form → List ℕ → Got Opened
 openingIn f s =
     andThen (fieldAt (eqb (f .code)) s 0) (λ _ p.
-    andThen (fieldAt (λ n. leb n (f .lastMost)) s p) (λ last q.
+    andThen (fieldAt (λ n. leb n (f .lastmost)) s p) (λ last q.
     andThen (fieldAt (λ n. true) s q) (λ count next. got (record { last = last; count = count }) next)))
 
 abbrev pub openingRead : Got Opened → Opening
@@ -44,16 +44,16 @@ openingRead (got o next) = record { ok = true; last = o .last; count = o .count;
 openingRead wrong = record { ok = false; last = 0; count = 0; next = 0 }
 
 -- what `opening_of` promises
-abbrev pub OpeningOf : List ℕ → Opening → Type 0
-OpeningOf s r = r ≡ openingRead (openingIn form1 s)
+abbrev pub OpeningOf : Form → List ℕ → Opening → Type 0
+OpeningOf f s r = r ≡ openingRead (openingIn f s)
 
 abbrev pub instanceRead : Got Instance → InstanceRead
 instanceRead (got instance next) = record { ok = true; instance = instance; next = next }
 instanceRead wrong = record { ok = false; instance = noInstance; next = 0 }
 
 -- what `instance_at` promises
-abbrev pub InstanceFound : List ℕ → ℕ → InstanceRead → Type 0
-InstanceFound s at r = r ≡ instanceRead (instanceAt form1 s at)
+abbrev pub InstanceFound : Form → List ℕ → ℕ → InstanceRead → Type 0
+InstanceFound f s at r = r ≡ instanceRead (instanceAt f s at)
 
 -- something is found
 pub record Holds {A : Type 0} (g : Got A) : Type 0 where

@@ -7,7 +7,7 @@ use lib.ListN.{length, replicate}
 use lib.Dec.{ltb, leb, eqb}
 use Rattle.laws.specs.Pick.{pick}
 use Rattle.laws.specs.Got.{Got, got, wrong, andThen}
-use Rattle.sheet.specs.Form.{Form}
+use Rattle.sheet.specs.declared.forms.Form.{Form}
 use Rattle.sheet.specs.Instance.{allGroups, instanceOctets, fieldAt, instanceAt}
 use Rattle.sheet.specs.declared.instance.Instance.{Instance}
 
@@ -39,7 +39,7 @@ before i k =
 unfoldable pub follows : Form → Instance → ℕ → Instance → Bool
 follows f i run k =
     pick (eqb run 0) true
-    (pick (before i k) (pick (eqb (i .procedure) (k .procedure)) (ltb run (f .perProcedure)) true) false)
+    (pick (before i k) (pick (eqb (i .procedure) (k .procedure)) (ltb run (f .perprocedure)) true) false)
 
 unfoldable pub runOf : Instance → ℕ → Instance → ℕ
 runOf i run k = pick (eqb run 0) 1 (pick (eqb (i .procedure) (k .procedure)) (run + 1) 1)
@@ -64,7 +64,7 @@ noInstance = record {
 unfoldable pub sheetIn : Form → List ℕ → Got Sheet
 sheetIn f s =
     andThen (fieldAt (eqb (f .code)) s 0) (λ _ p.
-    andThen (fieldAt (λ n. leb n (f .lastMost)) s p) (λ last q.
+    andThen (fieldAt (λ n. leb n (f .lastmost)) s p) (λ last q.
     andThen (fieldAt (λ n. true) s q) (λ count a.
     andThen (instancesFrom f count noInstance 0 s a) (λ is next.
     pick (eqb next (length s)) (got (record { last = last; instances = is }) next) wrong))))

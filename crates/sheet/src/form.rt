@@ -1,23 +1,16 @@
 // A night sheet by the rules of its form alone (document 01, "Night sheet").
 use crate::field::field_at;
 use crate::field::field_below;
+use crate::forms::Form;
 use crate::instance::Instance;
 use crate::read::instance_at;
 use crate::read::no_instance;
 ghost use mathlib.Core.Path.{_≡_};
 ghost use Prim.Native.Nat.{_≤_};
 ghost use Rattle.laws.specs.Got.{wrong};
-ghost use Rattle.sheet.specs.Form.{form1};
 ghost use Rattle.sheet.specs.Sheet.{before, follows, runOf, instancesFrom, noInstance};
 ghost use Rattle.sheet.specs.Formed.{formedBy, SheetFormed, openingRead, OpeningOf};
 ghost use Rattle.sheet.specs.Reading.{passedRead};
-
-// The form's code, the bound of the last handled identifier, and the most instances of a procedure.
-const FORM: u32 = 1;
-
-const LASTS: u32 = 32768;
-
-const PERPROCEDURE: u8 = 8;
 
 // The last handled identifier and how many instances there are; or `ok` is false, and both are 0.
 pub struct SheetForm {
@@ -52,17 +45,19 @@ fn no_opening() -> Opening
 }
 
 // Form, last handled, instance count.
-pub fn opening_of(s: &[u8]) -> Opening
-    ensures { λ r. ⌜ OpeningOf (now (s .entry)) r ⌝ }
+pub fn opening_of(f: Form, s: &[u8]) -> Opening
+    ensures { λ r. ⌜ OpeningOf f (now (s .entry)) r ⌝ }
 {
     let form = field_at(s, 0);
     if !form.ok {
         return no_opening();
     }
-    if form.value != FORM {
+    let code = f.code as u32;
+    if form.value != code {
         return no_opening();
     }
-    let last = field_below(s, form.next, LASTS);
+    let most = f.lastmost as u32;
+    let last = field_below(s, form.next, most + 1);
     if !last.ok {
         return no_opening();
     }
@@ -92,8 +87,8 @@ fn comes_before(i: Instance, k: Instance) -> bool
 }
 
 // Whether `k` may stand after `run` instances of one procedure, the last of them `i`.
-fn may_follow(i: Instance, run: u8, k: Instance) -> bool
-    ensures { λ r. ⌜ r ≡ follows form1 i run k ⌝ }
+fn may_follow(f: Form, i: Instance, run: u8, k: Instance) -> bool
+    ensures { λ r. ⌜ r ≡ follows f i run k ⌝ }
 {
     if run == 0 {
         return true;
@@ -102,14 +97,14 @@ fn may_follow(i: Instance, run: u8, k: Instance) -> bool
         return false;
     }
     if i.procedure == k.procedure {
-        return run < PERPROCEDURE;
+        return run < f.perprocedure;
     }
     true
 }
 
 // How many instances of its procedure there are with `k`.
 fn run_with(i: Instance, run: u8, k: Instance) -> u8
-    requires { ⌜ run ≤ form1 .perProcedure ⌝ }
+    requires { ⌜ runOf i run k ≤ 255 ⌝ }
     ensures { λ r. ⌜ r ≡ runOf i run k ⌝ }
 {
     if run == 0 {
@@ -128,20 +123,20 @@ fn not_passed() -> Passed
 }
 
 // `count` instances from `at` on, each where it may stand.
-fn instances_from(s: &[u8], at: usize, count: u32) -> Passed
-    ensures { λ r. ⌜ r ≡ passedRead (instancesFrom form1 count noInstance 0 (now (s .entry)) at) ⌝ }
+fn instances_from(f: Form, s: &[u8], at: usize, count: u32) -> Passed
+    ensures { λ r. ⌜ r ≡ passedRead (instancesFrom f count noInstance 0 (now (s .entry)) at) ⌝ }
 {
     let mut last = no_instance();
     let mut run: u8 = 0;
     let mut here = at;
     let mut i: u32 = 0;
     while i < count {
-        let read = instance_at(s, here);
+        let read = instance_at(f, s, here);
         if !read.ok {
             return not_passed();
         }
         let instance = read.instance;
-        if !may_follow(last, run, instance) {
+        if !may_follow(f, last, run, instance) {
             return not_passed();
         }
         run = run_with(last, run, instance);
@@ -165,15 +160,15 @@ fn not_formed() -> SheetForm
     }
 }
 
-// A night sheet by the rules of form 1, without a profile.
-pub fn sheet_form(s: &[u8]) -> SheetForm
-    ensures { λ r. ⌜ SheetFormed (now (s .entry)) r ⌝ }
+// A night sheet by the rules of its form, without a profile.
+pub fn sheet_form(f: Form, s: &[u8]) -> SheetForm
+    ensures { λ r. ⌜ SheetFormed f (now (s .entry)) r ⌝ }
 {
-    let opening = opening_of(s);
+    let opening = opening_of(f, s);
     if !opening.ok {
         return not_formed();
     }
-    let passed = instances_from(s, opening.next, opening.count);
+    let passed = instances_from(f, s, opening.next, opening.count);
     if !passed.ok {
         return not_formed();
     }

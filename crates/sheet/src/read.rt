@@ -3,6 +3,7 @@ use crate::field::FieldRead;
 use crate::field::field_below;
 use crate::field::fields_below;
 use crate::field::no_field;
+use crate::forms::Form;
 use crate::instance::Instance;
 use codes::service_code;
 use numbers::Address;
@@ -17,12 +18,8 @@ ghost use Rattle.sheet.specs.Sheet.{noInstance};
 ghost use Rattle.sheet.specs.Formed.{instanceRead, InstanceFound};
 ghost use Rattle.sheet.specs.Reading.{numberIn, noAddress, fieldRead, forwardedRead};
 
-// The bounds of the fields: forms unknown and public, cfu to cfnr, "number index 0 to 3", octets.
+// The bounds of the fields of every form: forms of a number unknown and public, octets.
 const FORMS: u32 = 2;
-
-const PROCEDURES: u32 = 3;
-
-const NUMBERS: u32 = 4;
 
 const OCTETS: u32 = 256;
 
@@ -201,14 +198,14 @@ fn not_instance() -> InstanceRead
 }
 
 // The instance at `at`.
-pub fn instance_at(s: &[u8], at: usize) -> InstanceRead
-    ensures { λ r. ⌜ InstanceFound (now (s .entry)) at r ⌝ }
+pub fn instance_at(f: Form, s: &[u8], at: usize) -> InstanceRead
+    ensures { λ r. ⌜ InstanceFound f (now (s .entry)) at r ⌝ }
 {
-    let procedure = field_below(s, at, PROCEDURES);
+    let procedure = field_below(s, at, f.procedures as u32);
     if !procedure.ok {
         return not_instance();
     }
-    let number = field_below(s, procedure.next, NUMBERS);
+    let number = field_below(s, procedure.next, f.numbers as u32);
     if !number.ok {
         return not_instance();
     }

@@ -78,42 +78,48 @@ fit c =
 instance-count-requires : tie.Need-instance-count-requires
 instance-count-requires c κs = search needs
 
-put-groups-requires : tie.Need-put-groups-requires
-put-groups-requires c κs = search needs
+form-one-requires : tie.Need-form-one-requires
+form-one-requires c κs = search needs
 
 cast-put-groups : tie.Need-cast-put-groups
 cast-put-groups c = search needs
 
+put-groups-requires : tie.Need-put-groups-requires
+put-groups-requires c κs = search needs
+
+cast-put-groups-2 : tie.Need-cast-put-groups-2
+cast-put-groups-2 c = search needs
+
 put-groups-requires-2 : tie.Need-put-groups-requires-2
 put-groups-requires-2 c κs = search needs
 
-cast-put-groups-2 : tie.Need-cast-put-groups-2
-cast-put-groups-2 c = omega (arith, c .before .before .before .before .before .before .before .before .before .before .instance-count .ensures, fit (c .before .before .before .before .before .before .before .before .before .before .before .before) .few)
+cast-put-groups-3 : tie.Need-cast-put-groups-3
+cast-put-groups-3 c = omega (arith, c .before .before .before .before .before .before .before .before .before .before .before .before .instance-count .ensures, fit (c .before .before .before .before .before .before .before .before .before .before .before .before .before .before) .few)
 
 put-groups-requires-3 : tie.Need-put-groups-requires-3
 put-groups-requires-3 c κs = search needs
 
 write-grid-requires : tie.Need-write-grid-requires
 write-grid-requires c κs =
-    let t = c .before .before .before .before .before .before .before .before .before .before .before .before .before .before .before .before .before .before .before .before .before .before .before .before .before .args .table in
-    let f = fit (c .before .before .before .before .before .before .before .before .before .before .before .before .before .before .before .before) in (
+    let t = c .before .before .before .before .before .before .before .before .before .before .before .before .before .before .before .before .before .before .before .before .before .before .before .before .before .before .before .args .table in
+    let f = fit (c .before .before .before .before .before .before .before .before .before .before .before .before .before .before .before .before .before .before) in (
       f .writable,
-      sheet-space form1 (t .last) (instancesOf (t .grid)) (omega arith) (f .last) (f .few) (f .space) (c .before .before .before .before .before .before .before .before .before .before .before .before .put-groups .ensures) (c .before .before .before .before .before .before .before .put-groups2 .ensures) (rw (c .before .before .before .before .before .before .before .before .before .before .before .before .before .before .instance-count .ensures) at (c .before .before .before .put-groups3 .ensures)),
+      sheet-space form1 (t .last) (instancesOf (t .grid)) (omega arith) (f .last) (f .few) (f .space) (rw (c .before .before .before .before .before .before .before .before .before .before .before .before .before .before .before .form-one .ensures) at (c .before .before .before .before .before .before .before .before .before .before .before .before .put-groups .ensures)) (c .before .before .before .before .before .before .before .put-groups2 .ensures) (rw (c .before .before .before .before .before .before .before .before .before .before .before .before .before .before .before .before .instance-count .ensures) at (c .before .before .before .put-groups3 .ensures)),
     )
 
-wrote-sheet : (c : tie.After-slice-known5) → Wrote (c .before .before .before .before .before .before .before .before .before .before .before .before .before .before .before .before .before .before .before .before .before .before .before .before .before .before .before .before .args .out .now) 0 (sheetOctets form1 (c .before .before .before .before .before .before .before .before .before .before .before .before .before .before .before .before .before .before .before .before .before .before .before .before .before .before .before .before .args .table .last) (instancesOf (c .before .before .before .before .before .before .before .before .before .before .before .before .before .before .before .before .before .before .before .before .before .before .before .before .before .before .before .before .args .table .grid))) (c .before .before .write-grid .result) (c .before .before .write-grid .last .0)
+wrote-sheet : (c : tie.After-slice-known5) → Wrote (c .before .before .before .before .before .before .before .before .before .before .before .before .before .before .before .before .before .before .before .before .before .before .before .before .before .before .before .before .before .before .args .out .now) 0 (sheetOctets form1 (c .before .before .before .before .before .before .before .before .before .before .before .before .before .before .before .before .before .before .before .before .before .before .before .before .before .before .before .before .before .before .args .table .last) (instancesOf (c .before .before .before .before .before .before .before .before .before .before .before .before .before .before .before .before .before .before .before .before .before .before .before .before .before .before .before .before .before .before .args .table .grid))) (c .before .before .write-grid .result) (c .before .before .write-grid .last .0)
 wrote-sheet c =
-    let t = c .before .before .before .before .before .before .before .before .before .before .before .before .before .before .before .before .before .before .before .before .before .before .before .before .before .before .before .before .args .table in
-    let f = fit (c .before .before .before .before .before .before .before .before .before .before .before .before .before .before .before .before .before .before .before) in
-    sheet-wrote form1 (t .last) (instancesOf (t .grid)) (omega arith) (f .last) (f .few) (f .space) (c .before .before .before .before .before .before .before .before .before .before .before .before .before .before .before .put-groups .ensures) (c .before .before .before .before .before .before .before .before .before .before .put-groups2 .ensures) (rw (c .before .before .before .before .before .before .before .before .before .before .before .before .before .before .before .before .before .instance-count .ensures) at (c .before .before .before .before .before .before .put-groups3 .ensures)) (c .before .before .write-grid .ensures)
+    let t = c .before .before .before .before .before .before .before .before .before .before .before .before .before .before .before .before .before .before .before .before .before .before .before .before .before .before .before .before .before .before .args .table in
+    let f = fit (c .before .before .before .before .before .before .before .before .before .before .before .before .before .before .before .before .before .before .before .before .before) in
+    sheet-wrote form1 (t .last) (instancesOf (t .grid)) (omega arith) (f .last) (f .few) (f .space) (rw (c .before .before .before .before .before .before .before .before .before .before .before .before .before .before .before .before .before .before .form-one .ensures) at (c .before .before .before .before .before .before .before .before .before .before .before .before .before .before .before .put-groups .ensures)) (c .before .before .before .before .before .before .before .before .before .before .put-groups2 .ensures) (rw (c .before .before .before .before .before .before .before .before .before .before .before .before .before .before .before .before .before .before .before .instance-count .ensures) at (c .before .before .before .before .before .before .put-groups3 .ensures)) (c .before .before .write-grid .ensures)
 
 same-length : tie.Need-same-length
 same-length c = wrote-length (wrote-sheet c)
 
 returns-4 : tie.Need-returns-4
 returns-4 c =
-    let a = c .before .before .before .before .before .before .before .before .before .before .before .before .before .before .before .before .before .before .before .before .before .before .before .before .before .before .before .before .args in
-    let e = c .before .before .before .before .before .before .before .before .before .before .before .before .before .before .before .before .before .before .before in
+    let a = c .before .before .before .before .before .before .before .before .before .before .before .before .before .before .before .before .before .before .before .before .before .before .before .before .before .before .before .before .before .before .args in
+    let e = c .before .before .before .before .before .before .before .before .before .before .before .before .before .before .before .before .before .before .before .before .before in
     sheet-writes (a .access .now) (a .table) (a .out .now) _ _
     (writes-sheet (a .access .now) (a .table) (length (a .out .now)) (room e) (ok e) (good e))
     (wrote-sheet c)
@@ -131,10 +137,12 @@ write-sheet-spec =
     refuses-requires-3
     returns-3
     instance-count-requires
-    put-groups-requires
+    form-one-requires
     cast-put-groups
-    put-groups-requires-2
+    put-groups-requires
     cast-put-groups-2
+    put-groups-requires-2
+    cast-put-groups-3
     put-groups-requires-3
     write-grid-requires
     same-length

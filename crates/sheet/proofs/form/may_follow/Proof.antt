@@ -18,7 +18,7 @@ returns-2 c = rw (ne-eqb _ _ (c .before .before .if1 .left), sym (c .before .com
 
 returns-3 : tie.Need-returns-3
 unfolding follows
-returns-3 c = rw (ne-eqb _ _ (c .before .before .before .before .before .if1 .left), sym (c .before .before .before .before .comes-before .ensures) ∙ not-false _ (c .before .before .before .if2 .left), eq-eqb _ _ (c .if3 .taken))
+returns-3 c = rw (ne-eqb _ _ (c .before .before .before .before .before .before .if1 .left), sym (c .before .before .before .before .before .comes-before .ensures) ∙ not-false _ (c .before .before .before .before .if2 .left), eq-eqb _ _ (c .before .if3 .taken))
 
 returns-4 : tie.Need-returns-4
 unfolding follows

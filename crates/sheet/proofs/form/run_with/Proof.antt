@@ -1,6 +1,6 @@
 use Rattle.sheet.specs.Sheet.{runOf}
 use borrow.Author.Tests.{eq-eqb, ne-eqb}
-use borrow.Author.Needs.{needs}
+use native.Mathlib.Omega.{arith}
 use Rattle.sheet.proofs.form.run_with.Statement.{statement}
 use Rattle.sheet.proofs.form.run_with.Tie as tie
 
@@ -9,7 +9,8 @@ unfolding runOf
 returns c = rw (eq-eqb _ _ (c .if1 .taken))
 
 add-result : tie.Need-add-result
-add-result c = search needs
+unfolding runOf
+add-result c = omega (arith, rw (ne-eqb _ _ (c .before .before .before .if1 .left), eq-eqb _ _ (c .if2 .taken)) at (c .before .before .before .before .pre))
 
 returns-2 : tie.Need-returns-2
 unfolding runOf

@@ -3,10 +3,14 @@ use Rattle.sheet.proofs.Readers.{forwarded-found, forwarded-none, servi
 use Rattle.sheet.specs.Instance.{fieldAt, serviceOf, addressIn, instanceAt}
 use Rattle.sheet.specs.Reading.{fieldBelow}
 use borrow.Author.Tests.{not-true, not-false}
+use Prim.Native.Nat.{_<_}
 use native.Mathlib.Omega.{arith}
 use borrow.Author.Needs.{needs}
 use Rattle.sheet.proofs.read.instance_at.Statement.{statement}
 use Rattle.sheet.proofs.read.instance_at.Tie as tie
+
+cast-field-below : tie.Need-cast-field-below
+cast-field-below c = search needs
 
 field-below-requires : tie.Need-field-below-requires
 field-below-requires c κs = search needs
@@ -16,7 +20,10 @@ not-instance-requires c κs = search needs
 
 returns : tie.Need-returns
 unfolding instanceAt
-returns c = let none = field-none (fieldBelow 3 _ _) _ (c .before .before .before .field-below .ensures) (not-true _ (c .before .if1 .taken)) in rw none (c .not-instance .ensures)
+returns c = let none = field-none (fieldBelow _ _ _) _ (c .before .before .before .field-below .ensures) (not-true _ (c .before .if1 .taken)) in rw none (c .not-instance .ensures)
+
+cast-field-below-2 : tie.Need-cast-field-below-2
+cast-field-below-2 c = search needs
 
 field-below-requires-2 : tie.Need-field-below-requires-2
 field-below-requires-2 c κs = search needs
@@ -26,7 +33,7 @@ not-instance-requires-2 c κs = search needs
 
 returns-2 : tie.Need-returns-2
 unfolding instanceAt
-returns-2 c = let procedure = field-found (fieldBelow 3 _ _) _ (c .before .before .before .before .before .before .field-below .ensures) (not-false _ (c .before .before .before .before .if1 .left)) in let none = field-none (fieldBelow 4 _ _) _ (c .before .before .before .field-below2 .ensures) (not-true _ (c .before .if2 .taken)) in rw (procedure, none) (c .not-instance2 .ensures)
+returns-2 c = let procedure = field-found (fieldBelow _ _ _) _ (c .before .before .before .before .before .before .before .field-below .ensures) (not-false _ (c .before .before .before .before .before .if1 .left)) in let none = field-none (fieldBelow _ _ _) _ (c .before .before .before .field-below2 .ensures) (not-true _ (c .before .if2 .taken)) in rw (procedure, none) (c .not-instance2 .ensures)
 
 service-at-requires : tie.Need-service-at-requires
 service-at-requires c κs = search needs
@@ -36,7 +43,7 @@ not-instance-requires-3 c κs = search needs
 
 returns-3 : tie.Need-returns-3
 unfolding instanceAt
-returns-3 c = let procedure = field-found (fieldBelow 3 _ _) _ (c .before .before .before .before .before .before .before .before .before .field-below .ensures) (not-false _ (c .before .before .before .before .before .before .before .if1 .left)) in let number = field-found (fieldBelow 4 _ _) _ (c .before .before .before .before .before .before .field-below2 .ensures) (not-false _ (c .before .before .before .before .if2 .left)) in let none = field-none (fieldAt serviceOf _ _) _ (c .before .before .before .service-at .ensures) (not-true _ (c .before .if3 .taken)) in rw (procedure, number, none) (c .not-instance3 .ensures)
+returns-3 c = let procedure = field-found (fieldBelow _ _ _) _ (c .before .before .before .before .before .before .before .before .before .before .field-below .ensures) (not-false _ (c .before .before .before .before .before .before .before .before .if1 .left)) in let number = field-found (fieldBelow _ _ _) _ (c .before .before .before .before .before .before .field-below2 .ensures) (not-false _ (c .before .before .before .before .if2 .left)) in let none = field-none (fieldAt serviceOf _ _) _ (c .before .before .before .service-at .ensures) (not-true _ (c .before .if3 .taken)) in rw (procedure, number, none) (c .not-instance3 .ensures)
 
 address-in-requires : tie.Need-address-in-requires
 address-in-requires c κs = search needs
@@ -46,28 +53,30 @@ not-instance-requires-4 c κs = search needs
 
 returns-4 : tie.Need-returns-4
 unfolding instanceAt
-returns-4 c = let procedure = field-found (fieldBelow 3 _ _) _ (c .before .before .before .before .before .before .before .before .before .before .before .before .field-below .ensures) (not-false _ (c .before .before .before .before .before .before .before .before .before .before .if1 .left)) in let number = field-found (fieldBelow 4 _ _) _ (c .before .before .before .before .before .before .before .before .before .field-below2 .ensures) (not-false _ (c .before .before .before .before .before .before .before .if2 .left)) in let service = field-found (fieldAt serviceOf _ _) _ (c .before .before .before .before .before .before .service-at .ensures) (not-false _ (c .before .before .before .before .if3 .left)) in let none = forwarded-none (addressIn _ _) _ (c .before .before .before .address-in .ensures) (not-true _ (c .before .if4 .taken)) in rw (procedure, number, service, none) (c .not-instance4 .ensures)
-
-cast-t9 : tie.Need-cast-t9
-cast-t9 c = let a = c .before .before .before .before .before .before .before .before .before .before .before .before .before .before .before .args in let procedure = field-found (fieldBelow 3 _ _) _ (c .before .before .before .before .before .before .before .before .before .before .before .before .before .field-below .ensures) (not-false _ (c .before .before .before .before .before .before .before .before .before .before .before .if1 .left)) in omega (arith, below-small (a .s .now) _ 3 _ _ procedure)
-
-cast-t10 : tie.Need-cast-t10
-cast-t10 c = let a = c .before .before .before .before .before .before .before .before .before .before .before .before .before .before .before .before .args in let number = field-found (fieldBelow 4 _ _) _ (c .before .before .before .before .before .before .before .before .before .before .before .field-below2 .ensures) (not-false _ (c .before .before .before .before .before .before .before .before .before .if2 .left)) in omega (arith, below-small (a .s .now) _ 4 _ _ number)
+returns-4 c = let procedure = field-found (fieldBelow _ _ _) _ (c .before .before .before .before .before .before .before .before .before .before .before .before .before .field-below .ensures) (not-false _ (c .before .before .before .before .before .before .before .before .before .before .before .if1 .left)) in let number = field-found (fieldBelow _ _ _) _ (c .before .before .before .before .before .before .before .before .before .field-below2 .ensures) (not-false _ (c .before .before .before .before .before .before .before .if2 .left)) in let service = field-found (fieldAt serviceOf _ _) _ (c .before .before .before .before .before .before .service-at .ensures) (not-false _ (c .before .before .before .before .if3 .left)) in let none = forwarded-none (addressIn _ _) _ (c .before .before .before .address-in .ensures) (not-true _ (c .before .if4 .taken)) in rw (procedure, number, service, none) (c .not-instance4 .ensures)
 
 cast-t11 : tie.Need-cast-t11
-cast-t11 c = let a = c .before .before .before .before .before .before .before .before .before .before .before .before .before .before .before .before .before .args in let service = field-found (fieldAt serviceOf _ _) _ (c .before .before .before .before .before .before .before .before .before .service-at .ensures) (not-false _ (c .before .before .before .before .before .before .before .if3 .left)) in omega (arith, service-octet (a .s .now) _ _ _ service)
+cast-t11 c = let a = c .before .before .before .before .before .before .before .before .before .before .before .before .before .before .before .before .before .args in let procedure = field-found (fieldBelow _ _ _) _ (c .before .before .before .before .before .before .before .before .before .before .before .before .before .before .field-below .ensures) (not-false _ (c .before .before .before .before .before .before .before .before .before .before .before .before .if1 .left)) in let few : a .f .procedures < 256 = search (needs, c .before .before .before .before .before .before .before .before .before .before .before .before .before .before .before .before .before .good) in omega (arith, few, below-small (a .s .now) _ (a .f .procedures) _ _ procedure)
+
+cast-t12 : tie.Need-cast-t12
+cast-t12 c = let a = c .before .before .before .before .before .before .before .before .before .before .before .before .before .before .before .before .before .before .args in let number = field-found (fieldBelow _ _ _) _ (c .before .before .before .before .before .before .before .before .before .before .before .field-below2 .ensures) (not-false _ (c .before .before .before .before .before .before .before .before .before .if2 .left)) in let few : a .f .numbers < 256 = search (needs, c .before .before .before .before .before .before .before .before .before .before .before .before .before .before .before .before .before .before .good) in omega (arith, few, below-small (a .s .now) _ (a .f .numbers) _ _ number)
+
+cast-t13 : tie.Need-cast-t13
+cast-t13 c = let a = c .before .before .before .before .before .before .before .before .before .before .before .before .before .before .before .before .before .before .before .args in let service = field-found (fieldAt serviceOf _ _) _ (c .before .before .before .before .before .before .before .before .before .service-at .ensures) (not-false _ (c .before .before .before .before .before .before .before .if3 .left)) in omega (arith, service-octet (a .s .now) _ _ _ service)
 
 returns-5 : tie.Need-returns-5
 unfolding instanceAt
-returns-5 c = let procedure = field-found (fieldBelow 3 _ _) _ (c .before .before .before .before .before .before .before .before .before .before .before .before .before .before .before .field-below .ensures) (not-false _ (c .before .before .before .before .before .before .before .before .before .before .before .before .before .if1 .left)) in let number = field-found (fieldBelow 4 _ _) _ (c .before .before .before .before .before .before .before .before .before .before .before .before .field-below2 .ensures) (not-false _ (c .before .before .before .before .before .before .before .before .before .before .if2 .left)) in let service = field-found (fieldAt serviceOf _ _) _ (c .before .before .before .before .before .before .before .before .before .service-at .ensures) (not-false _ (c .before .before .before .before .before .before .before .if3 .left)) in let address = forwarded-found (addressIn _ _) _ (c .before .before .before .before .before .before .address-in .ensures) (not-false _ (c .before .before .before .before .if4 .left)) in rw (procedure, number, service, address)
+returns-5 c = let procedure = field-found (fieldBelow _ _ _) _ (c .before .before .before .before .before .before .before .before .before .before .before .before .before .before .before .before .field-below .ensures) (not-false _ (c .before .before .before .before .before .before .before .before .before .before .before .before .before .before .if1 .left)) in let number = field-found (fieldBelow _ _ _) _ (c .before .before .before .before .before .before .before .before .before .before .before .before .field-below2 .ensures) (not-false _ (c .before .before .before .before .before .before .before .before .before .before .if2 .left)) in let service = field-found (fieldAt serviceOf _ _) _ (c .before .before .before .before .before .before .before .before .before .service-at .ensures) (not-false _ (c .before .before .before .before .before .before .before .if3 .left)) in let address = forwarded-found (addressIn _ _) _ (c .before .before .before .before .before .before .address-in .ensures) (not-false _ (c .before .before .before .before .if4 .left)) in rw (procedure, number, service, address)
 
 pub instance-at-spec : {M : Type 1} → statement M
 instance-at-spec =
     tie.close
     (tie.spec
+    cast-field-below
     field-below-requires
     not-instance-requires
     returns
+    cast-field-below-2
     field-below-requires-2
     not-instance-requires-2
     returns-2
@@ -77,7 +86,7 @@ instance-at-spec =
     address-in-requires
     not-instance-requires-4
     returns-4
-    cast-t9
-    cast-t10
     cast-t11
+    cast-t12
+    cast-t13
     returns-5)
