@@ -1,6 +1,5 @@
 // The cases of answers: each is written with room for more, and then into every smaller room. The kind's word ends in the
 // problem or the error value; the identifier follows.
-use crate::line;
 use crate::say;
 use answers::Answer;
 use answers::Problem;
@@ -9,6 +8,7 @@ use answers::put_answer;
 use lists::Entries;
 use lists::no_entries;
 use text::all_outside;
+use text::last_identifier;
 use text::last_number;
 
 // Room for more than the longest answer, and what its octets hold beforehand.
@@ -27,7 +27,7 @@ pub(crate) fn begins(word: &[u8], start: &[u8]) -> bool {
 // The answer that a line names.
 fn answer_of(word: &[u8], text: &[u8]) -> Answer {
     let value = (last_number(word) % 256) as u8;
-    let identifier = line::identifier(text);
+    let identifier = last_identifier(text);
     if begins(word, b"answer-null-") {
         return Answer::Reject {
             whose: Whose::Null,

@@ -26,16 +26,21 @@ pub(crate) fn heard(s: &[u8]) {
         } => {
             say::text(b"asks ");
             say::signed(identifier);
-            let read = coding::argument_at(s, at, end, operation);
-            if read.ok {
-                let request = read.request;
-                asked(operation, request);
-                again(identifier, operation, request);
-            } else {
-                not_asked(operation);
-            }
+            argument(s, identifier, operation, at, end);
         }
     }
+}
+
+// What an operation asks for by the argument from `at` up to `end`, and the same request as the end would send it.
+fn argument(s: &[u8], identifier: i16, operation: Operation, at: usize, end: usize) {
+    let read = coding::argument_at(s, at, end, operation);
+    if !read.ok {
+        not_asked(operation);
+        return;
+    }
+    let request = read.request;
+    asked(operation, request);
+    again(identifier, operation, request);
 }
 
 // An operation that is none of ours, or whose argument is wrong.

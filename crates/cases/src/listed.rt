@@ -1,7 +1,6 @@
 // The cases of lists: one is written, or read down to its entries, as the end reads a component while its interrogation, with
 // identifier 5, is outstanding.
 use crate::answered;
-use crate::line;
 use crate::records;
 use crate::replies;
 use crate::replies::IDENTIFIER;
@@ -9,10 +8,12 @@ use crate::say;
 use answers::Answer;
 use answers::Reply;
 use coding::INTERROGATION;
+use text::below_zero;
+use text::octets_from;
 
 pub(crate) fn case_of(word: &[u8], text: &[u8]) {
     let mut octets = [0u8; 1024];
-    let n = line::octets(text, word.len(), &mut octets);
+    let n = octets_from(text, word.len(), &mut octets);
     if check::same(word, b"list-write") {
         written(&octets[..n]);
     } else {
@@ -26,7 +27,7 @@ fn identifier_of(high: u8, low: u8) -> i16 {
     if n < 32768 {
         return n as i16;
     }
-    line::below_zero(65535 - n)
+    below_zero(65535 - n)
 }
 
 // Prints what is written for an identifier and records, and a mark for a room that is too small by one octet and for none.

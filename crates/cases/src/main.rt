@@ -1,17 +1,15 @@
-// Reads cases from standard input, one to a line, and prints what the library answers to each. What it must answer stands in
-// the file stdout, worked out from document 01 without this library; docs/ARCHITECTURE.md says how a line is built.
+// Reads cases of components, answers and lists from standard input, one to a line, and prints what the library answers to each.
+// What it must answer stands in the file stdout, worked out from document 01 without this library; docs/ARCHITECTURE.md says how
+// a line is built.
 mod answered;
 mod components;
-mod line;
 mod listed;
-mod readers;
 mod records;
 mod replies;
 mod say;
-mod writers;
 
-use readers::Reader;
 use text::find;
+use text::octets_from;
 
 // Room for all cases; more is said to be too much.
 const SPACE: usize = 262144;
@@ -39,7 +37,7 @@ fn each_line(s: &[u8]) {
 // A component arrives, at the exchange or at the end.
 fn arrived(exchange: bool, word: &[u8], text: &[u8]) {
     let mut octets = [0u8; 1024];
-    let n = line::octets(text, word.len(), &mut octets);
+    let n = octets_from(text, word.len(), &mut octets);
     if exchange {
         components::heard(&octets[..n]);
     } else {
@@ -49,30 +47,26 @@ fn arrived(exchange: bool, word: &[u8], text: &[u8]) {
 
 fn case(text: &[u8]) {
     let end = find(text, 0, b' ');
-    let component = check::same(&text[..end], b"component");
-    let reply = answered::begins(&text[..end], b"reply-");
-    if component || reply {
-        arrived(component, &text[..end], text);
+    of_kind(&text[..end], text);
+}
+
+// A line whose first word is `word`.
+fn of_kind(word: &[u8], text: &[u8]) {
+    if check::same(word, b"component") {
+        arrived(true, word, text);
         return;
     }
-    if answered::begins(&text[..end], b"answer-") {
-        answered::written(&text[..end], text);
+    if answered::begins(word, b"reply-") {
+        arrived(false, word, text);
         return;
     }
-    if answered::begins(&text[..end], b"list-") {
-        listed::case_of(&text[..end], text);
+    if answered::begins(word, b"answer-") {
+        answered::written(word, text);
         return;
     }
-    let by = readers::reader_of(&text[..end]);
-    match by {
-        Reader::Unknown => {
-            let by = writers::writer_of(&text[..end]);
-            writers::with_and_without_room(by, text);
-        }
-        _ => {
-            let mut octets = [0u8; 512];
-            let n = line::octets(text, end, &mut octets);
-            readers::whole_and_cut(by, &octets[..n]);
-        }
+    if answered::begins(word, b"list-") {
+        listed::case_of(word, text);
+        return;
     }
+    say::text(b"unknown");
 }

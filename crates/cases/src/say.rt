@@ -1,5 +1,6 @@
 // What is printed.
 use text::hex_character;
+use text::without_sign;
 
 pub(crate) fn text(s: &[u8]) {
     io::write_all(libc::STDOUT_FILENO, s);
@@ -10,7 +11,7 @@ pub(crate) fn decimal(n: usize) {
 }
 
 // An octet in hexadecimal.
-pub(crate) fn octet(b: u8) {
+fn octet(b: u8) {
     text(&[hex_character(b / 16), hex_character(b)]);
 }
 
@@ -30,10 +31,8 @@ pub(crate) fn octets(s: &[u8]) {
 pub(crate) fn signed(v: i16) {
     if v < 0 {
         text(b"-");
-        decimal(((-1 - v) as usize) + 1);
-    } else {
-        decimal(v as usize);
     }
+    decimal(without_sign(v) as usize);
 }
 
 // The word before a place, and the place.

@@ -1,8 +1,9 @@
--- Each promise of the crate text admits one answer. Assumes nothing.
+-- Each promise of the crate text admits one answer, and one lent output afterwards. Assumes nothing.
 use Prim.Native.Nat.{ℕ}
 use mathlib.Core.Path.{_≡_}
 use mathlib.Core.Bool.{Bool}
 use mathlib.Core.List.{List}
+use lib.IntN.{ℤ}
 use Rattle.laws.proofs.Picks.{both}
 use Rattle.numbers.specs.declared.number.Number.{Number}
 use Rattle.numbers.specs.declared.address.Address.{Address}
@@ -10,6 +11,8 @@ use Rattle.text.specs.Hex.{HexDigit, OctetOf, HexCharacter}
 use Rattle.text.specs.Line.{Find, LastNumber}
 use Rattle.text.specs.Outside.{AllOutside}
 use Rattle.text.specs.Record.{NumberOf, AddressOf}
+use Rattle.text.specs.Signed.{BelowZero, LastIdentifier, WithoutSign}
+use Rattle.text.specs.Words.{OctetsFrom}
 
 pub only-hex-digit : (c : ℕ) {a b : ℕ} → HexDigit c a → HexDigit c b → a ≡ b
 only-hex-digit c = both
@@ -35,3 +38,17 @@ only-number-of s = both
 
 pub only-address-of : (s : List ℕ) {a b : Address} → AddressOf s a → AddressOf s b → a ≡ b
 only-address-of s = both
+
+pub only-below-zero : (n : ℕ) {a b : ℤ} → BelowZero n a → BelowZero n b → a ≡ b
+only-below-zero n = both
+
+pub only-last-identifier : (s : List ℕ) {a b : ℤ} → LastIdentifier s a → LastIdentifier s b → a ≡ b
+only-last-identifier s = both
+
+pub only-without-sign : (v : ℤ) {a b : ℕ} → WithoutSign v a → WithoutSign v b → a ≡ b
+only-without-sign v = both
+
+pub only-octets-from :
+    (s : List ℕ) (at : ℕ) (xs : List ℕ) {p q : ℕ} {ys zs : List ℕ} → OctetsFrom s at xs p ys → OctetsFrom s at xs q zs →
+    (p ≡ q) × (ys ≡ zs)
+only-octets-from s at xs a b = (both (a .wrote .moved) (b .wrote .moved), both (a .wrote .holds) (b .wrote .holds))

@@ -1,2 +1,4 @@
 pub mod Hexes
 pub mod Lines
+pub mod Octets
+pub mod Signs

@@ -1,8 +1,10 @@
-// What the programs share that run cases: lines and their numbers, octets in hexadecimal, records, and octets that must stay.
+// What the programs share that run cases: lines, their numbers and their octets in hexadecimal, records, and octets that must stay.
 mod hex;
 mod line;
 mod outside;
 mod record;
+mod signed;
+mod words;
 
 pub use hex::hex_character;
 pub use hex::hex_digit;
@@ -12,3 +14,7 @@ pub use line::last_number;
 pub use outside::all_outside;
 pub use record::address_of;
 pub use record::number_of;
+pub use signed::below_zero;
+pub use signed::last_identifier;
+pub use signed::without_sign;
+pub use words::octets_from;

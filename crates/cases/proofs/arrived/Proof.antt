@@ -4,11 +4,11 @@ use borrow.Author.Needs.{needs}
 use Rattle.cases.proofs.arrived.Statement.{statement}
 use Rattle.cases.proofs.arrived.Tie as tie
 
-slice-aggregate-octets : tie.Need-slice-aggregate-octets
-slice-aggregate-octets c = search needs
+slice-aggregate-octets-from : tie.Need-slice-aggregate-octets-from
+slice-aggregate-octets-from c = search needs
 
-octets-requires : tie.Need-octets-requires
-octets-requires c κs = search needs
+octets-from-requires : tie.Need-octets-from-requires
+octets-from-requires c κs = search needs
 
 array-share-prefix-octets : tie.Need-array-share-prefix-octets
 array-share-prefix-octets c = search needs
@@ -38,8 +38,8 @@ pub arrived-spec : {M : Type 1} → statement M
 arrived-spec =
     tie.close
     (tie.spec
-    slice-aggregate-octets
-    octets-requires
+    slice-aggregate-octets-from
+    octets-from-requires
     array-share-prefix-octets
     slice-aggregate-heard
     heard-requires

@@ -4,11 +4,11 @@ use borrow.Author.Needs.{needs}
 use Rattle.cases.proofs.listed.case_of.Statement.{statement}
 use Rattle.cases.proofs.listed.case_of.Tie as tie
 
-slice-aggregate-octets : tie.Need-slice-aggregate-octets
-slice-aggregate-octets c = search needs
+slice-aggregate-octets-from : tie.Need-slice-aggregate-octets-from
+slice-aggregate-octets-from c = search needs
 
-octets-requires : tie.Need-octets-requires
-octets-requires c κs = search needs
+octets-from-requires : tie.Need-octets-from-requires
+octets-from-requires c κs = search needs
 
 slice-aggregate-same : tie.Need-slice-aggregate-same
 slice-aggregate-same c = search needs
@@ -44,8 +44,8 @@ pub case-of-spec : {M : Type 1} → statement M
 case-of-spec =
     tie.close
     (tie.spec
-    slice-aggregate-octets
-    octets-requires
+    slice-aggregate-octets-from
+    octets-from-requires
     slice-aggregate-same
     same-requires
     array-share-prefix-octets

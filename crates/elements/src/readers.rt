@@ -1,4 +1,4 @@
-// The reading cases of the crate octets: each is read whole, and then cut at every octet.
+// The reading cases: each is read whole, and then cut at every octet.
 use crate::say;
 use groups::Groups;
 use octets::Head;
@@ -6,7 +6,7 @@ use skip::Skip;
 use values::Enumerated;
 use values::Ident;
 
-// A reader of the crate octets.
+// What is read.
 pub(crate) enum Reader {
     Element,
     Enumerated,

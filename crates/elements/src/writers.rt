@@ -1,10 +1,12 @@
-// The writing cases of the crate octets: each is written between octets that must stay, and then into every smaller room.
-use crate::line;
+// The writing cases: each is written between octets that must stay, and then into every smaller room.
 use crate::say;
 use text::all_outside;
+use text::find;
+use text::last_identifier;
 use text::last_number;
+use text::octet_of;
 
-// A writer of the crate octets.
+// What is written.
 pub(crate) enum Writer {
     Head,
     Enumerated,
@@ -76,12 +78,21 @@ fn smaller(by: Writer, size: usize, line: &[u8]) {
     }
 }
 
+// The octet of the word after the first.
+fn tag_of(line: &[u8]) -> u8 {
+    let at = find(line, 0, b' ');
+    if line.len() - at < 3 {
+        return 0;
+    }
+    octet_of(line[at + 1], line[at + 2])
+}
+
 fn writes(by: Writer, out: &mut [u8], line: &[u8]) -> usize {
     let number = last_number(line);
     match by {
-        Writer::Head => octets::put_head(out, AT, line::tag(line), (number % 65536) as u16),
+        Writer::Head => octets::put_head(out, AT, tag_of(line), (number % 65536) as u16),
         Writer::Enumerated => values::put_enumerated(out, AT, (number % 256) as u8),
-        Writer::Identifier => values::put_ident(out, AT, line::identifier(line)),
+        Writer::Identifier => values::put_ident(out, AT, last_identifier(line)),
         Writer::Groups => groups::put_groups(out, AT, number),
         Writer::Unknown => AT,
     }

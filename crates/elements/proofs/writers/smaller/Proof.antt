@@ -1,8 +1,8 @@
 use native.Mathlib.Omega.{arith}
 use lib.ListN.{length-append, length-drop, length-take}
 use borrow.Author.Needs.{needs}
-use Rattle.cases.proofs.writers.smaller.Statement.{statement}
-use Rattle.cases.proofs.writers.smaller.Tie as tie
+use Rattle.elements.proofs.writers.smaller.Statement.{statement}
+use Rattle.elements.proofs.writers.smaller.Tie as tie
 
 returns : tie.Need-returns
 returns c = search needs

@@ -1,24 +1,26 @@
-use mathlib.Core.Path.{_≡_}
 use borrow.Author.Needs.{needs}
-use Prim.Native.Nat.{_≤_, _-_}
+use Prim.Native.Nat.{_-_}
+use native.Mathlib.Omega.{arith}
 use lib.ListN.{length}
-use Rattle.cases.proofs.line.octets.Statement.{statement}
-use Rattle.cases.proofs.line.octets.Tie as tie
+use Rattle.text.specs.Words.{wordOctet}
+use Rattle.text.proofs.Octets.{Going, going-none, going-next, going-full, going-short}
+use Rattle.text.proofs.words.octets_from.Statement.{statement}
+use Rattle.text.proofs.words.octets_from.Tie as tie
 
 abbrev Inv-loop : tie.InvT-loop
-Inv-loop s at out₀ n₀ i₀ out n i = (n ≤ length out₀) × (length out ≡ length out₀)
+Inv-loop s at out₀ n₀ i₀ out n i = Going s at out₀ n i out
 
 abbrev μ-loop : tie.MeasureT-loop
 μ-loop s at out₀ n₀ i₀ out n i = length out₀ - n
 
 loop-holds : tie.Need-loop-holds Inv-loop μ-loop
-loop-holds c = search needs
+loop-holds c = going-none _ _ _
 
 same-length : tie.Need-same-length Inv-loop μ-loop
 same-length c = search needs
 
 returns : tie.Need-returns Inv-loop μ-loop
-returns c = search needs
+returns c = going-short _ _ _ (c .before .before .loop .inv) (omega arith)
 
 sub-if2 : tie.Need-sub-if2 Inv-loop μ-loop
 sub-if2 c = search needs
@@ -27,7 +29,7 @@ same-length-2 : tie.Need-same-length-2 Inv-loop μ-loop
 same-length-2 c = search needs
 
 returns-2 : tie.Need-returns-2 Inv-loop μ-loop
-returns-2 c = search needs
+returns-2 c = going-short _ _ _ (c .before .before .before .loop .inv) (c .if2 .taken)
 
 add-octet-of : tie.Need-add-octet-of Inv-loop μ-loop
 add-octet-of c = search needs
@@ -57,16 +59,18 @@ loop-less : tie.Need-loop-less Inv-loop μ-loop
 loop-less c = search needs
 
 loop-again : tie.Need-loop-again Inv-loop μ-loop
-loop-again c = search needs
+unfolding wordOctet
+loop-again c = let l = c .before .before .before .before .before .before in
+    rw (c .octet-of .ensures) (going-next _ _ _ (l .loop .inv) (omega (arith, l .loop .inv .long)) (omega arith))
 
 same-length-3 : tie.Need-same-length-3 Inv-loop μ-loop
 same-length-3 c = search needs
 
 returns-3 : tie.Need-returns-3 Inv-loop μ-loop
-returns-3 c = search needs
+returns-3 c = going-full _ _ _ (c .before .loop .inv) (omega (arith, c .before .loop .inv .long))
 
-pub octets-spec : {M : Type 1} → statement M
-octets-spec =
+pub octets-from-spec : {M : Type 1} → statement M
+octets-from-spec =
     tie.close
     (tie.spec
     Inv-loop

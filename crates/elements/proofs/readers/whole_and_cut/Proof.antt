@@ -2,8 +2,8 @@ use borrow.Author.Needs.{needs}
 use Prim.Native.Nat.{_≤_, _-_}
 use lib.ListN.{length, length-take}
 use native.Mathlib.Omega.{arith}
-use Rattle.cases.proofs.readers.whole_and_cut.Statement.{statement}
-use Rattle.cases.proofs.readers.whole_and_cut.Tie as tie
+use Rattle.elements.proofs.readers.whole_and_cut.Statement.{statement}
+use Rattle.elements.proofs.readers.whole_and_cut.Tie as tie
 
 abbrev Inv-loop : tie.InvT-loop
 Inv-loop by s i₀ t5 t6 t7 i = i ≤ length s

@@ -1,7 +1,7 @@
 use borrow.Author.Needs.{needs}
 use Prim.Native.Nat.{_≤_, _-_}
-use Rattle.cases.proofs.writers.with_and_without_room.Statement.{statement}
-use Rattle.cases.proofs.writers.with_and_without_room.Tie as tie
+use Rattle.elements.proofs.writers.with_and_without_room.Statement.{statement}
+use Rattle.elements.proofs.writers.with_and_without_room.Tie as tie
 
 abbrev Inv-loop : tie.InvT-loop
 Inv-loop by line out next size₀ t7 size = size ≤ next
