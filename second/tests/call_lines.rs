@@ -3,8 +3,8 @@
 mod common;
 
 use common::lines::{
-    both_files_are_written, count, directory, files_hold, names_hold, outputs_hold, run,
-    seed_decides, sizes_hold,
+    both_files_are_written, count, names_hold, never_reached_is_told, outputs_hold, seed_decides,
+    sizes_hold,
 };
 use second::call_answer::CallAnswer;
 use second::call_cases::{call_cases, Reached};
@@ -79,14 +79,6 @@ fn the_program_writes_both_files() {
 
 #[test]
 fn the_program_tells_what_its_cases_never_reached() {
-    let directory = directory("call-cases");
-    let name = directory.to_string_lossy();
-    let (code, printed) = run(&["call-cases", "1", "3", &name]);
-    assert_eq!(code, Some(1));
-    assert!(printed.starts_with("seed 1, 3 calls\n"));
-    assert!(printed.contains("never reached: limit 5 reached\n"));
-    let (code, printed) = run(&["call-cases", "1", "8000", &name]);
-    assert_eq!((code, printed.contains("never reached")), (Some(0), false));
-    files_hold(&directory, &call_cases(1, 8_000).lines);
-    assert_eq!(run(&["call-cases", "1", "many", &name]).0, Some(2));
+    let said = ["calls", "limit 5 reached"];
+    never_reached_is_told("call-cases", call_cases, 8_000, said);
 }

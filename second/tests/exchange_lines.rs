@@ -3,8 +3,8 @@
 mod common;
 
 use common::lines::{
-    both_files_are_written, count, directory, files_hold, names_hold, outputs_hold, run,
-    seed_decides, sizes_hold,
+    both_files_are_written, count, names_hold, never_reached_is_told, outputs_hold, seed_decides,
+    sizes_hold,
 };
 use second::dialogues::{dialogues, disagreements, transcript, Line, Turn};
 use second::exchange_cases::{exchange_cases, Reached};
@@ -79,14 +79,6 @@ fn the_program_writes_both_files() {
 
 #[test]
 fn the_program_tells_what_its_cases_never_reached() {
-    let directory = directory("cases");
-    let name = directory.to_string_lossy();
-    let (code, printed) = run(&["exchange-cases", "1", "3", &name]);
-    assert_eq!(code, Some(1));
-    assert!(printed.starts_with("seed 1, 3 components\n"));
-    assert!(printed.contains("never reached: error 15\n"));
-    let (code, printed) = run(&["exchange-cases", "1", "24000", &name]);
-    assert_eq!((code, printed.contains("never reached")), (Some(0), false));
-    files_hold(&directory, &exchange_cases(1, 24_000).lines);
-    assert_eq!(run(&["exchange-cases", "one", "3", &name]).0, Some(2));
+    let said = ["components", "error 15"];
+    never_reached_is_told("exchange-cases", exchange_cases, 24_000, said);
 }

@@ -3,7 +3,7 @@
 mod common;
 
 use common::lines::{
-    both_files_are_written, count, directory, files_hold, names_hold, run, seed_decides, sizes_hold,
+    both_files_are_written, count, names_hold, never_reached_is_told, seed_decides, sizes_hold,
 };
 use second::dialogues::{disagreements, transcript, Line};
 use second::made;
@@ -148,14 +148,6 @@ fn the_program_writes_both_files() {
 
 #[test]
 fn the_program_tells_what_its_cases_never_reached() {
-    let directory = directory("sheet-cases");
-    let name = directory.to_string_lossy();
-    let (code, printed) = run(&["sheet-cases", "1", "3", &name]);
-    assert_eq!(code, Some(1));
-    assert!(printed.starts_with("seed 1, 3 lines about sheets\n"));
-    assert!(printed.contains("never reached: list refused 9: nine of a procedure\n"));
-    let (code, printed) = run(&["sheet-cases", "1", "8000", &name]);
-    assert_eq!((code, printed.contains("never reached")), (Some(0), false));
-    files_hold(&directory, &sheet_cases(1, 8_000).lines);
-    assert_eq!(run(&["sheet-cases", "1", "many", &name]).0, Some(2));
+    let said = ["lines about sheets", "list refused 9: nine of a procedure"];
+    never_reached_is_told("sheet-cases", sheet_cases, 8_000, said);
 }

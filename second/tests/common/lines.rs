@@ -83,3 +83,24 @@ pub fn both_files_are_written(command: &str, all: &[Dialogue]) {
     assert_eq!(run(&[command, &name]), (Some(0), String::new()));
     files_hold(&directory, &transcript(all));
 }
+
+/// A command that makes cases tells what three of them never reached, nothing of `enough`, and wants numbers.
+pub fn never_reached_is_told<T>(
+    command: &str,
+    make: fn(u64, u64) -> Cases<T>,
+    enough: u64,
+    said: [&str; 2],
+) {
+    let directory = directory(command);
+    let name = directory.to_string_lossy();
+    let (code, printed) = run(&[command, "1", "3", &name]);
+    assert_eq!(code, Some(1));
+    let [first, never] = said;
+    assert!(printed.starts_with(&format!("seed 1, 3 {first}\n")));
+    assert!(printed.contains(&format!("never reached: {never}\n")));
+    let (code, printed) = run(&[command, "1", &enough.to_string(), &name]);
+    assert_eq!((code, printed.contains("never reached")), (Some(0), false));
+    files_hold(&directory, &make(1, enough).lines);
+    assert_eq!(run(&[command, "one", "3", &name]).0, Some(2));
+    assert_eq!(run(&[command, "1", "many", &name]).0, Some(2));
+}
