@@ -14,6 +14,7 @@ pub mod call_cases;
 pub mod call_dialogues;
 pub mod call_record;
 pub mod calls;
+pub mod canaries;
 pub mod cases;
 pub mod codes;
 pub mod damaged;

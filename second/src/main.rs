@@ -16,6 +16,7 @@ use second::sheet_cases::sheet_cases;
 use second::sheet_dialogues::sheet_dialogues;
 use second::soak::soak;
 use second::tally::MustReach;
+use second::transcript::Transcript;
 
 const HELP: &str = "\
 second list < SHEET        list a night sheet, or print: refused 9
@@ -25,12 +26,13 @@ second soak SEEDS STEPS    run the end against the exchange over a bad path and 
 second list-cases DIR      write cases of lists, one a line: DIR/stdin, and DIR/stdout with the
                            output expected
 second dialogues DIR       write dialogues with the exchange, their replies and tables stated by
-                           hand: DIR/stdin and DIR/stdout; where this program's own exchange
-                           says otherwise, that is printed and the exit code is 1
+                           hand: DIR/stdin and DIR/stdout, and DIR/canaries with what the driver
+                           in C prints besides; where this program's own exchange says otherwise,
+                           that is printed and the exit code is 1
 second exchange-cases SEED COUNT DIR
                            write so many components made from the seed, with the answers of this
-                           program's exchange: DIR/stdin and DIR/stdout; prints how often each
-                           kind was reached; a kind never reached ends with exit code 1
+                           program's exchange: files as for dialogues; prints how often each kind
+                           was reached; a kind never reached ends with exit code 1
 second call-dialogues DIR  write dialogues of calls, what becomes of each stated by hand; files and
                            exit code as for dialogues
 second call-cases SEED COUNT DIR
@@ -114,9 +116,14 @@ fn write_both(directory: &Path, input: &str, expected: &str) -> io::Result<()> {
     fs::write(directory.join("stdout"), expected)
 }
 
+fn write_lines(directory: &Path, lines: &Transcript) -> io::Result<()> {
+    write_both(directory, &lines.input, &lines.expected)?;
+    fs::write(directory.join("canaries"), &lines.canaries.lines)
+}
+
 fn write_dialogues(all: &[Dialogue], directory: &Path) -> io::Result<ExitCode> {
     let lines = transcript(all);
-    write_both(directory, &lines.input, &lines.expected)?;
+    write_lines(directory, &lines)?;
     let found = disagreements(all);
     for one in &found {
         print(&format!("{one}\n"))?;
@@ -135,8 +142,7 @@ fn write_cases<T: MustReach>(
         return misused();
     };
     let cases = make(seed, count);
-    let lines = &cases.lines;
-    write_both(Path::new(directory), &lines.input, &lines.expected)?;
+    write_lines(Path::new(directory), &cases.lines)?;
     print(&format!("seed {seed}, {count} {what}\n"))?;
     print_tally(&cases.tally)
 }

@@ -1,5 +1,6 @@
 //! Lines about night sheets in a dialogue (`write`, `read` and `list`), with what they print.
 
+use crate::canaries::FOR_A_SHEET;
 use crate::hexadecimal::joined;
 use crate::listing;
 use crate::refusal::Refusal;
@@ -65,7 +66,7 @@ impl SheetLine {
             SheetLine::Read(sheet, _) => ("read", &sheet[..]),
             SheetLine::List(sheet, _) => ("list", &sheet[..]),
         };
-        lines.asked(word, sheet, &self.printed());
+        lines.asked(word, sheet, &self.printed(), FOR_A_SHEET);
         if let SheetLine::Read(_, Ok(table)) = self {
             lines.now_holds(table);
         }

@@ -3,6 +3,7 @@
 use crate::access_record::read_access;
 use crate::answer::Answer;
 use crate::call_answer::CallAnswer;
+use crate::canaries::{Canaries, FOR_A_CALL, FOR_A_COMPONENT, THERE_AND_BACK};
 use crate::exchange::{arrive, sizes_fit, Arrived};
 use crate::hexadecimal::joined;
 use crate::profile::Profile;
@@ -78,6 +79,8 @@ impl Situation {
 pub struct Transcript {
     pub input: String,
     pub expected: String,
+    /// What the driver in C prints besides.
+    pub canaries: Canaries,
     now: Situation,
 }
 
@@ -86,6 +89,7 @@ impl Transcript {
         Transcript {
             input: String::new(),
             expected: String::new(),
+            canaries: Canaries::default(),
             now: Situation::at_the_start(),
         }
     }
@@ -118,15 +122,20 @@ impl Transcript {
 
     /// A component arrives; the next table is the one there is from now on.
     pub fn component(&mut self, octets: &[u8], said: &Said, next: &TableRecord) {
-        self.asked("component", octets, &expected_line(said, next));
+        let things = match said {
+            Said::Refused(_) => FOR_A_COMPONENT,
+            Said::Silent | Said::Replied(_) => FOR_A_COMPONENT + THERE_AND_BACK,
+        };
+        self.asked("component", octets, &expected_line(said, next), things);
         self.now_holds(next);
     }
 
-    /// A line that prints something.
-    pub fn asked(&mut self, word: &str, octets: &[u8], printed: &str) {
+    /// A line that prints something, for which so many things are lent.
+    pub fn asked(&mut self, word: &str, octets: &[u8], printed: &str, things: usize) {
         self.line(word, &joined(octets));
         self.expected.push_str(printed);
         self.expected.push('\n');
+        self.canaries.around(things);
     }
 
     /// The line before has brought about this table.
@@ -136,7 +145,7 @@ impl Transcript {
 
     /// A call comes; the table stays.
     pub fn call(&mut self, octets: &[u8], answer: &CallAnswer) {
-        self.asked("call", octets, &answer.line());
+        self.asked("call", octets, &answer.line(), FOR_A_CALL);
     }
 
     /// A word with nothing after it ends the line.

@@ -3,8 +3,8 @@
 mod common;
 
 use common::lines::{
-    both_files_are_written, count, names_hold, never_reached_is_told, outputs_hold, seed_decides,
-    sizes_hold,
+    count, names_hold, never_reached_is_told, outputs_hold, seed_decides, sizes_hold,
+    the_files_are_written,
 };
 use second::call_answer::CallAnswer;
 use second::call_cases::{call_cases, Reached};
@@ -74,7 +74,7 @@ fn cases_reach_every_kind_and_most_meet_an_instance() {
 
 #[test]
 fn the_program_writes_both_files() {
-    both_files_are_written("call-dialogues", &call_dialogues());
+    the_files_are_written("call-dialogues", &call_dialogues());
 }
 
 #[test]

@@ -3,8 +3,8 @@
 mod common;
 
 use common::lines::{
-    both_files_are_written, count, names_hold, never_reached_is_told, outputs_hold, seed_decides,
-    sizes_hold,
+    count, names_hold, never_reached_is_told, outputs_hold, seed_decides, sizes_hold,
+    the_files_are_written,
 };
 use second::dialogues::{dialogues, disagreements, transcript, Line, Turn};
 use second::exchange_cases::{exchange_cases, Reached};
@@ -74,7 +74,7 @@ fn cases_reach_every_kind_and_few_are_refused() {
 
 #[test]
 fn the_program_writes_both_files() {
-    both_files_are_written("dialogues", &dialogues());
+    the_files_are_written("dialogues", &dialogues());
 }
 
 #[test]

@@ -3,7 +3,7 @@
 mod common;
 
 use common::lines::{
-    both_files_are_written, count, names_hold, never_reached_is_told, seed_decides, sizes_hold,
+    count, names_hold, never_reached_is_told, seed_decides, sizes_hold, the_files_are_written,
 };
 use second::dialogues::{disagreements, transcript, Line};
 use second::made;
@@ -143,7 +143,7 @@ fn cases_reach_every_kind_and_cause() {
 
 #[test]
 fn the_program_writes_both_files() {
-    both_files_are_written("sheet-dialogues", &sheet_dialogues());
+    the_files_are_written("sheet-dialogues", &sheet_dialogues());
 }
 
 #[test]

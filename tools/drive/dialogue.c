@@ -14,7 +14,6 @@
 
 static struct lent access_record, component, call, sheet, output, digits, listing;
 static struct sconcetoad_table table;
-static unsigned turn;
 static long line_number;
 
 static int wrong(const char *what)
@@ -84,7 +83,7 @@ static void say(const struct sconcetoad_arrival *arrival, int kept)
     }
     at += sprintf(at, " %s ", kept ? "kept" : "spilled");
     at = table_said(at, &arrival->table);
-    if (arrival->refusal == SCONCETOAD_ANSWERED && !comes_back(&arrival->table, &access_record, turn))
+    if (arrival->refusal == SCONCETOAD_ANSWERED && !comes_back(&arrival->table, &access_record))
         at += sprintf(at, " sheet differs");
     end_line(line, at);
 }
@@ -93,17 +92,16 @@ static int arrive(const char *text)
 {
     if (set_octets(&component, text, COMPONENT_MOST, "a component has 0 to 1100 octets, in upper-case hexadecimal"))
         return 1;
-    turn++;
-    lend(&access_record, turn);
-    lend(&component, turn);
-    lend_filled(&output, turn);
+    lend(&access_record);
+    lend(&component);
+    lend_filled(&output);
     struct sconcetoad_arrival arrival =
         sconcetoad_arrive(table, lent_octets(&access_record), access_record.size, lent_octets(&component), component.size,
                           lent_octets(&output), output.size);
     size_t written = written_of(arrival.refusal, arrival.count);
     if (written > output.size)
         return wrong("the reply is longer than the output");
-    int kept = lent_kept(&access_record, 0) && lent_kept(&component, 0) && lent_kept(&output, written);
+    int kept = came_back(&access_record, 0) && came_back(&component, 0) && came_back(&output, written);
     say(&arrival, kept);
     table = arrival.table;
     return 0;
@@ -130,15 +128,14 @@ static int divert(const char *text)
 {
     if (set_octets(&call, text, CALL_MOST, "a call has 0 to 64 octets, in upper-case hexadecimal"))
         return 1;
-    turn++;
-    lend(&access_record, turn);
-    lend(&call, turn);
-    lend_filled(&digits, turn);
+    lend(&access_record);
+    lend(&call);
+    lend_filled(&digits);
     struct sconcetoad_diversion diversion =
         sconcetoad_divert(table, lent_octets(&access_record), access_record.size, lent_octets(&call), call.size);
     size_t count = sconcetoad_original(table, lent_octets(&access_record), access_record.size, lent_octets(&call), call.size,
                                        lent_octets(&digits), digits.size);
-    if (count > digits.size || !lent_kept(&access_record, 0) || !lent_kept(&call, 0) || !lent_kept(&digits, count))
+    if (count > digits.size || !came_back(&access_record, 0) || !came_back(&call, 0) || !came_back(&digits, count))
         return wrong("an octet changed that should not");
     say_diversion(&diversion, count);
     return 0;
@@ -148,9 +145,8 @@ static int write_sheet(void)
 {
     static char line[LINE_MOST];
     char *at = line;
-    turn++;
-    lend(&access_record, turn);
-    lend_filled(&output, turn);
+    lend(&access_record);
+    lend_filled(&output);
     struct sconcetoad_sheet_written written =
         sconcetoad_write_sheet(table, lent_octets(&access_record), access_record.size, lent_octets(&output), output.size);
     if (written.count > output.size)
@@ -161,7 +157,7 @@ static int write_sheet(void)
         at += sprintf(at, "wrote ");
         at = octets_to(at, lent_octets(&output), written.count);
     }
-    int kept = lent_kept(&access_record, 0) && lent_kept(&output, written_of(written.refusal, written.count));
+    int kept = came_back(&access_record, 0) && came_back(&output, written_of(written.refusal, written.count));
     at += sprintf(at, kept ? " kept" : " spilled");
     end_line(line, at);
     return 0;
@@ -172,12 +168,11 @@ static int read_sheet(const char *text)
     static char line[LINE_MOST];
     if (set_octets(&sheet, text, SHEET_MOST, "a sheet has 0 to 2000 octets, in upper-case hexadecimal"))
         return 1;
-    turn++;
-    lend(&access_record, turn);
-    lend(&sheet, turn);
+    lend(&access_record);
+    lend(&sheet);
     struct sconcetoad_sheet_taken taken =
         sconcetoad_read_sheet(lent_octets(&access_record), access_record.size, lent_octets(&sheet), sheet.size);
-    if (!lent_kept(&access_record, 0) || !lent_kept(&sheet, 0))
+    if (!came_back(&access_record, 0) || !came_back(&sheet, 0))
         return wrong("an octet changed that should not");
     if (taken.refusal != SCONCETOAD_ANSWERED)
         return printf("refused %d\n", taken.refusal) < 0;
@@ -190,13 +185,12 @@ static int list_sheet(const char *text)
 {
     if (set_octets(&sheet, text, SHEET_MOST, "a sheet has 0 to 2000 octets, in upper-case hexadecimal"))
         return 1;
-    turn++;
-    lend(&sheet, turn);
-    lend_filled(&listing, turn);
+    lend(&sheet);
+    lend_filled(&listing);
     struct sconcetoad_sheet_written listed =
         sconcetoad_list_sheet(lent_octets(&sheet), sheet.size, lent_octets(&listing), listing.size);
     size_t count = written_of(listed.refusal, listed.count);
-    if (count > listing.size || !lent_kept(&sheet, 0) || !lent_kept(&listing, count))
+    if (count > listing.size || !came_back(&sheet, 0) || !came_back(&listing, count))
         return wrong("an octet changed that should not");
     if (listed.refusal != SCONCETOAD_ANSWERED)
         return printf("refused %d\n", listed.refusal) < 0;
@@ -220,15 +214,15 @@ static int obey(char *line)
     if (strcmp(line, "output") == 0)
         return set_output(rest);
     if (strcmp(line, "component") == 0)
-        return arrive(rest);
+        return arrive(rest) || say_canaries();
     if (strcmp(line, "call") == 0)
-        return divert(rest);
+        return divert(rest) || say_canaries();
     if (strcmp(line, "write") == 0 && *rest == '\0')
-        return write_sheet();
+        return write_sheet() || say_canaries();
     if (strcmp(line, "read") == 0)
-        return read_sheet(rest);
+        return read_sheet(rest) || say_canaries();
     if (strcmp(line, "list") == 0)
-        return list_sheet(rest);
+        return list_sheet(rest) || say_canaries();
     return wrong("this is no line of a dialogue");
 }
 

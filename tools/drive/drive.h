@@ -22,34 +22,40 @@ int table_from(const uint8_t *octets, size_t count, struct sconcetoad_table *tab
 
 size_t table_to(uint8_t *octets, const struct sconcetoad_table *table);
 
-/* ---- lent.c: what is lent to the library, and whether it was kept */
+/* ---- lent.c: what is lent to the library, between canaries, and whether it came back as it was */
 
 #define LENT_MOST 2048
-#define LENT_GUARD 8
+#define LENT_CANARY 8
 
-/* `size` octets between two guards, and a copy of all three from before the call. */
+/* The most things that are lent for one line. */
+#define LENT_A_LINE 9
+
+/* `size` octets with canaries before and after them, and a copy of all three from before the call. */
 struct lent {
     size_t size;
-    uint8_t octets[LENT_GUARD + LENT_MOST + LENT_GUARD];
-    uint8_t before[LENT_GUARD + LENT_MOST + LENT_GUARD];
+    uint8_t octets[LENT_CANARY + LENT_MOST + LENT_CANARY];
+    uint8_t before[LENT_CANARY + LENT_MOST + LENT_CANARY];
 };
 
 uint8_t *lent_octets(struct lent *lent);
 
-/* Gives it other guards than at the last turn. */
-void lend(struct lent *lent, unsigned turn);
+/* Puts the canaries of the next thing around it (docs/DIALOGUES.md). */
+void lend(struct lent *lent);
 
 /* Gives it other octets too. */
-void lend_filled(struct lent *lent, unsigned turn);
+void lend_filled(struct lent *lent);
 
-/* Whether the guards and the octets from `from` on are as they were. */
-int lent_kept(const struct lent *lent, size_t from);
+/* Notes the canaries as they stand; answers whether they and the octets from `from` on are as they were. */
+int came_back(struct lent *lent, size_t from);
+
+/* Prints the canaries of all that came back since it was last called. */
+int say_canaries(void);
 
 /* ---- sheets.c: night sheets there and back */
 
 /* Whether the table, written as a sheet and read again, is written as the same sheet and has the same last handled identifier, with every
    octet kept that should be. Octets that carry no meaning are in no sheet, so the tables themselves may differ. */
-int comes_back(const struct sconcetoad_table *table, struct lent *access_record, unsigned turn);
+int comes_back(const struct sconcetoad_table *table, struct lent *access_record);
 
 /* ---- occasions.c: arrivals that are measured */
 

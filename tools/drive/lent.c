@@ -1,40 +1,62 @@
-/* What is lent to the library, between guards. */
+/* What is lent to the library, between canaries. */
+#include <assert.h>
+#include <stdio.h>
 #include <string.h>
 #include "drive.h"
 
+/* How many things were lent so far; and the canaries of those that came back since they were last said. */
+static unsigned things;
+static char seen[LENT_A_LINE * (1 + 2 * 2 * LENT_CANARY)];
+static size_t seen_length;
+
 uint8_t *lent_octets(struct lent *lent)
 {
-    return lent->octets + LENT_GUARD;
+    return lent->octets + LENT_CANARY;
 }
 
-/* Octets that differ from place to place and from turn to turn. */
-static void fill(uint8_t *octets, size_t count, unsigned turn)
+static uint8_t *after(struct lent *lent)
 {
-    for (size_t i = 0; i < count; i++)
-        octets[i] = (uint8_t)(turn * 37 + i * 11 + 0x5A);
+    return lent_octets(lent) + lent->size;
 }
 
-static void keep(struct lent *lent)
+void lend(struct lent *lent)
 {
-    memcpy(lent->before, lent->octets, LENT_GUARD + lent->size + LENT_GUARD);
+    things++;
+    for (unsigned i = 0; i < LENT_CANARY; i++) {
+        lent->octets[i] = (uint8_t)(things + i);
+        after(lent)[i] = (uint8_t)(things + LENT_CANARY + i);
+    }
+    memcpy(lent->before, lent->octets, LENT_CANARY + lent->size + LENT_CANARY);
 }
 
-void lend(struct lent *lent, unsigned turn)
+void lend_filled(struct lent *lent)
 {
-    fill(lent->octets, LENT_GUARD, turn);
-    fill(lent->octets + LENT_GUARD + lent->size, LENT_GUARD, turn);
-    keep(lent);
+    for (size_t i = 0; i < lent->size; i++)
+        lent_octets(lent)[i] = (uint8_t)(things * 37 + i * 11 + 0x5A);
+    lend(lent);
 }
 
-void lend_filled(struct lent *lent, unsigned turn)
+static void note_canaries(struct lent *lent)
 {
-    fill(lent->octets, LENT_GUARD + lent->size + LENT_GUARD, turn);
-    keep(lent);
+    char *at = seen + seen_length;
+    assert(seen_length < sizeof seen);
+    *at++ = ' ';
+    at = octets_to(at, lent->octets, LENT_CANARY);
+    at = octets_to(at, after(lent), LENT_CANARY);
+    seen_length = (size_t)(at - seen);
 }
 
-int lent_kept(const struct lent *lent, size_t from)
+int came_back(struct lent *lent, size_t from)
 {
-    size_t rest = LENT_GUARD + from;
-    return memcmp(lent->octets, lent->before, LENT_GUARD) == 0 &&
-           memcmp(lent->octets + rest, lent->before + rest, lent->size - from + LENT_GUARD) == 0;
+    size_t rest = LENT_CANARY + from;
+    note_canaries(lent);
+    return memcmp(lent->octets, lent->before, LENT_CANARY) == 0 &&
+           memcmp(lent->octets + rest, lent->before + rest, lent->size - from + LENT_CANARY) == 0;
+}
+
+int say_canaries(void)
+{
+    int count = printf("canaries%.*s\n", (int)seen_length, seen);
+    seen_length = 0;
+    return count < 0;
 }

@@ -69,15 +69,16 @@ pub fn directory(name: &str) -> PathBuf {
     Path::new(env!("CARGO_TARGET_TMPDIR")).join(name)
 }
 
-/// Both files hold these lines.
+/// The files hold these lines.
 pub fn files_hold(directory: &Path, lines: &Transcript) {
     let read = |file| fs::read_to_string(directory.join(file)).expect("written");
     assert!(read("stdin") == lines.input);
     assert!(read("stdout") == lines.expected);
+    assert!(read("canaries") == lines.canaries.lines);
 }
 
 /// The command writes these dialogues and prints nothing.
-pub fn both_files_are_written(command: &str, all: &[Dialogue]) {
+pub fn the_files_are_written(command: &str, all: &[Dialogue]) {
     let directory = directory(command);
     let name = directory.to_string_lossy();
     assert_eq!(run(&[command, &name]), (Some(0), String::new()));
