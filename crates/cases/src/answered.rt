@@ -89,13 +89,5 @@ pub(crate) fn smaller(answer: Answer, list: Entries, size: usize) {
         return;
     }
     let n = put_answer(&mut out[..size], answer, list);
-    if n != 0 {
-        say::text(b"!");
-        return;
-    }
-    if all_outside(&out, 0, 0, BEFORE) {
-        say::text(b".");
-    } else {
-        say::text(b"!");
-    }
+    say::mark(n == 0 && all_outside(&out, 0, 0, BEFORE));
 }

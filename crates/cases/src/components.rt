@@ -57,7 +57,7 @@ fn ours(operation: Operation) -> bool {
     value == 7 || value == 8 || value == 11
 }
 
-fn asked(operation: Operation, request: Request) {
+fn say_operation(operation: Operation) {
     let value = operation.value;
     if value == 7 {
         say::text(b" activation ");
@@ -66,10 +66,13 @@ fn asked(operation: Operation, request: Request) {
     } else {
         say::text(b" interrogation ");
     }
+}
+
+fn asked(operation: Operation, request: Request) {
+    say_operation(operation);
     say::decimal(request.procedure as usize);
     say::place(b" ", request.service as usize);
-    if value == 7 {
-        say::text(b" to ");
+    if operation.value == 7 {
         let to = request.to;
         forwarded(to);
     }
@@ -106,6 +109,7 @@ fn digits(number: Number) {
 }
 
 fn forwarded(to: Forwarded) {
+    say::text(b" to ");
     let address = to.address;
     let number = address.number;
     digits(number);

@@ -1,5 +1,6 @@
 // What is printed of a call: what becomes of it, and the original number that it hands on.
 use crate::say;
+use calls::Diversion;
 use calls::Notice;
 use calls::Onward;
 use calls::Outcome;
@@ -11,29 +12,34 @@ use exchange::Table;
 use numbers::Address;
 use numbers::Number;
 
-fn refused(refusal: Refusal) {
+fn refusal_digit(refusal: Refusal) -> u8 {
     match refusal {
-        Refusal::BadProfile => say::text(b"refused 3"),
-        Refusal::BadTable => say::text(b"refused 4"),
-        Refusal::BadCall => say::text(b"refused 5"),
-        Refusal::LimitReached => say::text(b"refused 6"),
+        Refusal::BadProfile => b'3',
+        Refusal::BadTable => b'4',
+        Refusal::BadCall => b'5',
+        Refusal::LimitReached => b'6',
     }
 }
 
-fn say_reason(reason: Reason) {
+fn reason_digit(reason: Reason) -> u8 {
     match reason {
-        Reason::Cfu => say::text(b"diverted 1 "),
-        Reason::Cfb => say::text(b"diverted 2 "),
-        Reason::Cfnr => say::text(b"diverted 3 "),
+        Reason::Cfu => b'1',
+        Reason::Cfb => b'2',
+        Reason::Cfnr => b'3',
     }
 }
 
-fn say_notice(notice: Notice) {
+fn notice_digit(notice: Notice) -> u8 {
     match notice {
-        Notice::Silent => say::text(b"0 "),
-        Notice::Diverting => say::text(b"1 "),
-        Notice::DivertingTo => say::text(b"2 "),
+        Notice::Silent => b'0',
+        Notice::Diverting => b'1',
+        Notice::DivertingTo => b'2',
     }
+}
+
+fn say_diverted(reason: Reason, notice: Notice) {
+    say::text(b"diverted ");
+    say::text(&[reason_digit(reason), b' ', notice_digit(notice), b' ']);
 }
 
 fn say_number(number: Number) {
@@ -74,20 +80,32 @@ fn say_original(digits: &[u8]) {
     }
 }
 
+// Whether the call is diverted; what becomes of it is printed.
+fn say_diversion(diversion: Diversion) -> bool {
+    let outcome = diversion.outcome;
+    match outcome {
+        Outcome::Refuses { refusal } => {
+            say::refused(refusal_digit(refusal));
+            false
+        }
+        Outcome::Passes => {
+            say::text(b"passed");
+            false
+        }
+        Outcome::Diverts { reason, notice } => {
+            say_diverted(reason, notice);
+            let onward = diversion.call;
+            say_onward(onward);
+            true
+        }
+    }
+}
+
 // What becomes of the call.
 pub(crate) fn put_call<'a>(table: Table, access: &'a [u8], call: &'a [u8]) {
     let diversion = divert(table, access, call);
-    let outcome = diversion.outcome;
-    let onward = diversion.call;
-    match outcome {
-        Outcome::Refuses { refusal } => refused(refusal),
-        Outcome::Passes => say::text(b"passed"),
-        Outcome::Diverts { reason, notice } => {
-            say_reason(reason);
-            say_notice(notice);
-            say_onward(onward);
-            say_original(original(table, access, call));
-        }
+    if say_diversion(diversion) {
+        say_original(original(table, access, call));
     }
-    say::text(b"\n");
+    say::end_line();
 }

@@ -7,12 +7,12 @@ use crate::lent::OUTPUTMOST;
 use crate::line;
 use crate::line::Kind;
 use crate::line::kind_of;
-use crate::said::answered;
-use crate::said::outcome_said;
+use crate::said::digit_of;
+use crate::said::say_reply;
 use crate::say;
-use crate::sheets::comes_back;
 use crate::sheets::put_listing;
 use crate::sheets::put_sheet;
+use crate::sheets::say_back;
 use crate::sheets::take_sheet;
 use crate::tables::say_table;
 use crate::tables::table_of;
@@ -21,16 +21,10 @@ use exchange::fresh_table;
 use text::find;
 use text::last_number;
 
-// The most octets of an access record, of a table, of a component, of a call and of a sheet in a line.
+// The most octets of an access record, and of anything else in a line.
 const ACCESSMOST: usize = 512;
 
-const TABLEMOST: usize = 3500;
-
-const COMPONENTMOST: usize = 1100;
-
-const CALLMOST: usize = 64;
-
-const SHEETMOST: usize = 2000;
+const OCTETSMOST: usize = 3500;
 
 // The access record is the first `size` octets of `access`; the output has `output` octets.
 pub(crate) struct Dialogue {
@@ -60,9 +54,9 @@ fn with_table(d: Dialogue, table: Table) -> Dialogue {
     }
 }
 
-fn access_line(d: Dialogue, text: &[u8], at: usize) -> Dialogue {
+fn access_line(d: Dialogue, text: &[u8]) -> Dialogue {
     let mut access = [0u8; ACCESSMOST];
-    let size = line::octets(text, at, &mut access);
+    let size = line::octets(text, find(text, 0, b' ') + 1, &mut access);
     let table = d.table;
     Dialogue {
         access,
@@ -72,10 +66,8 @@ fn access_line(d: Dialogue, text: &[u8], at: usize) -> Dialogue {
     }
 }
 
-fn table_line(d: Dialogue, text: &[u8], at: usize) -> Dialogue {
-    let mut octets = [0u8; TABLEMOST];
-    let n = line::octets(text, at, &mut octets);
-    let table = table_of(&octets[..n]);
+fn table_line(d: Dialogue, octets: &[u8]) -> Dialogue {
+    let table = table_of(octets);
     with_table(d, table)
 }
 
@@ -96,108 +88,92 @@ fn arrived(d: Dialogue, access: &[u8], component: &[u8]) -> Dialogue {
     let table = d.table;
     let output = d.output;
     if OUTPUTMOST < output {
-        say::text(b"unknown\n");
+        say::unknown();
         return d;
     }
     let mut lent = [BEFORE; LENT];
     let next = table.arrive(access, component, &mut lent[MARGIN..MARGIN + output]);
     let outcome = next.outcome;
     let table = next.table;
-    outcome_said(outcome, &lent, output, next.count);
-    say::text(b" ");
-    say_table(table);
-    if answered(outcome) {
-        if !comes_back(table, access) {
-            say::text(b" sheet differs");
-        }
-    }
-    say::text(b"\n");
+    let digit = digit_of(outcome);
+    say_reply(digit, &lent, output, next.count);
+    say_next(table, access, digit == 0);
     with_table(d, table)
 }
 
-fn component_line(d: Dialogue, text: &[u8], at: usize) -> Dialogue {
-    let mut component = [0u8; COMPONENTMOST];
-    let n = line::octets(text, at, &mut component);
-    let access = d.access;
-    let size = d.size;
-    if ACCESSMOST < size {
-        return d;
+// The next table and, where the component was answered, whether that table comes back from its sheet.
+fn say_next(table: Table, access: &[u8], answered: bool) {
+    say::text(b" ");
+    say_table(table);
+    if answered {
+        say_back(table, access);
     }
-    arrived(d, &access[..size], &component[..n])
+    say::end_line();
 }
 
-fn call_line(d: Dialogue, text: &[u8], at: usize) {
-    let mut call = [0u8; CALLMOST];
-    let n = line::octets(text, at, &mut call);
-    let access = d.access;
-    let size = d.size;
+fn call_line<'a>(d: Dialogue, access: &'a [u8], call: &'a [u8]) {
     let table = d.table;
-    if ACCESSMOST < size {
-        return;
-    }
-    put_call(table, &access[..size], &call[..n]);
+    put_call(table, access, call);
 }
 
-fn write_line(d: Dialogue) {
-    let access = d.access;
-    let size = d.size;
+fn write_line(d: Dialogue, access: &[u8]) {
     let table = d.table;
-    if ACCESSMOST < size {
-        return;
-    }
-    put_sheet(table, &access[..size], d.output);
+    put_sheet(table, access, d.output);
 }
 
 // The table that is read is the one there is from now on.
-fn read_line(d: Dialogue, text: &[u8], at: usize) -> Dialogue {
-    let mut sheet = [0u8; SHEETMOST];
-    let n = line::octets(text, at, &mut sheet);
-    let access = d.access;
-    let size = d.size;
+fn read_line<'a>(d: Dialogue, access: &'a [u8], sheet: &'a [u8]) -> Dialogue {
     let table = d.table;
-    if ACCESSMOST < size {
-        return d;
-    }
-    let next = take_sheet(table, &access[..size], &sheet[..n]);
+    let next = take_sheet(table, access, sheet);
     with_table(d, next)
 }
 
-fn list_line(text: &[u8], at: usize) {
-    let mut sheet = [0u8; SHEETMOST];
-    let n = line::octets(text, at, &mut sheet);
-    put_listing(&sheet[..n]);
+fn remark_line(text: &[u8]) {
+    say::text(text);
+    say::end_line();
+}
+
+// What is printed of a line that changes nothing.
+fn printed<'a>(d: Dialogue, kind: Kind, text: &'a [u8], access: &'a [u8], octets: &'a [u8]) {
+    match kind {
+        Kind::Call => call_line(d, access, octets),
+        Kind::Write => write_line(d, access),
+        Kind::List => put_listing(octets),
+        Kind::Remark => remark_line(text),
+        _ => say::unknown(),
+    }
+}
+
+fn of_kind<'a>(
+    d: Dialogue,
+    kind: Kind,
+    text: &'a [u8],
+    access: &'a [u8],
+    octets: &'a [u8],
+) -> Dialogue {
+    match kind {
+        Kind::Component => arrived(d, access, octets),
+        Kind::Read => read_line(d, access, octets),
+        Kind::Access => access_line(d, text),
+        Kind::Table => table_line(d, octets),
+        Kind::Output => output_line(d, text),
+        _ => {
+            printed(d, kind, text, access, octets);
+            d
+        }
+    }
 }
 
 // What there is after a line.
 pub(crate) fn after(d: Dialogue, text: &[u8]) -> Dialogue {
     let end = find(text, 0, b' ');
-    let at = end + 1;
-    match kind_of(&text[..end]) {
-        Kind::Component => component_line(d, text, at),
-        Kind::Call => {
-            call_line(d, text, at);
-            d
-        }
-        Kind::Write => {
-            write_line(d);
-            d
-        }
-        Kind::Read => read_line(d, text, at),
-        Kind::List => {
-            list_line(text, at);
-            d
-        }
-        Kind::Access => access_line(d, text, at),
-        Kind::Table => table_line(d, text, at),
-        Kind::Output => output_line(d, text),
-        Kind::Remark => {
-            say::text(text);
-            say::text(b"\n");
-            d
-        }
-        Kind::Unknown => {
-            say::text(b"unknown\n");
-            d
-        }
+    let kind = kind_of(&text[..end]);
+    let mut octets = [0u8; OCTETSMOST];
+    let n = line::octets(text, end + 1, &mut octets);
+    let access = d.access;
+    let size = d.size;
+    if ACCESSMOST < size {
+        return d;
     }
+    of_kind(d, kind, text, &access[..size], &octets[..n])
 }

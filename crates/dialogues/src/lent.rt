@@ -22,7 +22,7 @@ pub(crate) fn kept(lent: &[u8], output: usize, count: usize) -> bool
     all_outside(lent, MARGIN, MARGIN + count, BEFORE)
 }
 
-pub(crate) fn say_kept(lent: &[u8], output: usize, count: usize)
+fn say_kept(lent: &[u8], output: usize, count: usize)
     requires { ⌜ count ≤ 2048 ⌝ }
 {
     if kept(lent, output, count) {
@@ -30,4 +30,21 @@ pub(crate) fn say_kept(lent: &[u8], output: usize, count: usize)
     } else {
         say::text(b" spilled");
     }
+}
+
+// The refusal by its digit, or where that is 0 the word and the octets that were written; and whether the octets beside them stayed.
+pub(crate) fn say_lent(digit: u8, word: &[u8], room: &[u8; LENT], output: usize, count: usize) {
+    if OUTPUTMOST < count {
+        say::text(b"spilled");
+        return;
+    }
+    let lent = &room[..];
+    if digit != 0 {
+        say::refused(digit);
+        say_kept(lent, output, 0);
+        return;
+    }
+    say::text(word);
+    say::octets(&lent[MARGIN..MARGIN + count]);
+    say_kept(lent, output, count);
 }

@@ -1,5 +1,6 @@
 // A line: its kind, and its octets.
 use check::same;
+use text::find;
 use text::octet_of;
 ghost use Prim.Native.Nat.{_≤_};
 ghost use lib.ListN.{length};
@@ -17,35 +18,37 @@ pub(crate) enum Kind {
     Unknown,
 }
 
+// Which of `words` is `word`, counted from 0; as many as there are where it is none. Each of them ends in a space.
+fn place_of(word: &[u8], words: &[u8]) -> usize {
+    let mut place = 0;
+    let mut at = 0;
+    while at < words.len() {
+        let end = find(words, at, b' ');
+        if same(word, &words[at..end]) {
+            return place;
+        }
+        place += 1;
+        at = end + 1;
+    }
+    place
+}
+
 pub(crate) fn kind_of(word: &[u8]) -> Kind {
-    if same(word, b"#") {
-        return Kind::Remark;
+    match place_of(
+        word,
+        b"# access table output component call write read list ",
+    ) {
+        0 => Kind::Remark,
+        1 => Kind::Access,
+        2 => Kind::Table,
+        3 => Kind::Output,
+        4 => Kind::Component,
+        5 => Kind::Call,
+        6 => Kind::Write,
+        7 => Kind::Read,
+        8 => Kind::List,
+        _ => Kind::Unknown,
     }
-    if same(word, b"access") {
-        return Kind::Access;
-    }
-    if same(word, b"table") {
-        return Kind::Table;
-    }
-    if same(word, b"output") {
-        return Kind::Output;
-    }
-    if same(word, b"component") {
-        return Kind::Component;
-    }
-    if same(word, b"call") {
-        return Kind::Call;
-    }
-    if same(word, b"write") {
-        return Kind::Write;
-    }
-    if same(word, b"read") {
-        return Kind::Read;
-    }
-    if same(word, b"list") {
-        return Kind::List;
-    }
-    Kind::Unknown
 }
 
 // Puts the octets from `at` on at the start of `out`, as many as it has room for, and answers how many there are.

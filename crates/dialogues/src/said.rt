@@ -1,56 +1,30 @@
 // What is printed of an arrived component: the refusal or the reply, and whether the octets beside the reply stayed.
 use crate::lent::LENT;
-use crate::lent::MARGIN;
-use crate::lent::OUTPUTMOST;
-use crate::lent::say_kept;
-use crate::say;
+use crate::lent::say_lent;
 use exchange::Outcome;
 use exchange::Refusal;
-ghost use Prim.Native.Nat.{_≤_};
-ghost use lib.ListN.{length};
 
-fn refused(refusal: Refusal) {
+fn refusal_digit(refusal: Refusal) -> u8 {
     match refusal {
-        Refusal::ShortOutput => say::text(b"refused 1"),
-        Refusal::LongComponent => say::text(b"refused 2"),
-        Refusal::BadProfile => say::text(b"refused 3"),
-        Refusal::BadTable => say::text(b"refused 4"),
+        Refusal::ShortOutput => b'1',
+        Refusal::LongComponent => b'2',
+        Refusal::BadProfile => b'3',
+        Refusal::BadTable => b'4',
     }
 }
 
-fn replied(lent: &[u8], end: usize)
-    requires { ⌜ (8 ≤ end) × (end ≤ length (now lent)) ⌝ }
-{
-    if end == MARGIN {
-        say::text(b"silent");
-        return;
-    }
-    say::text(b"replied ");
-    say::octets(&lent[MARGIN..end]);
-}
-
-pub(crate) fn outcome_said(outcome: Outcome, room: &[u8; LENT], output: usize, count: usize) {
-    if OUTPUTMOST < count {
-        say::text(b"spilled");
-        return;
-    }
-    let lent = &room[..];
+// The refusal's digit; 0 where the component was answered, be it by silence.
+pub(crate) fn digit_of(outcome: Outcome) -> u8 {
     match outcome {
-        Outcome::Refuses { refusal } => {
-            refused(refusal);
-            say_kept(lent, output, 0);
-        }
-        _ => {
-            replied(lent, MARGIN + count);
-            say_kept(lent, output, count);
-        }
+        Outcome::Refuses { refusal } => refusal_digit(refusal),
+        _ => 0,
     }
 }
 
-// Whether the component was answered, be it by silence.
-pub(crate) fn answered(outcome: Outcome) -> bool {
-    match outcome {
-        Outcome::Refuses { refusal: _ } => false,
-        _ => true,
+pub(crate) fn say_reply(digit: u8, room: &[u8; LENT], output: usize, count: usize) {
+    if count == 0 {
+        say_lent(digit, b"silent", room, output, count);
+    } else {
+        say_lent(digit, b"replied ", room, output, count);
     }
 }

@@ -4,7 +4,7 @@ use crate::lent::LENT;
 use crate::lent::MARGIN;
 use crate::lent::OUTPUTMOST;
 use crate::lent::kept;
-use crate::lent::say_kept;
+use crate::lent::say_lent;
 use crate::say;
 use crate::tables::say_table;
 use check::same;
@@ -21,72 +21,55 @@ const SHEETMOST: usize = 1613;
 
 const LISTINGMOST: usize = 1811;
 
-fn refused(refusal: Refusal) {
+fn refusal_digit(refusal: Refusal) -> u8 {
     match refusal {
-        Refusal::ShortOutput => say::text(b"refused 1"),
-        Refusal::BadProfile => say::text(b"refused 3"),
-        Refusal::BadTable => say::text(b"refused 4"),
-        Refusal::BadSheet => say::text(b"refused 9"),
+        Refusal::ShortOutput => b'1',
+        Refusal::BadProfile => b'3',
+        Refusal::BadTable => b'4',
+        Refusal::BadSheet => b'9',
     }
 }
 
-fn done(outcome: Outcome) -> bool {
+// The refusal's digit, or 0.
+fn digit_of(outcome: Outcome) -> u8 {
     match outcome {
-        Outcome::Refuses { refusal: _ } => false,
-        Outcome::Done => true,
-    }
-}
-
-fn wrote(outcome: Outcome, room: &[u8; LENT], output: usize, count: usize) {
-    if OUTPUTMOST < count {
-        say::text(b"spilled");
-        return;
-    }
-    let lent = &room[..];
-    match outcome {
-        Outcome::Refuses { refusal } => {
-            refused(refusal);
-            say_kept(lent, output, 0);
-        }
-        Outcome::Done => {
-            say::text(b"wrote ");
-            say::octets(&lent[MARGIN..MARGIN + count]);
-            say_kept(lent, output, count);
-        }
+        Outcome::Refuses { refusal } => refusal_digit(refusal),
+        Outcome::Done => 0,
     }
 }
 
 // The table as a sheet, in an output of `output` octets.
 pub(crate) fn put_sheet(table: Table, access: &[u8], output: usize) {
     if OUTPUTMOST < output {
-        say::text(b"unknown\n");
+        say::unknown();
         return;
     }
     let mut lent = [BEFORE; LENT];
     let written = write_sheet(table, access, &mut lent[MARGIN..MARGIN + output]);
     let outcome = written.outcome;
-    wrote(outcome, &lent, output, written.count);
-    say::text(b"\n");
+    say_lent(digit_of(outcome), b"wrote ", &lent, output, written.count);
+    say::end_line();
+}
+
+fn say_read(table: Table) {
+    say::text(b"read ");
+    say_table(table);
 }
 
 // The table that a sheet holds, or the one before it where the sheet is refused.
 pub(crate) fn take_sheet(before: Table, access: &[u8], sheet: &[u8]) -> Table {
     let read = read_sheet(access, sheet);
     let outcome = read.outcome;
-    let table = read.table;
-    match outcome {
-        Outcome::Refuses { refusal } => {
-            refused(refusal);
-            say::text(b"\n");
-            before
-        }
-        Outcome::Done => {
-            say::text(b"read ");
-            say_table(table);
-            say::text(b"\n");
-            table
-        }
+    let digit = digit_of(outcome);
+    if digit != 0 {
+        say::refused(digit);
+        say::end_line();
+        return before;
     }
+    let table = read.table;
+    say_read(table);
+    say::end_line();
+    table
 }
 
 fn say_spilled(lent: &[u8], count: usize)
@@ -97,23 +80,20 @@ fn say_spilled(lent: &[u8], count: usize)
     }
 }
 
-fn listed(outcome: Outcome, room: &[u8; LENT], count: usize) {
+fn listed(digit: u8, room: &[u8; LENT], count: usize) {
     if OUTPUTMOST < count {
         say::text(b"spilled\n");
         return;
     }
     let lent = &room[..];
-    match outcome {
-        Outcome::Refuses { refusal } => {
-            refused(refusal);
-            say::text(b"\n");
-            say_spilled(lent, 0);
-        }
-        Outcome::Done => {
-            say::text(&lent[MARGIN..MARGIN + count]);
-            say_spilled(lent, count);
-        }
+    if digit != 0 {
+        say::refused(digit);
+        say::end_line();
+        say_spilled(lent, 0);
+        return;
     }
+    say::text(&lent[MARGIN..MARGIN + count]);
+    say_spilled(lent, count);
 }
 
 // The listing of a sheet.
@@ -121,35 +101,52 @@ pub(crate) fn put_listing(sheet: &[u8]) {
     let mut lent = [BEFORE; LENT];
     let written = list_sheet(sheet, &mut lent[MARGIN..MARGIN + LISTINGMOST]);
     let outcome = written.outcome;
-    listed(outcome, &lent, written.count);
+    listed(digit_of(outcome), &lent, written.count);
+}
+
+// Writes the table's sheet to `out`, and answers how many octets it has; more than there can be where it is refused.
+fn sheet_size(table: Table, access: &[u8], out: &mut [u8]) -> usize {
+    let written = write_sheet(table, access, out);
+    let outcome = written.outcome;
+    if digit_of(outcome) == 0 {
+        written.count
+    } else {
+        SHEETMOST + 1
+    }
+}
+
+// Whether `sheet` is read to a table that is written as the same sheet and has the last handled identifier `last`.
+fn reads_back(last: u16, access: &[u8], sheet: &[u8]) -> bool {
+    let read = read_sheet(access, sheet);
+    let outcome = read.outcome;
+    let again = read.table;
+    if digit_of(outcome) != 0 {
+        return false;
+    }
+    if again.last != last {
+        return false;
+    }
+    let mut second = [0u8; SHEETMOST];
+    let count = sheet_size(again, access, &mut second);
+    if SHEETMOST < count {
+        return false;
+    }
+    same(sheet, &second[..count])
 }
 
 // Whether the table, written as a sheet and read again, is written as the same sheet and has the same last handled identifier. Octets that
 // carry no meaning are in no sheet, so the tables themselves may differ.
-pub(crate) fn comes_back(table: Table, access: &[u8]) -> bool {
+fn comes_back(table: Table, access: &[u8]) -> bool {
     let mut first = [BEFORE; SHEETMOST];
-    let written = write_sheet(table, access, &mut first);
-    let outcome = written.outcome;
-    let count = written.count;
-    if !done(outcome) {
-        return false;
-    }
+    let count = sheet_size(table, access, &mut first);
     if SHEETMOST < count {
         return false;
     }
-    let read = read_sheet(access, &first[..count]);
-    let outcome = read.outcome;
-    let again = read.table;
-    if !done(outcome) {
-        return false;
+    reads_back(table.last, access, &first[..count])
+}
+
+pub(crate) fn say_back(table: Table, access: &[u8]) {
+    if !comes_back(table, access) {
+        say::text(b" sheet differs");
     }
-    let mut second = [0u8; SHEETMOST];
-    let rewritten = write_sheet(again, access, &mut second);
-    if rewritten.count != count {
-        return false;
-    }
-    if again.last != table.last {
-        return false;
-    }
-    same(&first[..count], &second[..count])
 }

@@ -39,18 +39,18 @@ pub(crate) fn reader_of(word: &[u8]) -> Reader {
 pub(crate) fn whole_and_cut(by: Reader, s: &[u8]) {
     reads(by, s, true);
     say::text(b" cuts");
+    if 0 < s.len() {
+        say::text(b" ");
+    }
     let mut i = 0;
     while i < s.len() {
-        if i == 0 {
-            say::text(b" ");
-        }
-        if reads(by, &s[..i], false) {
-            say::text(b"+");
-        } else {
-            say::text(b".");
-        }
+        say_cut(reads(by, &s[..i], false));
         i += 1;
     }
+}
+
+fn say_cut(read: bool) {
+    say::text(&[if read { b'+' } else { b'.' }]);
 }
 
 // Whether `s` is read; what is read is printed where `told` says so.
@@ -65,6 +65,27 @@ fn reads(by: Reader, s: &[u8], told: bool) -> bool {
     }
 }
 
+// Prints the word before a place, and the place, where `told` says so.
+fn tell(told: bool, word: &[u8], at: usize) {
+    if told {
+        say::place(word, at);
+    }
+}
+
+fn tell_tag(told: bool, tag: u8) {
+    if told {
+        say::text(b"tag ");
+        say::octet(tag);
+    }
+}
+
+fn tell_signed(told: bool, value: i16) {
+    if told {
+        say::text(b"is ");
+        say::signed(value);
+    }
+}
+
 fn element(s: &[u8], told: bool) -> bool {
     match octets::head_at(s, 0, s.len(), 1) {
         Head::Is {
@@ -73,13 +94,10 @@ fn element(s: &[u8], told: bool) -> bool {
             stop,
             next,
         } => {
-            if told {
-                say::text(b"tag ");
-                say::octet(tag);
-                say::place(b" contents ", start);
-                say::place(b" ", stop);
-                say::place(b" next ", next);
-            }
+            tell_tag(told, tag);
+            tell(told, b" contents ", start);
+            tell(told, b" ", stop);
+            tell(told, b" next ", next);
             true
         }
         Head::Bad => refused(b"bad", told),
@@ -89,10 +107,8 @@ fn element(s: &[u8], told: bool) -> bool {
 fn enumerated(s: &[u8], told: bool) -> bool {
     match values::enumerated_at(s, 0, s.len(), 1) {
         Enumerated::Is { value, next } => {
-            if told {
-                say::place(b"is ", value as usize);
-                say::place(b" next ", next);
-            }
+            tell(told, b"is ", value as usize);
+            tell(told, b" next ", next);
             true
         }
         Enumerated::Unreadable => refused(b"unreadable", told),
@@ -102,11 +118,8 @@ fn enumerated(s: &[u8], told: bool) -> bool {
 fn identifier(s: &[u8], told: bool) -> bool {
     match values::ident_at(s, 0, s.len(), 1) {
         Ident::Is { value, next } => {
-            if told {
-                say::text(b"is ");
-                say::signed(value);
-                say::place(b" next ", next);
-            }
+            tell_signed(told, value);
+            tell(told, b" next ", next);
             true
         }
         Ident::Unreadable => refused(b"unreadable", told),
@@ -116,9 +129,7 @@ fn identifier(s: &[u8], told: bool) -> bool {
 fn skipped(s: &[u8], told: bool) -> bool {
     match skip::skip_at(s, 0, s.len()) {
         Skip::To(next) => {
-            if told {
-                say::place(b"to ", next);
-            }
+            tell(told, b"to ", next);
             true
         }
         Skip::Wrong => refused(b"wrong", told),
@@ -128,16 +139,12 @@ fn skipped(s: &[u8], told: bool) -> bool {
 fn groups(s: &[u8], told: bool) -> bool {
     match groups::groups_at(s, 0, s.len()) {
         Groups::Is { value, next } => {
-            if told {
-                say::place(b"is ", value as usize);
-                say::place(b" next ", next);
-            }
+            tell(told, b"is ", value as usize);
+            tell(told, b" next ", next);
             true
         }
         Groups::Large { next } => {
-            if told {
-                say::place(b"large next ", next);
-            }
+            tell(told, b"large next ", next);
             true
         }
         Groups::Bad => refused(b"bad", told),

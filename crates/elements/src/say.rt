@@ -40,3 +40,8 @@ pub(crate) fn place(word: &[u8], at: usize) {
     text(word);
     decimal(at);
 }
+
+// A mark: `.` for what is right, `!` for what is not.
+pub(crate) fn mark(right: bool) {
+    text(&[if right { b'.' } else { b'!' }]);
+}

@@ -67,15 +67,7 @@ fn smaller(by: Writer, size: usize, line: &[u8]) {
         return;
     }
     let next = writes(by, &mut out[..size], line);
-    if next != AT {
-        say::text(b"!");
-        return;
-    }
-    if all_outside(&out, 0, 0, BEFORE) {
-        say::text(b".");
-    } else {
-        say::text(b"!");
-    }
+    say::mark(next == AT && all_outside(&out, 0, 0, BEFORE));
 }
 
 // The octet of the word after the first.

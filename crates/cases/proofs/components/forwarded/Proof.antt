@@ -5,20 +5,14 @@ use borrow.Author.Needs.{needs}
 use Rattle.cases.proofs.components.forwarded.Statement.{statement}
 use Rattle.cases.proofs.components.forwarded.Tie as tie
 
-digits-requires : tie.Need-digits-requires
-digits-requires c κs = search needs
-
 slice-aggregate-text : tie.Need-slice-aggregate-text
 slice-aggregate-text c = search needs
 
 text-requires : tie.Need-text-requires
 text-requires c κs = search needs
 
-returns : tie.Need-returns
-returns c = search needs
-
-cast-count : tie.Need-cast-count
-cast-count c = search needs
+digits-requires : tie.Need-digits-requires
+digits-requires c κs = search needs
 
 slice-aggregate-text-2 : tie.Need-slice-aggregate-text-2
 slice-aggregate-text-2 c = search needs
@@ -26,11 +20,23 @@ slice-aggregate-text-2 c = search needs
 text-requires-2 : tie.Need-text-requires-2
 text-requires-2 c κs = search needs
 
+returns : tie.Need-returns
+returns c = search needs
+
+cast-count : tie.Need-cast-count
+cast-count c = search needs
+
+slice-aggregate-text-3 : tie.Need-slice-aggregate-text-3
+slice-aggregate-text-3 c = search needs
+
+text-requires-3 : tie.Need-text-requires-3
+text-requires-3 c κs = search needs
+
 array-share-prefix-sub : tie.Need-array-share-prefix-sub
-array-share-prefix-sub c = let long : length (c .before .before .before .before .before .before .before .before .before .before .before .args .to .address .sub) ≡ 20 = search needs in omega arith
+array-share-prefix-sub c = let long : length (c .before .before .before .before .before .before .before .before .before .before .before .before .before .args .to .address .sub) ≡ 20 = search needs in omega arith
 
 slice-aggregate-octets : tie.Need-slice-aggregate-octets
-slice-aggregate-octets c = let long : length (c .before .before .before .before .before .before .before .before .before .before .before .before .args .to .address .sub) ≡ 20 = search needs in simp length-take (omega arith)
+slice-aggregate-octets c = let long : length (c .before .before .before .before .before .before .before .before .before .before .before .before .before .before .args .to .address .sub) ≡ 20 = search needs in simp length-take (omega arith)
 
 octets-requires : tie.Need-octets-requires
 octets-requires c κs = search needs
@@ -48,13 +54,15 @@ pub forwarded-spec : {M : Type 1} → statement M
 forwarded-spec =
     tie.close
     (tie.spec
-    digits-requires
     slice-aggregate-text
     text-requires
-    returns
-    cast-count
+    digits-requires
     slice-aggregate-text-2
     text-requires-2
+    returns
+    cast-count
+    slice-aggregate-text-3
+    text-requires-3
     array-share-prefix-sub
     slice-aggregate-octets
     octets-requires

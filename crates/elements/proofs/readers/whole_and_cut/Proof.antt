@@ -1,15 +1,15 @@
-use borrow.Author.Needs.{needs}
 use Prim.Native.Nat.{_≤_, _-_}
 use lib.ListN.{length, length-take}
 use native.Mathlib.Omega.{arith}
+use borrow.Author.Needs.{needs}
 use Rattle.elements.proofs.readers.whole_and_cut.Statement.{statement}
 use Rattle.elements.proofs.readers.whole_and_cut.Tie as tie
 
 abbrev Inv-loop : tie.InvT-loop
-Inv-loop by s i₀ t5 t6 t7 i = i ≤ length s
+Inv-loop by s i₀ i = i ≤ length s
 
 abbrev μ-loop : tie.MeasureT-loop
-μ-loop by s i₀ t5 t6 t7 i = length s - i
+μ-loop by s i₀ i = length s - i
 
 reads-requires : tie.Need-reads-requires Inv-loop μ-loop
 reads-requires c κs = search needs
@@ -20,14 +20,14 @@ slice-aggregate-text c = search needs
 text-requires : tie.Need-text-requires Inv-loop μ-loop
 text-requires c κs = search needs
 
-loop-holds : tie.Need-loop-holds Inv-loop μ-loop
-loop-holds c = search needs
-
 slice-aggregate-text-2 : tie.Need-slice-aggregate-text-2 Inv-loop μ-loop
 slice-aggregate-text-2 c = search needs
 
 text-requires-2 : tie.Need-text-requires-2 Inv-loop μ-loop
 text-requires-2 c κs = search needs
+
+loop-holds : tie.Need-loop-holds Inv-loop μ-loop
+loop-holds c = search needs
 
 slice-aggregate-reads : tie.Need-slice-aggregate-reads Inv-loop μ-loop
 slice-aggregate-reads c = simp length-take (omega arith)
@@ -35,17 +35,8 @@ slice-aggregate-reads c = simp length-take (omega arith)
 reads-requires-2 : tie.Need-reads-requires-2 Inv-loop μ-loop
 reads-requires-2 c κs = search needs
 
-slice-aggregate-text-3 : tie.Need-slice-aggregate-text-3 Inv-loop μ-loop
-slice-aggregate-text-3 c = search needs
-
-text-requires-3 : tie.Need-text-requires-3 Inv-loop μ-loop
-text-requires-3 c κs = search needs
-
-slice-aggregate-text-4 : tie.Need-slice-aggregate-text-4 Inv-loop μ-loop
-slice-aggregate-text-4 c = search needs
-
-text-requires-4 : tie.Need-text-requires-4 Inv-loop μ-loop
-text-requires-4 c κs = search needs
+say-cut-requires : tie.Need-say-cut-requires Inv-loop μ-loop
+say-cut-requires c κs = search needs
 
 add-i : tie.Need-add-i Inv-loop μ-loop
 add-i c = search needs
@@ -68,15 +59,12 @@ whole-and-cut-spec =
     reads-requires
     slice-aggregate-text
     text-requires
-    loop-holds
     slice-aggregate-text-2
     text-requires-2
+    loop-holds
     slice-aggregate-reads
     reads-requires-2
-    slice-aggregate-text-3
-    text-requires-3
-    slice-aggregate-text-4
-    text-requires-4
+    say-cut-requires
     add-i
     loop-less
     loop-again
