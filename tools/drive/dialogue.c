@@ -197,6 +197,16 @@ static int list_sheet(const char *text)
     return fwrite(lent_octets(&listing), 1, count, stdout) != count;
 }
 
+/* What there is at the start: the things lent are numbered anew too. */
+static int start(void)
+{
+    access_record.size = 0;
+    output.size = SCONCETOAD_OUTPUT;
+    table = sconcetoad_fresh_table();
+    lend_anew();
+    return 0;
+}
+
 /* A line is a word and what stands after one space, or the word alone. */
 static int obey(char *line)
 {
@@ -207,6 +217,8 @@ static int obey(char *line)
         *rest++ = '\0';
     else
         rest = line + strlen(line);
+    if (strcmp(line, "start") == 0 && *rest == '\0')
+        return start();
     if (strcmp(line, "access") == 0)
         return set_octets(&access_record, rest, ACCESS_MOST, "an access record has 0 to 512 octets, in upper-case hexadecimal");
     if (strcmp(line, "table") == 0)
@@ -229,10 +241,9 @@ static int obey(char *line)
 int dialogue(void)
 {
     static char line[LINE_MOST + 2];
-    output.size = SCONCETOAD_OUTPUT;
     digits.size = SCONCETOAD_DIGITS;
     listing.size = SCONCETOAD_LISTING;
-    table = sconcetoad_fresh_table();
+    start();
     while (fgets(line, sizeof line, stdin)) {
         line_number++;
         size_t length = strcspn(line, "\n");

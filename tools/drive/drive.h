@@ -39,6 +39,9 @@ struct lent {
 
 uint8_t *lent_octets(struct lent *lent);
 
+/* The next thing is the first. */
+void lend_anew(void);
+
 /* Puts the canaries of the next thing around it (docs/DIALOGUES.md). */
 void lend(struct lent *lent);
 

@@ -4,7 +4,7 @@
 #include <string.h>
 #include "drive.h"
 
-/* How many things were lent so far; and the canaries of those that came back since they were last said. */
+/* How many things were lent since the start; and the canaries of those that came back since they were last said. */
 static unsigned things;
 static char seen[LENT_A_LINE * (1 + 2 * 2 * LENT_CANARY)];
 static size_t seen_length;
@@ -17,6 +17,11 @@ uint8_t *lent_octets(struct lent *lent)
 static uint8_t *after(struct lent *lent)
 {
     return lent_octets(lent) + lent->size;
+}
+
+void lend_anew(void)
+{
+    things = 0;
 }
 
 void lend(struct lent *lent)

@@ -152,6 +152,7 @@ fn of_kind<'a>(
     octets: &'a [u8],
 ) -> Dialogue {
     match kind {
+        Kind::Start => begun(),
         Kind::Component => arrived(d, access, octets),
         Kind::Read => read_line(d, access, octets),
         Kind::Access => access_line(d, text),

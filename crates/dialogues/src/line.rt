@@ -7,6 +7,7 @@ ghost use lib.ListN.{length};
 
 pub(crate) enum Kind {
     Remark,
+    Start,
     Access,
     Table,
     Output,
@@ -36,17 +37,18 @@ fn place_of(word: &[u8], words: &[u8]) -> usize {
 pub(crate) fn kind_of(word: &[u8]) -> Kind {
     match place_of(
         word,
-        b"# access table output component call write read list ",
+        b"# start access table output component call write read list ",
     ) {
         0 => Kind::Remark,
-        1 => Kind::Access,
-        2 => Kind::Table,
-        3 => Kind::Output,
-        4 => Kind::Component,
-        5 => Kind::Call,
-        6 => Kind::Write,
-        7 => Kind::Read,
-        8 => Kind::List,
+        1 => Kind::Start,
+        2 => Kind::Access,
+        3 => Kind::Table,
+        4 => Kind::Output,
+        5 => Kind::Component,
+        6 => Kind::Call,
+        7 => Kind::Write,
+        8 => Kind::Read,
+        9 => Kind::List,
         _ => Kind::Unknown,
     }
 }
