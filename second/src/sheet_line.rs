@@ -32,8 +32,8 @@ impl SheetLine {
     }
 
     /// As this program lists it.
-    pub fn list(sheet: &[u8]) -> Self {
-        let listing = listing::list(sheet);
+    pub fn list(now: &Situation, sheet: &[u8]) -> Self {
+        let listing = listed(now, sheet);
         SheetLine::List(sheet.to_vec(), listing.map_err(Refusal::number))
     }
 
@@ -42,7 +42,7 @@ impl SheetLine {
         match self {
             SheetLine::Write(_) => SheetLine::write(now),
             SheetLine::Read(sheet, _) => SheetLine::read(now, sheet),
-            SheetLine::List(sheet, _) => SheetLine::list(sheet),
+            SheetLine::List(sheet, _) => SheetLine::list(now, sheet),
         }
     }
 
@@ -82,6 +82,13 @@ fn written(now: &Situation) -> Result<Vec<u8>, Refusal> {
     let length = sheet::write(&mut output, &profile, &table)?;
     output.truncate(length);
     Ok(output)
+}
+
+/// The output plays a part, the access record and the table none.
+fn listed(now: &Situation, sheet: &[u8]) -> Result<String, Refusal> {
+    let mut output = vec![0; now.output];
+    let length = listing::list_into(&mut output, sheet)?;
+    Ok(String::from_utf8_lossy(&output[..length]).into_owned())
 }
 
 fn read(now: &Situation, sheet: &[u8]) -> Result<TableRecord, Refusal> {

@@ -52,7 +52,7 @@ fn the_lines_are_those_of_the_format() {
     let [start, turned] = remarks;
     let listing = "form 1 last 2 count 1\ncfb 0 1 u 24680 -\n";
     let expected = format!(
-        "{start}refused 1 kept\nrefused 3\n{listing}\
+        "{start}refused 1 kept\nrefused 3\nrefused 1\n\
          {turned}wrote {sample} kept\nread table {table}\n{listing}"
     );
     assert_eq!(lines.expected, expected);
@@ -65,7 +65,7 @@ fn the_lines_are_those_of_the_format() {
         .collect();
     let (read, list) = (asked("read"), asked("list"));
     let expected = format!(
-        "{start}write\n{read}{list}{turned}table {table}\noutput 1613\nwrite\n{read}{list}"
+        "{start}write\n{read}{list}{turned}table {table}\noutput 1811\nwrite\n{read}{list}"
     );
     assert_eq!(input, expected);
 }

@@ -29,7 +29,7 @@ fn of_every_kind() -> Dialogue {
     let active = [instance(1, 0, 1, "24680")];
     let replied = |hex| Said::Replied(octets(hex));
     dialogue("turns of every kind", &sample_profile())
-        .output(1_613)
+        .output(1_811)
         .hears_hex(ACTIVATION_OF_CFB, replied("A2 03 02 01 02"))
         .then_holds(2, &active)
         .writes(SHEET)

@@ -12,7 +12,7 @@
 #define SHEET_MOST 2000
 #define OUTPUT_MOST 2048
 
-static struct lent access_record, component, call, sheet, output, digits, listing;
+static struct lent access_record, component, call, sheet, output, digits;
 static struct sconcetoad_table table;
 static long line_number;
 
@@ -186,15 +186,15 @@ static int list_sheet(const char *text)
     if (set_octets(&sheet, text, SHEET_MOST, "a sheet has 0 to 2000 octets, in upper-case hexadecimal"))
         return 1;
     lend(&sheet);
-    lend_filled(&listing);
+    lend_filled(&output);
     struct sconcetoad_sheet_written listed =
-        sconcetoad_list_sheet(lent_octets(&sheet), sheet.size, lent_octets(&listing), listing.size);
+        sconcetoad_list_sheet(lent_octets(&sheet), sheet.size, lent_octets(&output), output.size);
     size_t count = written_of(listed.refusal, listed.count);
-    if (count > listing.size || !came_back(&sheet, 0) || !came_back(&listing, count))
+    if (count > output.size || !came_back(&sheet, 0) || !came_back(&output, count))
         return wrong("an octet changed that should not");
     if (listed.refusal != SCONCETOAD_ANSWERED)
         return printf("refused %d\n", listed.refusal) < 0;
-    return fwrite(lent_octets(&listing), 1, count, stdout) != count;
+    return fwrite(lent_octets(&output), 1, count, stdout) != count;
 }
 
 /* What there is at the start: the things lent are numbered anew too. */
@@ -242,7 +242,6 @@ int dialogue(void)
 {
     static char line[LINE_MOST + 2];
     digits.size = SCONCETOAD_DIGITS;
-    listing.size = SCONCETOAD_LISTING;
     start();
     while (fgets(line, sizeof line, stdin)) {
         line_number++;

@@ -138,7 +138,7 @@ fn printed<'a>(d: Dialogue, kind: Kind, text: &'a [u8], access: &'a [u8], octets
     match kind {
         Kind::Call => call_line(d, access, octets),
         Kind::Write => write_line(d, access),
-        Kind::List => put_listing(octets),
+        Kind::List => put_listing(octets, d.output),
         Kind::Remark => remark_line(text),
         _ => say::unknown(),
     }

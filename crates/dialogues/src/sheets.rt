@@ -16,10 +16,8 @@ use sheet::Outcome;
 use sheet::Refusal;
 ghost use Prim.Native.Nat.{_≤_};
 
-// The most octets of a sheet, and of a listing.
+// The most octets of a sheet.
 const SHEETMOST: usize = 1613;
-
-const LISTINGMOST: usize = 1811;
 
 fn refusal_digit(refusal: Refusal) -> u8 {
     match refusal {
@@ -72,15 +70,15 @@ pub(crate) fn take_sheet(before: Table, access: &[u8], sheet: &[u8]) -> Table {
     table
 }
 
-fn say_spilled(lent: &[u8], count: usize)
+fn say_spilled(lent: &[u8], output: usize, count: usize)
     requires { ⌜ count ≤ 2048 ⌝ }
 {
-    if !kept(lent, LISTINGMOST, count) {
+    if !kept(lent, output, count) {
         say::text(b"spilled\n");
     }
 }
 
-fn listed(digit: u8, room: &[u8; LENT], count: usize) {
+fn listed(digit: u8, room: &[u8; LENT], output: usize, count: usize) {
     if OUTPUTMOST < count {
         say::text(b"spilled\n");
         return;
@@ -89,19 +87,23 @@ fn listed(digit: u8, room: &[u8; LENT], count: usize) {
     if digit != 0 {
         say::refused(digit);
         say::end_line();
-        say_spilled(lent, 0);
+        say_spilled(lent, output, 0);
         return;
     }
     say::text(&lent[MARGIN..MARGIN + count]);
-    say_spilled(lent, count);
+    say_spilled(lent, output, count);
 }
 
-// The listing of a sheet.
-pub(crate) fn put_listing(sheet: &[u8]) {
+// The listing of a sheet, in an output of `output` octets.
+pub(crate) fn put_listing(sheet: &[u8], output: usize) {
+    if OUTPUTMOST < output {
+        say::unknown();
+        return;
+    }
     let mut lent = [BEFORE; LENT];
-    let written = list_sheet(sheet, &mut lent[MARGIN..MARGIN + LISTINGMOST]);
+    let written = list_sheet(sheet, &mut lent[MARGIN..MARGIN + output]);
     let outcome = written.outcome;
-    listed(digit_of(outcome), &lent, written.count);
+    listed(digit_of(outcome), &lent, output, written.count);
 }
 
 // Writes the table's sheet to `out`, and answers how many octets it has; more than there can be where it is refused.

@@ -168,13 +168,14 @@ impl Dialogue {
         self.sheet(SheetLine::List(octets(sheet), Ok(listing.to_string())))
     }
 
-    pub fn list_refused(self, sheet: &str) -> Self {
-        self.sheet(SheetLine::List(octets(sheet), Err(NOT_A_SHEET)))
+    pub fn list_refused(self, number: u8, sheet: &str) -> Self {
+        self.sheet(SheetLine::List(octets(sheet), Err(number)))
     }
 
     /// Read or listed, it is no sheet.
     pub fn refuses(self, sheet: &str) -> Self {
-        self.read_refused(NOT_A_SHEET, sheet).list_refused(sheet)
+        self.read_refused(NOT_A_SHEET, sheet)
+            .list_refused(NOT_A_SHEET, sheet)
     }
 
     /// Written from this table, read back, listed.

@@ -10,6 +10,7 @@ mod reached;
 mod sheet_tally;
 
 use crate::cases::Cases;
+use crate::listing::LONGEST_LISTING;
 use crate::made;
 use crate::profile::Profile;
 use crate::records_at_random::{access, table};
@@ -52,7 +53,7 @@ impl Cases<SheetTally> {
         Situation {
             access: access(random, profile),
             table: table(random, profile, &held),
-            output: random.one_of(&[SHEET_OUTPUT, SHEET_OUTPUT, 1_614, 2_048]),
+            output: random.one_of(&[SHEET_OUTPUT, 1_614, LONGEST_LISTING, 2_048]),
         }
     }
 
@@ -118,7 +119,23 @@ impl Cases<SheetTally> {
     fn read_and_list(&mut self, (making, sheet): &Made) {
         let read = SheetLine::read(self.lines.now(), sheet);
         self.case(Some(*making), &read);
-        self.case(Some(*making), &SheetLine::list(sheet));
+        self.output_of_a_listing();
+        let listed = SheetLine::list(self.lines.now(), sheet);
+        self.case(Some(*making), &listed);
+    }
+
+    /// Mostly enough, often just enough, and now and then too little.
+    fn output_of_a_listing(&mut self) {
+        let size = match self.random.below(16) {
+            0 => self.random.one_of(&[0, SHEET_OUTPUT, LONGEST_LISTING - 1]),
+            1 => LONGEST_LISTING,
+            _ => self.lines.now().output.max(LONGEST_LISTING),
+        };
+        let output = Situation {
+            output: size,
+            ..self.lines.now().clone()
+        };
+        self.lines.bring_about(&output);
     }
 
     /// The line is told, unless there are cases enough.

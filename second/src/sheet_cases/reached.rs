@@ -42,7 +42,7 @@ pub enum Size {
 }
 
 /// The causes of refusal 9 are counted apart.
-pub const KINDS: [(Reached, &str); 42] = [
+pub const KINDS: [(Reached, &str); 43] = [
     (Reached::Answered(Line::Write), "write: wrote"),
     (Reached::Refused(Line::Write, 1), "write: refused 1"),
     (Reached::Refused(Line::Write, 3), "write: refused 3"),
@@ -51,6 +51,7 @@ pub const KINDS: [(Reached, &str); 42] = [
     (Reached::Refused(Line::Read, 3), "read: refused 3"),
     (Reached::Refused(Line::Read, 9), "read: refused 9"),
     (Reached::Answered(Line::List), "list: listed"),
+    (Reached::Refused(Line::List, 1), "list: refused 1"),
     (Reached::Refused(Line::List, 9), "list: refused 9"),
     (
         Reached::Held(Line::Write, Size::Empty),

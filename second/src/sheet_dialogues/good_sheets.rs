@@ -127,12 +127,12 @@ fn neighbours() -> Dialogue {
 /// Reading has refusals 3 and 9 alone (A39).
 fn no_part_in_reading() -> Dialogue {
     sheet_dialogue(
-        "the output and the table there is play no part in reading and listing",
+        "the output and the table there is play no part in reading, the table none in listing",
         &access(),
     )
-    .output(0)
     .record(bad_table())
     .lists(SAMPLE, SAMPLE_LISTING)
+    .output(0)
     .reads(SAMPLE, 2, &[sample_instance()])
     .write_refused(1)
 }

@@ -3,7 +3,7 @@
 use crate::dialogues::script::Dialogue;
 use crate::samples::sample_profile;
 
-use super::words::{one, sheet_dialogue, to_seven};
+use super::words::{one, sheet_dialogue, to_seven, SAMPLE, SAMPLE_LISTING};
 
 pub fn dialogues() -> Vec<Dialogue> {
     vec![
@@ -21,10 +21,26 @@ pub fn dialogues() -> Vec<Dialogue> {
         every_service(),
         sheet_dialogue("listing: no access record", &sample_profile())
             .access(vec![])
-            .output(0)
             .lists("01 FF FF 01 00", "form 1 last 32767 count 0\n")
-            .list_refused("01 80 80 02 00"),
+            .list_refused(9, "01 80 80 02 00"),
+        output_sizes(),
     ]
+}
+
+/// The longest listing there can be decides (A76), and refusal 1 comes before 9.
+fn output_sizes() -> Dialogue {
+    let talk = sheet_dialogue(
+        "listing: output under 1,811 octets is refused 1",
+        &sample_profile(),
+    );
+    let refused = [0, 27, 1_613, 1_810].iter().fold(talk, |talk, size| {
+        talk.output(*size)
+            .list_refused(1, SAMPLE)
+            .list_refused(1, "")
+    });
+    [1_811, 1_812, 2_048].iter().fold(refused, |talk, size| {
+        talk.output(*size).lists(SAMPLE, SAMPLE_LISTING)
+    })
 }
 
 fn public_types() -> Dialogue {

@@ -16,7 +16,7 @@ pub fn dialogues() -> Vec<Dialogue> {
         .output(707)
         .write_refused(1)
         .read_refused(3, SAMPLE)
-        .lists(SAMPLE, SAMPLE_LISTING),
+        .list_refused(1, SAMPLE),
         sheet_dialogue(
             "sample: the sheet written, read and listed",
             &sample_profile(),

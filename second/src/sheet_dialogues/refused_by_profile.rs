@@ -92,6 +92,6 @@ fn bad_profile() -> Vec<Dialogue> {
             .read_refused(3, "")
             .read_refused(3, "02 00 00")
             .read_refused(3, &one("01 03 20", "00 00 00", "00"))
-            .list_refused("02 00 00"),
+            .list_refused(9, "02 00 00"),
     ]
 }

@@ -3,8 +3,8 @@
 use crate::codes::CFB;
 use crate::dialogues::script::{dialogue, Dialogue};
 use crate::dialogues::words::SPEECH;
+use crate::listing::LONGEST_LISTING;
 use crate::profile::Profile;
-use crate::refusal::SHEET_OUTPUT;
 use crate::samples::{instance, wide_profile};
 use crate::table::Instance;
 
@@ -39,9 +39,9 @@ pub fn access() -> Profile {
     wide_profile()
 }
 
-/// A fresh table and just enough output.
+/// A fresh table and just enough output for any listing, which is more than any sheet needs.
 pub fn sheet_dialogue(name: impl Into<String>, profile: &Profile) -> Dialogue {
-    dialogue(name, profile).output(SHEET_OUTPUT)
+    dialogue(name, profile).output(LONGEST_LISTING)
 }
 
 /// Each sheet is refused 9, read and listed, and the table there is stays.
