@@ -1,4 +1,5 @@
 pub mod Profiles
+pub mod Firsts
 pub mod Records
 pub mod Services
 pub mod Diversions

@@ -156,18 +156,21 @@ module _ (p : Profile) (n : Number) (count : ℕ) (numbers : List Number) where
 -- ---- what is left to test where a count keeps its bounds
 
 -- whether the number at a place is one that a table holds and the first of its kind
-abbrev pub numberFits : Profile → ℕ → Bool
-numberFits p k =
-    pick (numberGood (getD (p .numbers) k noNumber))
-    (eqb (placeIn p (getD (p .numbers) k noNumber) (servedNumbers p)) k)
+abbrev pub numberFits : Profile → ℕ → List Number → ℕ → Bool
+numberFits p count numbers k =
+    pick (numberGood (getD numbers k noNumber))
+    (eqb (placeIn p (getD numbers k noNumber) (take count numbers)) k)
     false
+
+abbrev pub numbersFit : Profile → ℕ → Bool
+numbersFit p = everyTo (numberFits p (p .numbercount) (p .numbers))
 
 abbrev pub prefixFits : List Prefix → ℕ → Bool
 prefixFits prefixes k = prefixGood (getD prefixes k noPrefix)
 
 pub numbers-fair :
     (p : Profile) → 1 ≤ p .numbercount → p .numbercount ≤ numbersMost →
-    numbersGood p ≡ everyTo (numberFits p) (p .numbercount)
+    numbersGood p ≡ numbersFit p (p .numbercount)
 unfolding numbersGood
 numbers-fair p some few = rw (le-ltb (p .numbercount) 1 some, le-ltb numbersMost (p .numbercount) few)
 
@@ -216,11 +219,11 @@ rising-above below (c ∷ cs) (suc k) h lt =
 
 numbers-each :
     (p : Profile) → numbersGood p ≡ true →
-    (1 ≤ p .numbercount) × (p .numbercount ≤ numbersMost) × (everyTo (numberFits p) (p .numbercount) ≡ true)
+    (1 ≤ p .numbercount) × (p .numbercount ≤ numbersMost) × (numbersFit p (p .numbercount) ≡ true)
 unfolding numbersGood
 numbers-each p h =
     let n : ℕ = p .numbercount in
-    let each : Bool = everyTo (numberFits p) n in
+    let each : Bool = numbersFit p n in
     let a = pick-else (ltb n 1) (pick (ltb numbersMost n) false each) h in
     let b = pick-else (ltb numbersMost n) each (a .1) in
     (ltb-false n 1 (a .0), ltb-false numbersMost n (b .0), b .1)
@@ -280,7 +283,7 @@ good-profile p h =
       numbers = λ k lt. pick-then
           (numberGood (getD (p .numbers) k noNumber))
           (eqb (placeIn p (getD (p .numbers) k noNumber) (servedNumbers p)) k)
-          (every-at (numberFits p) (p .numbercount) k lt (n .2)) .0;
+          (every-at (numberFits p (p .numbercount) (p .numbers)) (p .numbercount) k lt (n .2)) .0;
       services-some = s .0;
       services-few = s .1;
       rises = s .2;

@@ -4,8 +4,10 @@ use numbers::Number;
 use numbers::number_good;
 ghost use mathlib.Core.Path.{_≡_};
 ghost use Prim.Native.Nat.{_≤_};
-ghost use lib.ListN.{take};
-ghost use Rattle.access.specs.Profile.{sameDigits, prefixGood, numbersGood, servicesGood, subscriptionsGood, usesGood, diversionGood, prefixesGood, profileGood, SameNumber, NumberPlace, ServiceSlot};
+ghost use lib.ListN.{take, getD};
+ghost use lib.Dec.{ltb};
+ghost use Rattle.laws.specs.Places.{countTo};
+ghost use Rattle.access.specs.Profile.{sameDigits, sameNumber, noNumber, prefixGood, numbersGood, servicesGood, subscriptionsGood, usesGood, diversionGood, prefixesGood, profileGood, SameNumber, NumberPlace, ServiceSlot};
 
 // The most numbers, services and prefixes of a profile, and the most digits of one.
 pub const NUMBERS: usize = 4;
@@ -118,6 +120,22 @@ pub fn service_slot(p: Profile, service: u8) -> usize
     k
 }
 
+// Whether one of the first `count` numbers is the same.
+fn same_before(numbers: [Number; NUMBERS], n: Number, count: usize) -> bool
+    requires { ⌜ count ≤ 4 ⌝ }
+    ensures { λ r. ⌜ r ≡ ltb 0 (countTo (λ k. sameNumber (getD numbers k noNumber) n) count) ⌝ }
+{
+    let mut k: usize = 0;
+    while k < count {
+        let x = numbers[k];
+        if same_number(x, n) {
+            return true;
+        }
+        k += 1;
+    }
+    false
+}
+
 fn numbers_good(p: Profile) -> bool
     ensures { λ r. ⌜ r ≡ numbersGood p ⌝ }
 {
@@ -135,7 +153,7 @@ fn numbers_good(p: Profile) -> bool
         if !number_good(n) {
             return false;
         }
-        if number_place(p, n) != k {
+        if same_before(numbers, n, k) {
             return false;
         }
         k += 1;

@@ -1,10 +1,14 @@
-use Rattle.access.proofs.Profiles.{numberFits, numbers-fair}
-use Rattle.access.specs.Profile.{numbersGood}
+use Rattle.access.proofs.Profiles.{numberFits, numbersFit, numbers-fair}
+use Rattle.access.proofs.Firsts.{first-here, later-not}
+use Rattle.access.specs.Profile.{numbersMost, numbersGood}
+use Rattle.access.specs.declared.profile.Profile.{Profile}
 use Rattle.laws.specs.Places.{everyTo}
+use Rattle.laws.proofs.Parts.{unmapped}
 use Rattle.laws.proofs.Walks.{every-none, every-more, every-fails}
 use borrow.Author.Tests.{lt-ltb, le-ltb, eq-eqb, ne-eqb, not-true, not-false}
 use borrow.Author.Needs.{needs}
 use native.Mathlib.Omega.{arith}
+use lib.ListN.{length}
 use Prim.Native.Nat.{_-_, _≤_}
 use mathlib.Core.Path.{_≡_, sym, ap, _∙_}
 use mathlib.Core.Bool.{true}
@@ -12,10 +16,11 @@ use Rattle.access.proofs.profile.numbers_good.Statement.{statement}
 use Rattle.access.proofs.profile.numbers_good.Tie as tie
 
 abbrev Inv-loop : tie.InvT-loop
-Inv-loop p count numbers k₀ k = (k ≤ count) × (everyTo (numberFits p) k ≡ true)
+Inv-loop count numbers k₀ k =
+    (k ≤ count) × ((p : Profile) → everyTo (numberFits p count numbers) k ≡ true)
 
 abbrev μ-loop : tie.MeasureT-loop
-μ-loop p count numbers k₀ k = count - k
+μ-loop count numbers k₀ k = count - k
 
 cast-count : tie.Need-cast-count Inv-loop μ-loop
 cast-count c = search needs
@@ -29,7 +34,9 @@ unfolding numbersGood
 returns-2 c = rw (le-ltb _ 1 (c .before .if1 .left), lt-ltb _ _ (c .if2 .taken))
 
 loop-holds : tie.Need-loop-holds Inv-loop μ-loop
-loop-holds c = (omega arith, every-none (numberFits (c .before .before .before .before .args .p)))
+loop-holds c =
+    let s = c .before .before .before .before .args .p in
+    (omega arith, λ p. every-none (numberFits p (s .numbercount) (s .numbers)))
 
 mul-n : tie.Need-mul-n Inv-loop μ-loop
 mul-n c = search needs
@@ -41,13 +48,25 @@ number-good-requires : tie.Need-number-good-requires Inv-loop μ-loop
 number-good-requires c κs = search needs
 
 returns-3 : tie.Need-returns-3 Inv-loop μ-loop
-returns-3 c = let l = c .before .before .before .before in let s = l .before .before .before .before .before .args .p in sym (numbers-fair s (omega arith) (omega arith) ∙ every-fails (numberFits s) (s .numbercount) (l .loop .k) (omega arith) (rw (sym (c .before .number-good .ensures) ∙ not-true _ (c .if3 .taken))))
+returns-3 c = let l = c .before .before .before .before in let s = l .before .before .before .before .before .args .p in sym (numbers-fair s (omega arith) (omega arith) ∙ every-fails (numberFits s (s .numbercount) (s .numbers)) (s .numbercount) (l .loop .k) (omega arith) (rw (sym (c .before .number-good .ensures) ∙ not-true _ (c .if3 .taken))))
 
-number-place-requires : tie.Need-number-place-requires Inv-loop μ-loop
-number-place-requires c κs = search needs
+same-before-requires : tie.Need-same-before-requires Inv-loop μ-loop
+same-before-requires c κs = search needs
 
 returns-4 : tie.Need-returns-4 Inv-loop μ-loop
-returns-4 c = let l = c .before .before .before .before .before .before in let s = l .before .before .before .before .before .args .p in sym (numbers-fair s (omega arith) (omega arith) ∙ every-fails (numberFits s) (s .numbercount) (l .loop .k) (omega arith) (rw (sym (c .before .before .before .number-good .ensures) ∙ not-false _ (c .before .before .if3 .left), ← c .before .number-place .ensures, ne-eqb _ _ (c .if4 .taken))))
+returns-4 c =
+    let l = c .before .before .before .before .before .before in
+    let start = l .before .before .before .before .before in
+    let s = start .args .p in
+    let long : length (s .numbers) ≡ numbersMost = search (unmapped, needs, start .good) in
+    let k = l .loop .k in
+    let some = sym (c .before .same-before .ensures) ∙ c .if4 .taken in
+    sym (numbers-fair s (omega arith) (omega arith)
+    ∙ every-fails (numberFits s (s .numbercount) (s .numbers)) (s .numbercount) k (omega arith)
+    (rw (
+      sym (c .before .before .before .number-good .ensures) ∙ not-false _ (c .before .before .if3 .left),
+      ne-eqb _ _ (later-not s (s .numbers) (s .numbercount) k (omega arith) (omega arith) some),
+    )))
 
 add-k : tie.Need-add-k Inv-loop μ-loop
 add-k c = search needs
@@ -56,10 +75,24 @@ loop-less : tie.Need-loop-less Inv-loop μ-loop
 loop-less c = search needs
 
 loop-again : tie.Need-loop-again Inv-loop μ-loop
-loop-again c = let l = c .before .before .before .before .before .before in let s = l .before .before .before .before .before .args .p in (omega arith, every-more (numberFits s) (l .loop .k) (l .loop .inv .1) (rw (sym (c .before .before .before .number-good .ensures) ∙ not-false _ (c .before .before .if3 .left), ← c .before .number-place .ensures, eq-eqb _ _ (c .if4 .left))))
+loop-again c =
+    let l = c .before .before .before .before .before .before in
+    let start = l .before .before .before .before .before in
+    let s = start .args .p in
+    let long : length (s .numbers) ≡ numbersMost = search (unmapped, needs, start .good) in
+    let k = l .loop .k in
+    let none = sym (c .before .same-before .ensures) ∙ c .if4 .left in (
+      omega arith,
+      λ p.
+          every-more (numberFits p (s .numbercount) (s .numbers)) k (l .loop .inv .1 p)
+          (rw (
+            sym (c .before .before .before .number-good .ensures) ∙ not-false _ (c .before .before .if3 .left),
+            eq-eqb _ _ (first-here p (s .numbers) (s .numbercount) k (omega arith) (omega arith) none),
+          )),
+    )
 
 returns-5 : tie.Need-returns-5 Inv-loop μ-loop
-returns-5 c = let l = c .before in let s = l .before .before .before .before .before .args .p in let e : l .loop .k ≡ s .numbercount = omega arith in sym (numbers-fair s (omega arith) (omega arith) ∙ ap (everyTo (numberFits s)) (sym e) ∙ l .loop .inv .1)
+returns-5 c = let l = c .before in let s = l .before .before .before .before .before .args .p in let e : l .loop .k ≡ s .numbercount = omega arith in sym (numbers-fair s (omega arith) (omega arith) ∙ ap (numbersFit s) (sym e) ∙ l .loop .inv .1 s)
 
 pub numbers-good-spec : {M : Type 1} → statement M
 numbers-good-spec =
@@ -75,7 +108,7 @@ numbers-good-spec =
     array-copy-out-n
     number-good-requires
     returns-3
-    number-place-requires
+    same-before-requires
     returns-4
     add-k
     loop-less
