@@ -1,4 +1,4 @@
-// The cases of the crate coding: what a component says and, where the end could send that request, the octets it would send.
+// The cases of the crates coding and sending: what a component says and, where the end could send that request, the octets it would send.
 use crate::say;
 use coding::Heard;
 use coding::Operation;
@@ -139,7 +139,7 @@ fn code(operation: Operation) -> u8 {
 // The request as the end would send it, if it may.
 fn again(identifier: i16, operation: Operation, request: Request) {
     let mut out = [0u8; 128];
-    let n = coding::put_request(&mut out, identifier, code(operation), request);
+    let n = sending::put_request(&mut out, identifier, code(operation), request);
     if n == 0 {
         return;
     }

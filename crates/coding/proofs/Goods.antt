@@ -1,7 +1,7 @@
 -- What it means that the end may send a request: `sendable`, `servedGood` and `toGood` part by part.
 -- Assumes nothing.
 use Prim.Native.Nat.{ℕ}
-use mathlib.Core.Path.{_≡_}
+use mathlib.Core.Path.{_≡_, refl}
 use mathlib.Core.Bool.{Bool, true, false, false≢true}
 use mathlib.Core.Logic.{_⊎_, inl, inr}
 use lib.Dec.{eqb}
@@ -17,6 +17,32 @@ use Rattle.coding.specs.Request.{activation, deactivation, interrogation
 use Rattle.coding.specs.Sent.{servedGood, toGood, partsGood, sendable, ToFits}
 use Rattle.coding.specs.declared.request.Served.{Served}
 use Rattle.coding.specs.declared.request.Request.{Request}
+
+-- ---- what each of them tests, one thing after the other
+
+pub served-good-is :
+    (v : Served) →
+    servedGood v ≡ pick (eqb (v .all) 1) true (pick (eqb (v .all) 0) (numberGood (v .number)) false)
+unfolding servedGood
+served-good-is v = refl
+
+pub to-good-is : (to : Forwarded) → toGood to ≡ pick (eqb (to .user) 0) (addressGood (to .address)) false
+unfolding toGood
+to-good-is to = refl
+
+module _ (operation : ℕ) (r : Request) where
+  pub parts-good-is :
+      partsGood operation r
+      ≡ pick (eqb operation activation)
+      (pick (serviceCode (r .service)) (pick (toGood (r .to)) (servedGood (r .served)) false) false)
+      (pick (eqb operation deactivation) (pick (serviceCode (r .service)) (servedGood (r .served)) false)
+      (pick (eqb operation interrogation) (pick (eqb (r .service) 0) (eqb (r .served .all) 1) false) false))
+  unfolding partsGood
+  parts-good-is = refl
+
+  pub sendable-is : sendable operation r ≡ pick (procedureCode (r .procedure)) (partsGood operation r) false
+  unfolding sendable
+  sendable-is = refl
 
 -- ---- the parts
 

@@ -3,7 +3,6 @@ pub mod Sizes
 pub mod Readers
 pub mod Arguments
 pub mod Trips
-pub mod Senders
 pub mod Tags
 pub mod Ranges
 pub mod Requests

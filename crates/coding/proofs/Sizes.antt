@@ -112,7 +112,14 @@ abbrev pub componentOctets : ℤ → ℕ → Request → List ℕ
 componentOctets identifier operation r =
     identOctets identifier ++ (identOctets (pos operation) ++ element 0x30 (contentsOctets operation r))
 
--- its size: the identifier, the operation, and the argument, whose head has two octets
+-- and the component around it
+pub request-octets :
+    (identifier : ℤ) (operation : ℕ) (r : Request) →
+    requestOctets identifier operation r ≡ element 0xA1 (componentOctets identifier operation r)
+unfolding requestOctets
+request-octets identifier operation r = refl
+
+-- the size of what it holds: the identifier, the operation, and the argument, whose head has two octets
 pub inside-size :
     (identifier : ℤ) (operation : ℕ) (r : Request) → sendable operation r ≡ true →
     length (componentOctets identifier operation r)

@@ -1,19 +1,16 @@
 -- What the end writes for a request is heard with its identifier and its operation, and its argument reads back.
 -- Assumes nothing.
 use Prim.Native.Nat.{ℕ, _+_, _<_}
-use mathlib.Core.Path.{_≡_, refl, _∙_}
+use mathlib.Core.Path.{_≡_, refl}
 use mathlib.Core.Bool.{true}
 use mathlib.Core.List.{List, _++_}
 use native.Mathlib.Omega.{arith}
 use lib.IntN.{ℤ, pos}
 use lib.Signed.{mag}
-use lib.ListN.{length, take, length-append}
+use lib.ListN.{length, length-append}
 use borrow.Author.Tests.{eq-eqb}
 use Rattle.laws.specs.Got.{got}
-use Rattle.laws.specs.Over.{room}
 use Rattle.laws.specs.Stands.{Stands}
-use Rattle.laws.proofs.Picks.{pick-then, pick-first}
-use Rattle.laws.proofs.Over.{take-over, room-fits}
 use Rattle.laws.proofs.Stands.{stands-whole, stands-left, stands-right}
 use Rattle.octets.specs.Element.{element}
 use Rattle.values.specs.Ident.{identOctets}
@@ -21,7 +18,7 @@ use Rattle.octets.proofs.Elements.{Inside, inside}
 use Rattle.values.proofs.Idents.{ident-back}
 use Rattle.coding.specs.Heard.{insideDepth, componentDepth, replyTag, local, operationAt, identifierAt, heard}
 use Rattle.coding.specs.Request.{argumentAt}
-use Rattle.coding.specs.Sent.{sendable, contentsOctets, requestOctets, tidyRequest, sends, PutRequest}
+use Rattle.coding.specs.Sent.{sendable, contentsOctets, requestOctets, tidyRequest}
 use Rattle.coding.specs.declared.heard.Heard.the-variants.{Asks}
 use Rattle.coding.specs.declared.request.Request.{Request}
 use Rattle.coding.proofs.Goods.{good-request}
@@ -87,28 +84,3 @@ pub request-back :
 request-back identifier operation r range h =
     let s : List ℕ = requestOctets identifier operation r in
     heard-back identifier operation r s range h (stands-whole s) refl
-
--- ---- what is sent
-
--- where octets were put into the output, the request may be sent and there was room for it
-pub sent-some :
-    {xs ys : List ℕ} {identifier : ℤ} {operation count : ℕ} {r : Request} →
-    PutRequest xs identifier operation r count ys → (count ≡ 0 → ⊥) →
-    (sendable operation r ≡ true) × (room xs 0 (requestOctets identifier operation r) ≡ true)
-unfolding sends
-sent-some {xs} {ys} {identifier} {operation} {count} {r} put some =
-    let ws : List ℕ = requestOctets identifier operation r in
-    pick-then (sendable operation r) (room xs 0 ws)
-    (pick-first (sends xs identifier operation r) (length ws) 0 (λ e. some (put .counted ∙ e)))
-
--- and the octets that were put there are those of the request
-pub sent-back :
-    {xs ys : List ℕ} {identifier : ℤ} {operation count : ℕ} {r : Request} →
-    PutRequest xs identifier operation r count ys → (count ≡ 0 → ⊥) →
-    take count ys ≡ requestOctets identifier operation r
-unfolding sends
-sent-back {xs} {ys} {identifier} {operation} {count} {r} put some =
-    let ws : List ℕ = requestOctets identifier operation r in
-    let sent = sent-some put some in
-    rw (put .counted, put .holds, sent .0, sent .1)
-    (take-over xs ws (omega (arith, room-fits xs 0 ws (sent .1))))

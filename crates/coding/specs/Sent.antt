@@ -5,10 +5,8 @@ use mathlib.Core.Path.{_≡_}
 use mathlib.Core.Bool.{Bool, true, false}
 use mathlib.Core.List.{List, [], _++_}
 use lib.IntN.{ℤ, pos}
-use lib.ListN.{length}
 use lib.Dec.{eqb}
 use Rattle.laws.specs.Pick.{pick}
-use Rattle.laws.specs.Over.{over, room}
 use Rattle.octets.specs.Element.{element}
 use Rattle.values.specs.Enumerated.{enumeratedOctets}
 use Rattle.values.specs.Ident.{identOctets}
@@ -70,12 +68,3 @@ tidyTo operation to = pick (eqb operation activation) (record { address = tidyAd
 
 abbrev pub tidyRequest : ℕ → Request → Request
 tidyRequest operation r = requestOf (r .procedure) (r .service) (tidyTo operation (r .to)) (tidyServed (r .served))
-
--- what is sent into the lent output xs: nothing where the request may not be sent or there is no room
-unfoldable pub sends : List ℕ → ℤ → ℕ → Request → Bool
-sends xs identifier operation r = pick (sendable operation r) (room xs 0 (requestOctets identifier operation r)) false
-
--- what `put_request` promises: how many octets were written, and every octet of the output
-pub record PutRequest (xs : List ℕ) (identifier : ℤ) (operation : ℕ) (r : Request) (count : ℕ) (ys : List ℕ) : Type 0 where
-  pub counted : count ≡ pick (sends xs identifier operation r) (length (requestOctets identifier operation r)) 0
-  pub holds : ys ≡ pick (sends xs identifier operation r) (over xs 0 (requestOctets identifier operation r)) xs

@@ -1,9 +1,8 @@
-// Components of document 01: octets to values, and values to octets.
+// Components of document 01: octets to values.
 mod argument;
 mod carried;
 mod heard;
 mod request;
-mod sent;
 
 pub use argument::argument_at;
 pub use carried::ACTIVATION;
@@ -20,4 +19,3 @@ pub use heard::reply_tag;
 pub use request::Request;
 pub use request::RequestRead;
 pub use request::Served;
-pub use sent::put_request;

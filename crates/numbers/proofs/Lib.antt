@@ -2,4 +2,3 @@ pub mod Goods
 pub mod Readers
 pub mod Sizes
 pub mod Trips
-pub mod Writers

@@ -12,9 +12,9 @@ ghost use Rattle.laws.specs.Got.{got, wrong};
 ghost use Rattle.numbers.specs.Number.{typeGood, otherTag, padded, digitsIn, stringAt, publicIn, numberOf, other, numberRead, AllDigits, NumberAt, NumberGood};
 
 // The most digits of a number, which are also the most octets of a subaddress, and the forms of its record.
-pub(crate) const MOST: usize = 20;
+pub const MOST: usize = 20;
 
-pub(crate) const UNKNOWN: u8 = 0;
+pub const UNKNOWN: u8 = 0;
 
 const PUBLIC: u8 = 1;
 

@@ -13,8 +13,10 @@ pub mod OnlyNightly
 pub mod OnlyNumbers
 pub mod OnlyOctets
 pub mod OnlyRules
+pub mod OnlySending
 pub mod OnlySheet
 pub mod OnlySkip
 pub mod OnlyStore
 pub mod OnlyText
 pub mod OnlyValues
+pub mod OnlyWriting

@@ -1,16 +1,13 @@
--- Each promise of the crate coding admits one answer, and one lent output afterwards. Assumes nothing.
+-- Each promise of the crate coding admits one answer. Assumes nothing.
 use Prim.Native.Nat.{ℕ}
 use mathlib.Core.Path.{_≡_}
 use mathlib.Core.Bool.{Bool}
 use mathlib.Core.List.{List}
-use lib.IntN.{ℤ}
 use Rattle.laws.proofs.Picks.{both}
 use Rattle.coding.specs.Heard.{Hears, ReplyTag}
 use Rattle.coding.specs.Request.{ArgumentAt}
-use Rattle.coding.specs.Sent.{PutRequest}
 use Rattle.coding.specs.declared.heard.Heard.{Heard}
 use Rattle.coding.specs.declared.heard.Operation.{Operation}
-use Rattle.coding.specs.declared.request.Request.{Request}
 use Rattle.coding.specs.declared.request.RequestRead.{RequestRead}
 
 pub only-hear : (s : List ℕ) {a b : Heard} → Hears s a → Hears s b → a ≡ b
@@ -21,13 +18,6 @@ pub only-argument-at :
     ArgumentAt operation s at end b →
     a ≡ b
 only-argument-at operation s at end = both
-
-pub only-put-request :
-    (xs : List ℕ) (identifier : ℤ) (operation : ℕ) (r : Request) {m n : ℕ} {ys zs : List ℕ} →
-    PutRequest xs identifier operation r m ys →
-    PutRequest xs identifier operation r n zs →
-    (m ≡ n) × (ys ≡ zs)
-only-put-request xs identifier operation r a b = (both (a .counted) (b .counted), both (a .holds) (b .holds))
 
 pub only-reply-tag : (tag : ℕ) {a b : Bool} → ReplyTag tag a → ReplyTag tag b → a ≡ b
 only-reply-tag tag = both
