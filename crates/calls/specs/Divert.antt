@@ -88,10 +88,22 @@ applying p grid c =
 
 -- ---- what a diverted call becomes
 
+-- what the subscriber has chosen for the calls of a number and a service: the profile has one choice for all
+pub record Options : Type 0 where
+  pub option : ℕ
+  pub release : ℕ
+
+abbrev pub optionsOf : Profile → ℕ → ℕ → Options
+optionsOf p number service = record { option = p .option; release = p .release }
+
+abbrev pub chosen : Profile → Call → Options
+chosen p c = optionsOf p (c .number) (c .service)
+
 -- "option: the profile's on the first, afterwards the smaller of received and profile's"
 unfoldable pub optionAfter : Profile → Call → ℕ
 optionAfter p c =
-    pick (eqb (c .counter) 0) (p .option) (pick (ltb (c .option) (p .option)) (c .option) (p .option))
+    pick (eqb (c .counter) 0) (chosen p c .option)
+    (pick (ltb (c .option) (chosen p c .option)) (c .option) (chosen p c .option))
 
 -- "preference 1 becomes 0 on the first diversion only"
 unfoldable pub preferenceAfter : Call → ℕ
@@ -99,7 +111,7 @@ preferenceAfter c = pick (eqb (c .counter) 0) (pick (eqb (c .preference) 1) 0 (c
 
 -- "original: on the first diversion (counter 0) the served number, presentation likewise; later as received"
 unfoldable pub originalShown : Profile → Call → ℕ
-originalShown p c = pick (eqb (c .counter) 0) (p .release) (c .presentation)
+originalShown p c = pick (eqb (c .counter) 0) (chosen p c .release) (c .presentation)
 
 -- the served number
 unfoldable pub servedOf : Profile → Call → Number
@@ -116,7 +128,7 @@ onward p c called = record {
   counter = c .counter + 1;
   called = called;
   redirecting = servedOf p c;
-  redirectingshown = p .release;
+  redirectingshown = chosen p c .release;
   originalshown = originalShown p c;
   preference = preferenceAfter c;
   option = optionAfter p c;

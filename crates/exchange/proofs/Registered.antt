@@ -29,7 +29,7 @@ use Rattle.store.specs.declared.row.Row.{Row}
 use Rattle.store.proofs.Turns.{bothAt}
 use Rattle.store.proofs.Rows.{held-put, held-clear}
 use Rattle.store.proofs.Listings.{entries-places, none-active, active-none}
-use Rattle.rules.specs.Selection.{selects, placesOf}
+use Rattle.rules.specs.Selection.{selects, concerns, placesOf}
 use Rattle.rules.specs.Judge.{first, everyTests, judge, applied}
 use Rattle.rules.specs.declared.verdict.Verdict.{Verdict}
 use Rattle.rules.specs.declared.verdict.Verdict.the-variants.{Passes, Fails}
@@ -59,7 +59,7 @@ module _ (p : Profile) (t : Table) (identifier : ℤ) (r : Request) where
   Everywhere now grid =
       (k j : ℕ) → k < procedures → j < places →
       held (rowAt grid k) j
-      ≡ pick (eqb k (r .procedure)) (pick (selects p r j) now (held (rowAt (t .grid) k) j)) (held (rowAt (t .grid) k) j)
+      ≡ pick (concerns r k) (pick (selects p r j) now (held (rowAt (t .grid) k) j)) (held (rowAt (t .grid) k) j)
 
   -- a result, and all is done; or an error, and nothing is
   pub data AllOrNothing (now : Option Address) (x : Step) : Type 0 where

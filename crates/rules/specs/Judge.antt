@@ -47,11 +47,15 @@ isSubscribed p procedure = pick (eqb (getD (p .subscribed) procedure 0) 0) false
 abbrev pub notSubscribed : Profile → Request → Bool
 notSubscribed p r = pick (isSubscribed p (r .procedure)) false true
 
+-- "'allNumbers' needs the option"
+abbrev pub allowsWhole : Profile → Bool
+allowsWhole p = pick (eqb (p .all) 0) false true
+
 -- "With MSN an individual one must be in the profile; 'allNumbers' needs the option."
 unfoldable pub servedInvalid : Profile → Request → Bool
 servedInvalid p r =
     pick (eqb (p .msn) 0) false
-    (pick (eqb (r .served .all) 1) (eqb (p .all) 0) (leb (p .numbercount) (placeIn p (r .served .number) (servedNumbers p))))
+    (pick (eqb (r .served .all) 1) (pick (allowsWhole p) false true) (leb (p .numbercount) (placeIn p (r .served .number) (servedNumbers p))))
 
 -- ---- the tests of an activation
 

@@ -38,6 +38,10 @@ selects p r j =
     false)
     false
 
+-- the procedure that a request names is the one that it concerns
+abbrev pub concerns : Request → ℕ → Bool
+concerns r procedure = eqb procedure (r .procedure)
+
 -- the places that a request selects, each by the code of its service
 unfoldable pub placesOf : Profile → Request → Places
 placesOf p r = record {

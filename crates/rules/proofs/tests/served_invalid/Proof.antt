@@ -1,8 +1,15 @@
 use Rattle.rules.specs.Judge.{servedInvalid}
+use Rattle.laws.specs.Pick.{pick}
 use borrow.Author.Tests.{eq-eqb, ne-eqb}
 use borrow.Author.Needs.{needs}
+use mathlib.Core.Path.{_≡_, refl}
+use mathlib.Core.Bool.{Bool, true, false}
 use Rattle.rules.proofs.tests.served_invalid.Statement.{statement}
 use Rattle.rules.proofs.tests.served_invalid.Tie as tie
+
+not-allowed : (b : Bool) → b ≡ pick (pick b false true) false true
+not-allowed true = refl
+not-allowed false = refl
 
 returns : tie.Need-returns
 unfolding servedInvalid
@@ -10,7 +17,7 @@ returns c = rw (eq-eqb _ _ (c .if1 .taken))
 
 returns-2 : tie.Need-returns-2
 unfolding servedInvalid
-returns-2 c = rw (ne-eqb _ _ (c .before .before .before .before .if1 .left), eq-eqb _ _ (c .before .if2 .taken))
+returns-2 c = rw (ne-eqb _ _ (c .before .before .before .before .if1 .left), eq-eqb _ _ (c .before .if2 .taken)) (not-allowed _)
 
 cast-count : tie.Need-cast-count
 cast-count c = search needs
