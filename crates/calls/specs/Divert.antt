@@ -88,7 +88,7 @@ applying p grid c =
 
 -- ---- what a diverted call becomes
 
--- what the subscriber has chosen for the calls of a number and a service: the profile has one choice for all
+-- the notification option and the release flag for the calls of a number and a service: a profile has one pair for all ("Profile and table")
 pub record Options : Type 0 where
   pub option : ℕ
   pub release : ℕ
