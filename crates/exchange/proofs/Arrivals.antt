@@ -35,7 +35,7 @@ use Rattle.answers.specs.Answer.{answerOctets, PutAnswer}
 use Rattle.answers.specs.declared.answer.Answer.{Answer}
 use Rattle.answers.proofs.Fits.{Fits, answer-most}
 use Rattle.exchange.specs.Table.{tableGood, withRow, withLast}
-use Rattle.exchange.specs.Question.{question}
+use Rattle.questions.specs.Question.{question}
 use Rattle.exchange.specs.Step.{Step, resultOf, verdictOf, handled, stepOf, step, Stepping}
 use Rattle.exchange.specs.Arrive.{toldBy, outputLeast, componentMost, Done, refused, answered, done, refusedBy, Arrives}
 use Rattle.exchange.specs.declared.table.Table.{Table}
@@ -44,9 +44,9 @@ use Rattle.exchange.specs.declared.arrive.Refusal.{Refusal}
 use Rattle.exchange.specs.declared.arrive.Refusal.the-variants.{ShortOutput, LongComponent, BadProfile, BadTable}
 use Rattle.exchange.specs.declared.arrive.Outcome.the-variants.{Answers}
 use Rattle.exchange.specs.declared.arrive.Arrived.{Arrived}
-use Rattle.exchange.proofs.Questions.{question-asks, question-range}
+use Rattle.questions.proofs.Questions.{question-asks, question-range}
 use Rattle.exchange.proofs.Tables.{table-good}
-use Rattle.exchange.proofs.Fitting.{question-fits}
+use Rattle.questions.proofs.Fitting.{question-fits}
 
 -- ---- the refusals, lowest first
 

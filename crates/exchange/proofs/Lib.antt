@@ -1,7 +1,5 @@
-pub mod Questions
 pub mod Tables
 pub mod Steps
-pub mod Fitting
 pub mod Arrivals
 pub mod Shapes
 pub mod Kept

@@ -24,9 +24,9 @@ use Rattle.rules.specs.Judge.{judge, applied}
 use Rattle.rules.specs.declared.verdict.Verdict.the-variants.{Passes, Fails}
 use Rattle.answers.specs.declared.answer.Answer.the-variants.{Listing, Result, Error}
 use Rattle.exchange.specs.Table.{withRow, withLast}
-use Rattle.exchange.specs.Question.{question}
+use Rattle.questions.specs.Question.{question}
 use Rattle.exchange.specs.Step.{moved, resultOf, handled, stepOf, step, Handles, Steps}
-use Rattle.exchange.specs.declared.question.Question.{Question}
+use Rattle.questions.specs.declared.question.Question.{Question}
 use Rattle.exchange.specs.declared.table.Table.{Table}
 use Rattle.exchange.specs.declared.step.Stepped.{Stepped}
 

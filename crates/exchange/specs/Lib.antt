@@ -1,4 +1,3 @@
 pub mod Table
-pub mod Question
 pub mod Step
 pub mod Arrive

@@ -22,8 +22,8 @@ use Rattle.rules.specs.declared.verdict.Verdict.the-variants.{Passes, Fails}
 use Rattle.answers.specs.declared.answer.Answer.{Answer}
 use Rattle.answers.specs.declared.answer.Answer.the-variants as answer
 use Rattle.exchange.specs.Table.{withRow, withLast}
-use Rattle.exchange.specs.Question.{question}
-use Rattle.exchange.specs.declared.question.Question.{Question}
+use Rattle.questions.specs.Question.{question}
+use Rattle.questions.specs.declared.question.Question.{Question}
 use Rattle.exchange.specs.declared.table.Table.{Table}
 use Rattle.exchange.specs.declared.step.Stepped.{Stepped}
 

@@ -1,6 +1,5 @@
 // The exchange: a table, and what it does with each arriving component (document 01, "Replies", "Local refusals").
 mod arrive;
-mod question;
 mod step;
 mod table;
 

@@ -1,11 +1,11 @@
 // What the exchange does with a component that is not refused (document 01, "Replies, in the order checked").
-use crate::question::Question;
 use access::Profile;
 use answers::Answer;
 use coding::INTERROGATION;
 use coding::Request;
 use lists::Entries;
 use lists::no_entries;
+use questions::Question;
 use rules::Verdict;
 use rules::apply_request;
 use rules::judge_request;

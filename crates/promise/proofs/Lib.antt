@@ -2,7 +2,6 @@ pub mod Samples
 pub mod OnlyAccess
 pub mod OnlyAnswers
 pub mod OnlyCalls
-pub mod OnlyCard
 pub mod OnlyCodes
 pub mod OnlyCoding
 pub mod OnlyExchange
@@ -12,6 +11,7 @@ pub mod OnlyLists
 pub mod OnlyNightly
 pub mod OnlyNumbers
 pub mod OnlyOctets
+pub mod OnlyQuestions
 pub mod OnlyRules
 pub mod OnlySending
 pub mod OnlySheet

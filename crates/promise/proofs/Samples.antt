@@ -28,7 +28,7 @@ use Rattle.store.specs.Grid.{gridGood}
 use Rattle.rules.specs.Judge.{isSubscribed, servedInvalid, notProvided, otherKind, begins, beginsAny, selectedSame, fits, noRoom, judge, applied}
 use Rattle.rules.specs.Selection.{numberChosen, serviceChosen, selects, placesOf}
 use Rattle.exchange.specs.Table.{tableGood}
-use Rattle.exchange.specs.Question.{notAbove, duplicate, known, invoked, question}
+use Rattle.questions.specs.Question.{notAbove, duplicate, known, invoked, question}
 use Rattle.exchange.specs.Step.{moved, resultOf, handled, stepOf, step}
 use Rattle.exchange.specs.Arrive.{done}
 use Rattle.calls.specs.Call.{callFrom, namesGood, valuesGood, originalGood, callGood}

@@ -1,9 +1,9 @@
-use Rattle.exchange.specs.Question.{duplicate}
+use Rattle.questions.specs.Question.{duplicate}
 use mir.Facts.{toZ-ofZ}
 use borrow.Author.Tests.{eq-eqb, ne-eqb}
 use borrow.Author.Needs.{needs}
-use Rattle.exchange.proofs.question.is_duplicate.Statement.{statement}
-use Rattle.exchange.proofs.question.is_duplicate.Tie as tie
+use Rattle.questions.proofs.question.is_duplicate.Statement.{statement}
+use Rattle.questions.proofs.question.is_duplicate.Tie as tie
 
 not-above-requires : tie.Need-not-above-requires
 not-above-requires c κs = search needs

@@ -1,6 +1,7 @@
 -- What an arriving component asks of the exchange, or the answer that it gets at once: the rows of document 01's table down to
 -- "argument" (document 01, "Replies, in the order checked").
 use Prim.Native.Nat.{ℕ}
+use mathlib.Core.Path.{_≡_}
 use mathlib.Core.Bool.{Bool, true, false}
 use mathlib.Core.List.{List, []}
 use lib.IntN.{ℤ, pos, negsuc}
@@ -21,7 +22,7 @@ use Rattle.answers.specs.declared.answer.Problem.{Problem}
 use Rattle.answers.specs.declared.answer.Problem.the-variants.{General, Invoke}
 use Rattle.answers.specs.declared.answer.Whose.{Whose}
 use Rattle.answers.specs.declared.answer.Whose.the-variants.{Null, Own}
-use Rattle.exchange.specs.declared.question.Question.{Question}
+use Rattle.questions.specs.declared.question.Question.{Question}
 
 -- a request that must be judged
 abbrev pub asks : ℤ → ℕ → Request → Question
@@ -85,3 +86,7 @@ questionOf p last s (heard.Asks identifier operation at end) = invoked p last s 
 -- what the component s asks of an exchange that has handled `last`
 unfoldable pub question : Profile → ℕ → List ℕ → Question
 question p last s = questionOf p last s (heard s)
+
+-- what `question_of` promises
+abbrev pub QuestionOf : Profile → ℕ → List ℕ → Question → Type 0
+QuestionOf p last s r = r ≡ question p last s

@@ -1,6 +1,6 @@
-use Rattle.exchange.proofs.Questions.{activation-known, deactivation-known, interrogation-known}
-use Rattle.exchange.proofs.question.is_known.Statement.{statement}
-use Rattle.exchange.proofs.question.is_known.Tie as tie
+use Rattle.questions.proofs.Questions.{activation-known, deactivation-known, interrogation-known}
+use Rattle.questions.proofs.question.is_known.Statement.{statement}
+use Rattle.questions.proofs.question.is_known.Tie as tie
 
 returns : tie.Need-returns
 returns c = activation-known (c .before .args .operation) (c .before .fits .operation) (c .if1 .taken)

@@ -1,5 +1,5 @@
-use Rattle.exchange.specs.Question.{invoked}
-use Rattle.exchange.proofs.Questions.{code-fits, code-cast, argued-found, argued-none}
+use Rattle.questions.specs.Question.{invoked}
+use Rattle.questions.proofs.Questions.{code-fits, code-cast, argued-found, argued-none}
 use Rattle.coding.specs.Request.{argumentAt}
 use mir.Facts.{toZ-ofZ}
 use mir.Val.{SFits}
@@ -7,8 +7,8 @@ use mir.Syntax.{w16}
 use mathlib.Core.Path.{sym, _∙_}
 use borrow.Author.Tests.{not-true, not-false}
 use borrow.Author.Needs.{needs}
-use Rattle.exchange.proofs.question.invoked_by.Statement.{statement}
-use Rattle.exchange.proofs.question.invoked_by.Tie as tie
+use Rattle.questions.proofs.question.invoked_by.Statement.{statement}
+use Rattle.questions.proofs.question.invoked_by.Tie as tie
 
 is-duplicate-requires : tie.Need-is-duplicate-requires
 is-duplicate-requires c κs = search needs

@@ -18,7 +18,7 @@ use numbers::Number;
 ghost use mathlib.Core.Path.{_≡_};
 ghost use Rattle.answers.specs.declared.answer.Problem.the-variants.{General};
 ghost use Rattle.answers.specs.declared.answer.Whose.the-variants.{Null};
-ghost use Rattle.exchange.specs.Question.{notAbove, duplicate, known, says, rejects, invoked, question};
+ghost use Rattle.questions.specs.Question.{notAbove, duplicate, known, says, rejects, invoked, QuestionOf};
 
 // The operations as the numbers that an identifier's reader hands on.
 const ACTIVATIONVALUE: i16 = ACTIVATION as i16;
@@ -28,12 +28,12 @@ const DEACTIVATIONVALUE: i16 = DEACTIVATION as i16;
 const INTERROGATIONVALUE: i16 = INTERROGATION as i16;
 
 // A request that must be judged, with its identifier and its operation's code; or, where `asked` is false, the answer.
-pub(crate) struct Question {
-    pub(crate) asked: bool,
-    pub(crate) answer: Answer,
-    pub(crate) identifier: i16,
-    pub(crate) operation: u8,
-    pub(crate) request: Request,
+pub struct Question {
+    pub asked: bool,
+    pub answer: Answer,
+    pub identifier: i16,
+    pub operation: u8,
+    pub request: Request,
 }
 
 // An answer at once.
@@ -148,8 +148,8 @@ fn rejects_null(problem: u8) -> Question
 }
 
 // What the component `s` asks of an exchange that has handled `last`.
-pub(crate) fn question_of(p: Profile, last: u16, s: &[u8]) -> Question
-    ensures { λ r. ⌜ r ≡ question p last (now (s .entry)) ⌝ }
+pub fn question_of(p: Profile, last: u16, s: &[u8]) -> Question
+    ensures { λ r. ⌜ QuestionOf p last (now (s .entry)) r ⌝ }
 {
     match hear(s) {
         Heard::NotOne => rejects_null(2),

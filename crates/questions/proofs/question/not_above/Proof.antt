@@ -1,6 +1,6 @@
-use Rattle.exchange.proofs.Questions.{below-zero, from-zero, from-zero-fits}
-use Rattle.exchange.proofs.question.not_above.Statement.{statement}
-use Rattle.exchange.proofs.question.not_above.Tie as tie
+use Rattle.questions.proofs.Questions.{below-zero, from-zero, from-zero-fits}
+use Rattle.questions.proofs.question.not_above.Statement.{statement}
+use Rattle.questions.proofs.question.not_above.Tie as tie
 
 returns : tie.Need-returns
 returns c =

@@ -1,4 +1,4 @@
--- Each promise of the crate card admits one answer, and one lent output afterwards. Assumes nothing.
+-- Each promise of this crate admits one answer, and one lent output afterwards. Assumes nothing.
 use Prim.Native.Nat.{ℕ}
 use mathlib.Core.Path.{_≡_, ap, _∙_}
 use mathlib.Core.List.{List}
@@ -7,21 +7,20 @@ use Rattle.laws.proofs.Over.{only-puts}
 use Rattle.laws.proofs.Picks.{both}
 use Rattle.lists.specs.Listed.{PutList}
 use Rattle.lists.specs.declared.entries.Entries.{Entries}
 use Rattle.card.specs.Said.{SaidBy}
 use Rattle.card.specs.Told.{ToldBy}
 use Rattle.card.specs.Arrival.{ArrivedBy}
 use Rattle.card.specs.declared.said.Said.{Said}
 use Rattle.card.specs.declared.list.Told.{Told}
 use Rattle.card.specs.declared.arrival.Arrival.{Arrival}
 use Rattle.card.specs.Diversion.{DivertedBy, CopiesOriginal}
 use Rattle.card.specs.declared.diversion.Diverted.{Diverted}
 use Rattle.card.specs.Sheets.{SheetWrittenBy, SheetTakenBy, SheetListedBy}
 use Rattle.card.specs.declared.sheets.SheetWritten.{SheetWritten}
 use Rattle.card.specs.declared.sheets.SheetTaken.{SheetTaken}
 use Rattle.calls.specs.declared.diverting.Onward.{Onward}
 use Rattle.exchange.specs.Table.{FreshTable}
 use Rattle.exchange.specs.declared.table.Table.{Table}
-use Rattle.promise.proofs.OnlyLists.{only-put-list}
 
 pub only-sconcetoad-said : (s : List ℕ) {a b : Said} → SaidBy s a → SaidBy s b → a ≡ b
 only-sconcetoad-said s = both
@@ -33,7 +32,7 @@ pub only-sconcetoad-put-list :
     (xs : List ℕ) (identifier : ℤ) (list : Entries) {m n : ℕ} {ys zs : List ℕ} → PutList xs identifier list m ys →
     PutList xs identifier list n zs →
     (m ≡ n) × (ys ≡ zs)
-only-sconcetoad-put-list = only-put-list
+only-sconcetoad-put-list xs identifier list = only-puts
 
 pub only-sconcetoad-fresh-table : {a b : Table} → FreshTable a → FreshTable b → a ≡ b
 only-sconcetoad-fresh-table = both

@@ -32,8 +32,8 @@ use Rattle.answers.specs.declared.answer.Problem.{Problem}
 use Rattle.answers.specs.declared.answer.Problem.the-variants.{General, Invoke}
 use Rattle.answers.specs.declared.answer.Whose.{Whose}
 use Rattle.answers.specs.declared.answer.Whose.the-variants.{Null, Own}
-use Rattle.exchange.specs.Question.{asks, rejects, notAbove, duplicate, known, codeOf, argued, invoked, questionOf, question}
-use Rattle.exchange.specs.declared.question.Question.{Question}
+use Rattle.questions.specs.Question.{asks, rejects, notAbove, duplicate, known, codeOf, argued, invoked, questionOf, question}
+use Rattle.questions.specs.declared.question.Question.{Question}
 
 -- ---- the machine's tests
 

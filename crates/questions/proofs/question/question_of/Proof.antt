@@ -1,11 +1,11 @@
-use Rattle.exchange.specs.Question.{question}
+use Rattle.questions.specs.Question.{question}
 use mir.Facts.{toZ-ofZ}
 use mir.Val.{SFits}
 use mir.Syntax.{w16}
 use mathlib.Core.Path.{sym, _∙_}
 use borrow.Author.Needs.{needs}
-use Rattle.exchange.proofs.question.question_of.Statement.{statement}
-use Rattle.exchange.proofs.question.question_of.Tie as tie
+use Rattle.questions.proofs.question.question_of.Statement.{statement}
+use Rattle.questions.proofs.question.question_of.Tie as tie
 
 hear-requires : tie.Need-hear-requires
 hear-requires c κs = search needs

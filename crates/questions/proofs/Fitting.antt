@@ -14,8 +14,8 @@ use Rattle.coding.specs.declared.heard.Operation.{Operation}
 use Rattle.coding.specs.declared.request.Request.{Request}
 use Rattle.coding.proofs.Ranges.{HeardRanges, heard-range}
 use Rattle.answers.proofs.Fits.{Fits}
-use Rattle.exchange.specs.Question.{duplicate, known, argued, invoked, questionOf, question}
-use Rattle.exchange.specs.declared.question.Question.{Question}
+use Rattle.questions.specs.Question.{duplicate, known, argued, invoked, questionOf, question}
+use Rattle.questions.specs.declared.question.Question.{Question}
 
 argued-fits :
     (identifier : ℤ) (operation : Operation) (g : Got Request) → mag identifier < 32768 →
