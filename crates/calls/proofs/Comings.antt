@@ -20,10 +20,10 @@ use Rattle.access.proofs.Records.{access-good, access-size}
 use Rattle.lists.specs.Entries.{limit}
 use Rattle.exchange.specs.Table.{tableGood}
 use Rattle.exchange.specs.declared.table.Table.{Table}
+use Rattle.onward.specs.declared.call.Call.{Call}
 use Rattle.calls.specs.Call.{originalAt, callFrom, callGood}
 use Rattle.calls.specs.Divert.{servedOf, onward, Comes, refused, byInstance, byCall, applying, comes}
 use Rattle.calls.specs.Original.{servedAt, handedOn, goesOn, originalIn}
-use Rattle.calls.specs.declared.call.Call.{Call}
 use Rattle.calls.specs.declared.diverting.Refusal.the-variants.{BadProfile, BadTable, BadCall}
 use Rattle.calls.proofs.Records.{good-call}
 

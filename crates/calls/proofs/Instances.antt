@@ -15,9 +15,9 @@ use Rattle.store.specs.declared.row.Instance.{Instance}
 use Rattle.store.specs.declared.row.Row.{Row}
 use Rattle.store.specs.declared.grid.Grid.{Grid}
 use Rattle.store.proofs.Instances.{instance-ok, instance-address}
-use Rattle.calls.specs.Call.{offered, busy, eventNo}
+use Rattle.onward.specs.Onward.{offered, busy, eventNo}
+use Rattle.onward.specs.declared.call.Call.{Call}
 use Rattle.calls.specs.Divert.{procedureOf, slotOf, placeOfCall, applying}
-use Rattle.calls.specs.declared.call.Call.{Call}
 
 pub procedure-known : (event : ℕ) → procedureOf event < procedures
 procedure-known event =

@@ -1,12 +1,11 @@
--- How far a call is diverted: its counter and the diversion limit, its option and the profile's (document 01, "Calls").
--- Assumes nothing.
+-- How far a call is diverted: its counter and the diversion limit (document 01, "Calls"). Assumes nothing.
 use Prim.Native.Nat.{ℕ, _≤_, _<_}
 use mathlib.Core.Path.{_≡_, ap}
 use mathlib.Core.List.{List}
 use mathlib.Core.Option.{Option, none, some}
 use native.Mathlib.Omega.{arith}
-use lib.Dec.{ltb, eqb}
-use borrow.Author.Tests.{ne-eqb, ltb-true, ltb-false}
+use lib.Dec.{ltb}
+use borrow.Author.Tests.{ltb-true}
 use Rattle.laws.proofs.Picks.{pick-ind}
 use Rattle.numbers.specs.declared.address.Address.{Address}
 use Rattle.access.specs.Access.{accessRead}
@@ -14,31 +13,9 @@ use Rattle.access.specs.declared.profile.Profile.{Profile}
 use Rattle.lists.specs.Entries.{limit}
 use Rattle.exchange.specs.Table.{tableGood}
 use Rattle.exchange.specs.declared.table.Table.{Table}
+use Rattle.onward.specs.declared.call.Call.{Call}
 use Rattle.calls.specs.Call.{callFrom, callGood}
-use Rattle.calls.specs.Divert.{Told, refuses, passes, diverts, applying, optionAfter, onward, Comes, nowhere, byInstance, byCall, comes}
-use Rattle.calls.specs.declared.call.Call.{Call}
-
--- ---- the option: "the profile's on the first, afterwards the smaller of received and profile's"
-
-module _ (p : Profile) (c : Call) where
-  -- it is never above the profile's
-  pub option-least : optionAfter p c ≤ p .option
-  unfolding optionAfter
-  option-least =
-      let P : ℕ → Type 0 = λ k. k ≤ p .option in
-      pick-ind P (eqb (c .counter) 0) (λ _. omega arith)
-      (λ _. pick-ind P (ltb (c .option) (p .option))
-      (λ below. omega (arith, ltb-true (c .option) (p .option) below))
-      (λ _. omega arith))
-
-  -- nor above the one received, on a later diversion
-  pub option-received : (c .counter ≡ 0 → ⊥) → optionAfter p c ≤ c .option
-  unfolding optionAfter
-  option-received later =
-      rw (ne-eqb (c .counter) 0 later)
-      (pick-ind (λ k. k ≤ c .option) (ltb (c .option) (p .option))
-      (λ _. omega arith)
-      (λ above. omega (arith, ltb-false (c .option) (p .option) above)))
+use Rattle.calls.specs.Divert.{Told, refuses, passes, diverts, applying, onward, Comes, nowhere, byInstance, byCall, comes}
 
 -- ---- the counter: "one more", and "An instance and counter not below the limit: refusal 6"
 

@@ -3,9 +3,10 @@ use Prim.Native.Nat.{ℕ}
 use mathlib.Core.Path.{_≡_, refl, sym, ap, _∙_}
 use lib.Dec.{eqb}
 use Rattle.laws.specs.Pick.{pick}
-use Rattle.calls.specs.Divert.{reasonNo, noticeNo, refusalNo, Told, refuses, passes, diverts, toldBy}
-use Rattle.calls.specs.declared.diverting.Reason.{Reason}
-use Rattle.calls.specs.declared.diverting.Reason.the-variants.{Cfu, Cfb, Cfnr}
+use Rattle.onward.specs.Onward.{reasonNo}
+use Rattle.onward.specs.declared.onward.Reason.{Reason}
+use Rattle.onward.proofs.Reasons.{reasonBy, reason-by}
+use Rattle.calls.specs.Divert.{noticeNo, refusalNo, Told, refuses, passes, diverts, toldBy}
 use Rattle.calls.specs.declared.diverting.Notice.{Notice}
 use Rattle.calls.specs.declared.diverting.Notice.the-variants.{Silent, Diverting, DivertingTo}
 use Rattle.calls.specs.declared.diverting.Refusal.{Refusal}
@@ -23,14 +24,6 @@ refusal-of BadProfile = refl
 refusal-of BadTable = refl
 refusal-of BadCall = refl
 refusal-of LimitReached = refl
-
-abbrev reasonBy : ℕ → Reason
-reasonBy n = pick (eqb n 1) Cfu (pick (eqb n 2) Cfb Cfnr)
-
-reason-by : (a : Reason) → a ≡ reasonBy (reasonNo a)
-reason-by Cfu = refl
-reason-by Cfb = refl
-reason-by Cfnr = refl
 
 abbrev noticeBy : ℕ → Notice
 noticeBy n = pick (eqb n 0) Silent (pick (eqb n 1) Diverting DivertingTo)

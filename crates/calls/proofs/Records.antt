@@ -12,8 +12,8 @@ use Rattle.laws.proofs.Picks.{pick-then}
 use Rattle.codes.specs.Codes.{serviceCode}
 use Rattle.numbers.specs.Number.{most, allDigits}
 use Rattle.access.specs.declared.profile.Profile.{Profile}
+use Rattle.onward.specs.declared.call.Call.{Call}
 use Rattle.calls.specs.Call.{originalAt, callSize, callFrom, namesGood, valuesGood, originalGood, callGood}
-use Rattle.calls.specs.declared.call.Call.{Call}
 
 -- a good record: its size, its number and its digits
 pub record GoodCall (p : Profile) (s : List ℕ) : Type 0 where

@@ -16,9 +16,10 @@ use Rattle.access.specs.declared.profile.Profile.{Profile}
 use Rattle.lists.specs.Entries.{limit}
 use Rattle.exchange.specs.Table.{tableGood}
 use Rattle.exchange.specs.declared.table.Table.{Table}
+use Rattle.onward.specs.Onward.{optionAfter}
+use Rattle.onward.specs.declared.call.Call.{Call}
 use Rattle.calls.specs.Call.{callFrom, callGood}
-use Rattle.calls.specs.Divert.{applying, optionAfter, noticed, onward, Comes, goes, byCall, comes}
-use Rattle.calls.specs.declared.call.Call.{Call}
+use Rattle.calls.specs.Divert.{applying, noticed, onward, Comes, goes, byCall, comes}
 
 -- what comes of two calls is told alike: the reason and the notice, the counter, and the number of the notice
 pub record Alike (x y : Comes) : Type 0 where

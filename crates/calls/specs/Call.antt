@@ -9,7 +9,8 @@ use Rattle.laws.specs.Pick.{pick}
 use Rattle.codes.specs.Codes.{serviceCode}
 use Rattle.numbers.specs.Number.{most, allDigits}
 use Rattle.access.specs.declared.profile.Profile.{Profile}
-use Rattle.calls.specs.declared.call.Call.{Call}
+use Rattle.onward.specs.Onward.{noReply, eventNo}
+use Rattle.onward.specs.declared.call.Call.{Call}
 
 -- where the digits of the original number stand, and the size of the record
 abbrev pub originalAt : ℕ
@@ -29,17 +30,6 @@ callFrom s = record {
   preference = getD s 6 0;
   count = getD s 7 0;
 }
-
--- "an event (offered, busy, no reply)", and its number in the record
-pub data Event : Type 0 where
-  offered : Event
-  busy : Event
-  noReply : Event
-
-abbrev pub eventNo : Event → ℕ
-eventNo offered = 0
-eventNo busy = 1
-eventNo noReply = 2
 
 -- "names a profile number, a service": one of the sixteen, whether or not it is subscribed
 unfoldable pub namesGood : Profile → Call → Bool

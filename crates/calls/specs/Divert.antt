@@ -19,10 +19,9 @@ use Rattle.store.specs.Grid.{rowAt}
 use Rattle.store.specs.declared.grid.Grid.{Grid}
 use Rattle.exchange.specs.Table.{tableGood}
 use Rattle.exchange.specs.declared.table.Table.{Table}
-use Rattle.calls.specs.Call.{offered, busy, eventNo, callFrom, callGood}
-use Rattle.calls.specs.declared.call.Call.{Call}
-use Rattle.calls.specs.declared.diverting.Reason.{Reason}
-use Rattle.calls.specs.declared.diverting.Reason.the-variants as reason
+use Rattle.onward.specs.Onward.{offered, busy, eventNo, reasonNo, reasonOf, chosen, optionAfter, preferenceAfter, originalShown}
+use Rattle.onward.specs.declared.call.Call.{Call}
+use Rattle.calls.specs.Call.{callFrom, callGood}
 use Rattle.calls.specs.declared.diverting.Notice.{Notice}
 use Rattle.calls.specs.declared.diverting.Notice.the-variants as notice
 use Rattle.calls.specs.declared.diverting.Refusal.{Refusal}
@@ -33,12 +32,6 @@ use Rattle.calls.specs.declared.diverting.Onward.{Onward}
 use Rattle.calls.specs.declared.diverting.Diversion.{Diversion}
 
 -- ---- document 01's numbers
-
--- "reason cfu 1, cfb 2, cfnr 3"
-abbrev pub reasonNo : Reason → ℕ
-reasonNo reason.Cfu = 1
-reasonNo reason.Cfb = 2
-reasonNo reason.Cfnr = 3
 
 -- "none at 0; 'call is diverting' without number at 1; with forwarded-to number at 2"
 abbrev pub noticeNo : Notice → ℕ
@@ -88,31 +81,6 @@ applying p grid c =
 
 -- ---- what a diverted call becomes
 
--- the notification option and the release flag for the calls of a number and a service: a profile has one pair for all ("Profile and table")
-pub record Options : Type 0 where
-  pub option : ℕ
-  pub release : ℕ
-
-abbrev pub optionsOf : Profile → ℕ → ℕ → Options
-optionsOf p number service = record { option = p .option; release = p .release }
-
-abbrev pub chosen : Profile → Call → Options
-chosen p c = optionsOf p (c .number) (c .service)
-
--- "option: the profile's on the first, afterwards the smaller of received and profile's"
-unfoldable pub optionAfter : Profile → Call → ℕ
-optionAfter p c =
-    pick (eqb (c .counter) 0) (chosen p c .option)
-    (pick (ltb (c .option) (chosen p c .option)) (c .option) (chosen p c .option))
-
--- "preference 1 becomes 0 on the first diversion only"
-unfoldable pub preferenceAfter : Call → ℕ
-preferenceAfter c = pick (eqb (c .counter) 0) (pick (eqb (c .preference) 1) 0 (c .preference)) (c .preference)
-
--- "original: on the first diversion (counter 0) the served number, presentation likewise; later as received"
-unfoldable pub originalShown : Profile → Call → ℕ
-originalShown p c = pick (eqb (c .counter) 0) (chosen p c .release) (c .presentation)
-
 -- the served number
 unfoldable pub servedOf : Profile → Call → Number
 servedOf p c = getD (p .numbers) (c .number) noNumber
@@ -161,10 +129,6 @@ abbrev pub refused : Refusal → Comes
 refused r = stays (Refuses r)
 
 -- the reason, and the notice whose number is the resulting option
-unfoldable pub reasonOf : ℕ → ℕ
-reasonOf event =
-    pick (eqb event (eventNo offered)) (reasonNo reason.Cfu) (pick (eqb event (eventNo busy)) (reasonNo reason.Cfb) (reasonNo reason.Cfnr))
-
 abbrev pub goes : Profile → Call → Address → Comes
 goes p c called = record { told = diverts (reasonOf (c .event)) (optionAfter p c); call = onward p c called }
 

@@ -9,9 +9,9 @@ use Rattle.laws.specs.Pick.{pick}
 use Rattle.access.specs.Access.{accessRead, numbersAt, numberSize}
 use Rattle.access.specs.declared.profile.Profile.{Profile}
 use Rattle.exchange.specs.declared.table.Table.{Table}
+use Rattle.onward.specs.declared.call.Call.{Call}
 use Rattle.calls.specs.Call.{originalAt, callFrom}
 use Rattle.calls.specs.Divert.{Told, refuses, passes, diverts, servedOf, comes}
-use Rattle.calls.specs.declared.call.Call.{Call}
 
 -- where the digits of a number stand in the access record: after its form, type and count
 abbrev pub servedAt : ℕ → ℕ

@@ -2,6 +2,7 @@
 use access::Profile;
 use codes::service_code;
 use numbers::all_digits;
+use onward::Call;
 ghost use mathlib.Core.Path.{_≡_};
 ghost use lib.ListN.{length};
 ghost use Rattle.calls.specs.Call.{callSize, callFrom, namesGood, valuesGood, originalGood, callGood};
@@ -14,23 +15,8 @@ const CALLSIZE: usize = 28;
 // The most digits of the original number.
 const DIGITS: u8 = 20;
 
-// The events; no reply is the last.
-pub(crate) const OFFERED: u8 = 0;
-
-pub(crate) const BUSY: u8 = 1;
-
+// The last event: no reply.
 const NOREPLY: u8 = 2;
-
-pub(crate) struct Call {
-    pub(crate) number: u8,
-    pub(crate) service: u8,
-    pub(crate) event: u8,
-    pub(crate) counter: u8,
-    pub(crate) option: u8,
-    pub(crate) presentation: u8,
-    pub(crate) preference: u8,
-    pub(crate) count: u8,
-}
 
 pub(crate) fn call_of(s: &[u8]) -> Call
     requires { ⌜ length (now s) ≡ callSize ⌝ }

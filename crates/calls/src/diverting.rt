@@ -1,7 +1,4 @@
 // What becomes of a call: diverted, not diverted or refused (document 01, "Calls"; Q.732.2-5, 2.5.2.5.1.2).
-use crate::call::BUSY;
-use crate::call::Call;
-use crate::call::OFFERED;
 use crate::call::call_good;
 use crate::call::call_of;
 use access::Profile;
@@ -11,20 +8,21 @@ use access::service_slot;
 use exchange::Table;
 use numbers::Address;
 use numbers::Number;
+use onward::BUSY;
+use onward::Call;
+use onward::OFFERED;
+use onward::Reason;
+use onward::option_after;
+use onward::original_shown;
+use onward::preference_after;
+use onward::reason_of;
 use store::Grid;
 ghost use mathlib.Core.Path.{_≡_};
 ghost use mathlib.Core.List.{[]};
 ghost use Prim.Native.Nat.{_<_, _≤_};
 ghost use Rattle.numbers.specs.Number.{numberOf};
 ghost use Rattle.access.specs.Profile.{numbersMost};
-ghost use Rattle.calls.specs.Divert.{reasonNo, noticeNo, procedureOf, optionAfter, preferenceAfter, originalShown, noticed, stays, refused, reasonOf, goes, applying, byInstance, Becomes, DivertsTo};
-
-// Why a call is diverted.
-pub enum Reason {
-    Cfu,
-    Cfb,
-    Cfnr,
-}
+ghost use Rattle.calls.specs.Divert.{noticeNo, procedureOf, noticed, stays, refused, goes, applying, byInstance, Becomes, DivertsTo};
 
 // What the caller is told: nothing, that the call is diverting, or to which number too.
 pub enum Notice {
@@ -121,18 +119,6 @@ fn procedure_of(event: u8) -> usize
     2
 }
 
-fn reason_of(event: u8) -> Reason
-    ensures { λ r. ⌜ reasonNo r ≡ reasonOf event ⌝ }
-{
-    if event == OFFERED {
-        return Reason::Cfu;
-    }
-    if event == BUSY {
-        return Reason::Cfb;
-    }
-    Reason::Cfnr
-}
-
 fn notice_of(option: u8) -> Notice
     requires { ⌜ option ≤ 2 ⌝ }
     ensures { λ r. ⌜ noticeNo r ≡ option ⌝ }
@@ -144,38 +130,6 @@ fn notice_of(option: u8) -> Notice
         return Notice::Diverting;
     }
     Notice::DivertingTo
-}
-
-fn option_after(p: Profile, c: Call) -> u8
-    ensures { λ r. ⌜ r ≡ optionAfter p c ⌝ }
-{
-    if c.counter == 0 {
-        return p.option;
-    }
-    if c.option < p.option {
-        return c.option;
-    }
-    p.option
-}
-
-fn preference_after(c: Call) -> u8
-    ensures { λ r. ⌜ r ≡ preferenceAfter c ⌝ }
-{
-    if c.counter == 0 {
-        if c.preference == 1 {
-            return 0;
-        }
-    }
-    c.preference
-}
-
-fn original_shown(p: Profile, c: Call) -> u8
-    ensures { λ r. ⌜ r ≡ originalShown p c ⌝ }
-{
-    if c.counter == 0 {
-        return p.release;
-    }
-    c.presentation
 }
 
 // The number of the caller's notice.

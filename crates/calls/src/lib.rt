@@ -7,7 +7,6 @@ pub use diverting::Diversion;
 pub use diverting::Notice;
 pub use diverting::Onward;
 pub use diverting::Outcome;
-pub use diverting::Reason;
 pub use diverting::Refusal;
 pub use diverting::divert;
 pub use originals::original;

@@ -3,11 +3,12 @@ use Prim.Native.Nat.{ℕ}
 use mathlib.Core.Path.{_≡_, refl, sym, ap, _∙_}
 use mathlib.Core.List.{List}
 use Rattle.exchange.specs.declared.table.Table.{Table}
-use Rattle.calls.specs.Divert.{refusalNo, reasonNo, noticeNo, Told, refuses, passes, diverts, toldBy, comes, DivertsTo}
+use Rattle.onward.specs.Onward.{reasonNo}
+use Rattle.onward.specs.declared.onward.Reason.{Reason}
+use Rattle.calls.specs.Divert.{refusalNo, noticeNo, Told, refuses, passes, diverts, toldBy, comes, DivertsTo}
 use Rattle.calls.specs.declared.diverting.Diversion.{Diversion}
 use Rattle.calls.specs.declared.diverting.Notice.{Notice}
 use Rattle.calls.specs.declared.diverting.Outcome.the-variants.{Refuses, Passes, Diverts}
-use Rattle.calls.specs.declared.diverting.Reason.{Reason}
 use Rattle.calls.specs.declared.diverting.Refusal.{Refusal}
 use Rattle.card.specs.Diversion.{DivertedBy}
 

@@ -2,14 +2,15 @@
 use calls::Notice;
 use calls::Onward;
 use calls::Outcome;
-use calls::Reason;
 use calls::Refusal;
 use calls::divert;
 use calls::original;
 use exchange::Table;
 use octets::put_all;
+use onward::Reason;
 ghost use mathlib.Core.Path.{_≡_};
-ghost use Rattle.calls.specs.Divert.{reasonNo, noticeNo, refusalNo};
+ghost use Rattle.onward.specs.Onward.{reasonNo};
+ghost use Rattle.calls.specs.Divert.{noticeNo, refusalNo};
 ghost use Rattle.card.specs.Diversion.{DivertedBy, CopiesOriginal};
 
 // The numbers of the refusal, of the reason and of the notice, each 0 where there is none; and the call that goes on.

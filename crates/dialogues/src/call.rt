@@ -4,13 +4,13 @@ use calls::Diversion;
 use calls::Notice;
 use calls::Onward;
 use calls::Outcome;
-use calls::Reason;
 use calls::Refusal;
 use calls::divert;
 use calls::original;
 use exchange::Table;
 use numbers::Address;
 use numbers::Number;
+use onward::Reason;
 
 fn refusal_digit(refusal: Refusal) -> u8 {
     match refusal {

@@ -11,6 +11,7 @@ pub mod OnlyLists
 pub mod OnlyNightly
 pub mod OnlyNumbers
 pub mod OnlyOctets
+pub mod OnlyOnward
 pub mod OnlyQuestions
 pub mod OnlyRules
 pub mod OnlySending

@@ -1,7 +1,7 @@
-use Rattle.calls.specs.Divert.{optionAfter}
+use Rattle.onward.specs.Onward.{optionAfter}
 use borrow.Author.Tests.{eq-eqb, ne-eqb, lt-ltb, le-ltb}
-use Rattle.calls.proofs.diverting.option_after.Statement.{statement}
-use Rattle.calls.proofs.diverting.option_after.Tie as tie
+use Rattle.onward.proofs.onward.option_after.Statement.{statement}
+use Rattle.onward.proofs.onward.option_after.Tie as tie
 
 returns : tie.Need-returns
 unfolding optionAfter

@@ -1,7 +1,7 @@
-use Rattle.calls.specs.Divert.{originalShown}
+use Rattle.onward.specs.Onward.{originalShown}
 use borrow.Author.Tests.{eq-eqb, ne-eqb}
-use Rattle.calls.proofs.diverting.original_shown.Statement.{statement}
-use Rattle.calls.proofs.diverting.original_shown.Tie as tie
+use Rattle.onward.proofs.onward.original_shown.Statement.{statement}
+use Rattle.onward.proofs.onward.original_shown.Tie as tie
 
 returns : tie.Need-returns
 unfolding originalShown

@@ -1,7 +1,7 @@
-use Rattle.calls.specs.Divert.{preferenceAfter}
+use Rattle.onward.specs.Onward.{preferenceAfter}
 use borrow.Author.Tests.{eq-eqb, ne-eqb}
-use Rattle.calls.proofs.diverting.preference_after.Statement.{statement}
-use Rattle.calls.proofs.diverting.preference_after.Tie as tie
+use Rattle.onward.proofs.onward.preference_after.Statement.{statement}
+use Rattle.onward.proofs.onward.preference_after.Tie as tie
 
 returns : tie.Need-returns
 unfolding preferenceAfter

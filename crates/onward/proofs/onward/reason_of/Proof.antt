@@ -1,7 +1,7 @@
-use Rattle.calls.specs.Divert.{reasonOf}
+use Rattle.onward.specs.Onward.{reasonOf}
 use borrow.Author.Tests.{eq-eqb, ne-eqb}
-use Rattle.calls.proofs.diverting.reason_of.Statement.{statement}
-use Rattle.calls.proofs.diverting.reason_of.Tie as tie
+use Rattle.onward.proofs.onward.reason_of.Statement.{statement}
+use Rattle.onward.proofs.onward.reason_of.Tie as tie
 
 returns : tie.Need-returns
 unfolding reasonOf
