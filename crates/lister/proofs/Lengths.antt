@@ -8,8 +8,8 @@ use lib.ListN.{length, length-append}
 use lib.Dec.{eqb}
 use borrow.Author.Tests.{ne-eqb, eqb-true, eqb-false}
 use Rattle.laws.specs.Pick.{pick}
-use Rattle.sheet.specs.Form.{form1}
-use Rattle.sheet.specs.declared.instance.Instance.{Instance}
+use Rattle.forms.specs.Form.{form1}
+use Rattle.forms.specs.declared.instance.Instance.{Instance}
 use Rattle.sheet.proofs.Parts.{by-test}
 use Rattle.sheet.proofs.Bounds.{AllBounded}
 use Rattle.sheet.proofs.SheetTrips.{countOf}

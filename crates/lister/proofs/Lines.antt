@@ -10,8 +10,8 @@ use Rattle.laws.proofs.Over.{then, wrote, room-then}
 use Rattle.laws.proofs.Picks.{pick-ind}
 use Rattle.numbers.specs.Number.{unknown, digitsOf}
 use Rattle.numbers.specs.declared.address.Address.{Address}
-use Rattle.sheet.specs.Form.{form1}
-use Rattle.sheet.specs.declared.instance.Instance.{Instance}
+use Rattle.forms.specs.Form.{form1}
+use Rattle.forms.specs.declared.instance.Instance.{Instance}
 use Rattle.sheet.proofs.Bounds.{Bounded}
 use Rattle.lister.specs.Listing.{decimal, procedureName, kindText, hexText, subText, marked, lineOf, headerLine, headerMost, instanceLine, lineMost}
 use Rattle.lister.proofs.Words.{decimal-one, decimal-most, hex-length}

@@ -7,10 +7,10 @@ use native.Mathlib.Omega.{arith}
 use lib.ListN.{length, length-append}
 use Rattle.laws.specs.Over.{Wrote}
 use Rattle.laws.proofs.Over.{wrote-length, then, wrote-none}
-use Rattle.sheet.specs.Form.{form1}
+use Rattle.forms.specs.Form.{form1}
+use Rattle.forms.specs.declared.instance.Instance.{Instance}
 use Rattle.sheet.specs.Sheet.{instancesFrom, noInstance}
 use Rattle.sheet.specs.Formed.{Holds, InstanceFound}
-use Rattle.sheet.specs.declared.instance.Instance.{Instance}
 use Rattle.sheet.specs.declared.read.InstanceRead.{InstanceRead}
 use Rattle.sheet.proofs.Bounds.{Bounded}
 use Rattle.sheet.proofs.Walks.{Left, left-first, left-none, left-bounded, left-others, left-is, left-next}

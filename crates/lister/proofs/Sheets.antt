@@ -13,12 +13,12 @@ use Rattle.laws.specs.Over.{Wrote, Puts}
 use Rattle.laws.proofs.Over.{wrote, wrote-length, length-over, over-nil, then}
 use Rattle.laws.proofs.Gots.{found-is}
 use Rattle.laws.proofs.Picks.{pick-ind}
-use Rattle.sheet.specs.Form.{form1}
+use Rattle.forms.specs.Form.{form1}
+use Rattle.forms.specs.declared.instance.Instance.{Instance}
 use Rattle.sheet.specs.Sheet.{Sheet, instancesFrom, noInstance, sheetIn}
 use Rattle.sheet.specs.Formed.{formedBy, Holds, OpeningOf}
 use Rattle.sheet.specs.Outcome.{notWritten}
 use Rattle.sheet.specs.declared.form.Opening.{Opening}
-use Rattle.sheet.specs.declared.instance.Instance.{Instance}
 use Rattle.sheet.specs.declared.record.Refusal.the-variants.{ShortOutput, BadSheet}
 use Rattle.sheet.specs.declared.record.Outcome.the-variants.{Done}
 use Rattle.sheet.specs.declared.record.Written.{Written}

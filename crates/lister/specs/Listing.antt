@@ -10,11 +10,11 @@ use Rattle.laws.specs.Got.{Got, got, wrong}
 use Rattle.laws.specs.Over.{over}
 use Rattle.numbers.specs.Number.{unknown, digitsOf}
 use Rattle.numbers.specs.declared.address.Address.{Address}
-use Rattle.sheet.specs.Form.{form1}
-use Rattle.sheet.specs.declared.forms.Form.{Form}
+use Rattle.forms.specs.Form.{form1}
+use Rattle.forms.specs.declared.form.Form.{Form}
+use Rattle.forms.specs.declared.instance.Instance.{Instance}
 use Rattle.sheet.specs.Sheet.{Sheet, sheetIn}
 use Rattle.sheet.specs.Outcome.{refusalNo, outcomeNo}
-use Rattle.sheet.specs.declared.instance.Instance.{Instance}
 use Rattle.sheet.specs.declared.record.Refusal.{Refusal}
 use Rattle.sheet.specs.declared.record.Refusal.the-variants.{ShortOutput, BadSheet}
 use Rattle.sheet.specs.declared.record.Written.{Written}

@@ -4,9 +4,9 @@ use mathlib.Core.List.{List, []}
 use Rattle.laws.specs.Got.{Got, got, wrong}
 use Rattle.numbers.specs.Number.{most}
 use Rattle.numbers.specs.declared.address.Address.{Address}
-use Rattle.sheet.specs.Form.{form1}
+use Rattle.forms.specs.Form.{form1}
+use Rattle.forms.specs.declared.instance.Instance.{Instance}
 use Rattle.sheet.specs.Sheet.{Sheet}
-use Rattle.sheet.specs.declared.instance.Instance.{Instance}
 use Rattle.lister.specs.Listing.{instanceLines, listing}
 
 -- an address whose counts its arrays hold

@@ -1,11 +1,11 @@
 // A night sheet is listed, or refused (document 01, "Samples", "Local refusals").
 use crate::line::write_header;
 use crate::line::write_lines;
+use forms::form_one;
 use octets::put_all;
 use sheet::Outcome;
 use sheet::Refusal;
 use sheet::Written;
-use sheet::form_one;
 use sheet::opening_of;
 use sheet::sheet_form;
 ghost use mathlib.Core.Path.{_≡_};
@@ -13,7 +13,7 @@ ghost use mathlib.Core.Bool.{true};
 ghost use Prim.Native.Nat.{_≤_};
 ghost use lib.ListN.{length};
 ghost use Rattle.laws.specs.Over.{Wrote};
-ghost use Rattle.sheet.specs.Form.{form1};
+ghost use Rattle.forms.specs.Form.{form1};
 ghost use Rattle.sheet.specs.Sheet.{sheetIn};
 ghost use Rattle.sheet.specs.Formed.{formedBy};
 ghost use Rattle.sheet.specs.Outcome.{notWritten};

@@ -14,7 +14,7 @@ use Rattle.store.specs.Row.{places, active}
 use Rattle.store.specs.Grid.{procedures, rowAt}
 use Rattle.store.specs.declared.row.Row.{Row}
 use Rattle.store.specs.declared.grid.Grid.{Grid}
-use Rattle.sheet.specs.declared.instance.Instance.{Instance}
+use Rattle.forms.specs.declared.instance.Instance.{Instance}
 use Rattle.sheet.proofs.SheetTrips.{countOf}
 use Rattle.nightly.specs.Instances.{instancesOf}
 use Rattle.nightly.specs.Write.{placeInstances, rowInstances}

@@ -19,7 +19,7 @@ use Rattle.store.specs.Grid.{procedures, noRow, noGrid, rowAt}
 use Rattle.store.specs.declared.row.Row.{Row}
 use Rattle.store.specs.declared.grid.Grid.{Grid}
 use Rattle.store.proofs.Turns.{not-active}
-use Rattle.sheet.specs.declared.instance.Instance.{Instance}
+use Rattle.forms.specs.declared.instance.Instance.{Instance}
 use Rattle.sheet.proofs.Parts.{by-test}
 use Rattle.nightly.specs.Record.{inProfile, allIn, placeIn, placed}
 

@@ -21,10 +21,10 @@ use Rattle.store.specs.Row.{places, numberOfPlace, active}
 use Rattle.store.specs.Grid.{procedures, noGrid, rowAt}
 use Rattle.store.specs.declared.grid.Grid.{Grid}
 use Rattle.store.proofs.Instances.{active-same}
-use Rattle.sheet.specs.Sheet.{before}
-use Rattle.sheet.specs.declared.instance.Instance.{Instance}
+use Rattle.forms.specs.Order.{before}
+use Rattle.forms.specs.declared.instance.Instance.{Instance}
+use Rattle.forms.proofs.Orders.{before-earlier}
 use Rattle.sheet.proofs.Parts.{by-test}
-use Rattle.sheet.proofs.Order.{before-earlier}
 use Rattle.sheet.proofs.Trips.{Fits}
 use Rattle.sheet.proofs.SheetTrips.{Ascends, AllFit}
 use Rattle.nightly.specs.Instances.{instancesOf}

@@ -15,12 +15,12 @@ use Rattle.access.specs.Profile.{offered}
 use Rattle.access.specs.declared.profile.Profile.{Profile}
 use Rattle.store.specs.Grid.{noGrid}
 use Rattle.store.specs.declared.grid.Grid.{Grid}
-use Rattle.sheet.specs.Form.{form1}
+use Rattle.forms.specs.Form.{form1}
+use Rattle.forms.specs.declared.instance.Instance.{Instance}
 use Rattle.sheet.specs.Sheet.{instancesFrom, noInstance}
 use Rattle.sheet.specs.Formed.{Holds, InstanceFound}
 use Rattle.nightly.specs.Record.{inProfile, allIn, placed, allPlaced}
 use Rattle.nightly.specs.Reading.{notPlaced, gridRead}
-use Rattle.sheet.specs.declared.instance.Instance.{Instance}
 use Rattle.sheet.specs.declared.read.InstanceRead.{InstanceRead}
 use Rattle.nightly.specs.declared.table.GridRead.{GridRead}
 use Rattle.sheet.proofs.Bounds.{Bounded}

@@ -14,7 +14,8 @@ use Rattle.access.proofs.Records.{access-good, access-services}
 use Rattle.lists.specs.Entries.{limit}
 use Rattle.exchange.specs.Table.{tableGood}
 use Rattle.exchange.specs.declared.table.Table.{Table}
-use Rattle.sheet.specs.Form.{form1, sheetMost}
+use Rattle.forms.specs.Form.{form1}
+use Rattle.sheet.specs.Size.{sheetMost}
 use Rattle.sheet.specs.Sheet.{sheetOctets}
 use Rattle.sheet.specs.Outcome.{outcomeNo}
 use Rattle.sheet.specs.declared.record.Outcome.the-variants.{Done}

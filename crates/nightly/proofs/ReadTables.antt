@@ -28,9 +28,9 @@ use Rattle.store.proofs.Grids.{grid-rows}
 use Rattle.exchange.specs.Table.{tableGood}
 use Rattle.exchange.specs.declared.table.Table.{Table}
 use Rattle.exchange.proofs.Tables.{table-grid}
-use Rattle.sheet.specs.Form.{form1}
+use Rattle.forms.specs.Form.{form1}
+use Rattle.forms.specs.declared.instance.Instance.{Instance}
 use Rattle.sheet.specs.Sheet.{Sheet, sheetOctets, sheetIn}
-use Rattle.sheet.specs.declared.instance.Instance.{Instance}
 use Rattle.sheet.proofs.Parts.{by-test}
 use Rattle.sheet.proofs.SheetTrips.{AllFit, countOf}
 use Rattle.sheet.proofs.Accepted.{sheet-only}

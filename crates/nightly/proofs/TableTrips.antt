@@ -31,9 +31,9 @@ use Rattle.store.proofs.Instances.{active-some, held-some, held-none, held-same
 use Rattle.exchange.specs.Table.{tableGood}
 use Rattle.exchange.specs.declared.table.Table.{Table}
 use Rattle.exchange.proofs.Tables.{table-good}
-use Rattle.sheet.specs.Form.{form1}
+use Rattle.forms.specs.Form.{form1}
+use Rattle.forms.specs.declared.instance.Instance.{Instance}
 use Rattle.sheet.specs.Sheet.{sheetOctets}
-use Rattle.sheet.specs.declared.instance.Instance.{Instance}
 use Rattle.sheet.proofs.Parts.{by-test}
 use Rattle.sheet.proofs.Trips.{tidyInstance, tidy-twice}
 use Rattle.sheet.proofs.SheetTrips.{sheet-back}

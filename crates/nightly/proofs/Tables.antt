@@ -14,7 +14,7 @@ use Rattle.access.proofs.Profiles.{good-profile}
 use Rattle.access.proofs.Records.{access-good}
 use Rattle.store.specs.Grid.{noGrid}
 use Rattle.store.specs.declared.grid.Grid.{Grid}
-use Rattle.sheet.specs.Form.{form1}
+use Rattle.forms.specs.Form.{form1}
 use Rattle.sheet.specs.Sheet.{Sheet, instancesFrom, noInstance, sheetIn}
 use Rattle.sheet.specs.Formed.{openingIn, openingRead}
 use Rattle.nightly.specs.Record.{allIn, allPlaced, tableFrom, readSheet, ReadsSheet}

@@ -24,9 +24,9 @@ use Rattle.store.proofs.Rows.{Ruled, active-rules, good-few}
 use Rattle.store.proofs.Instances.{active-some}
 use Rattle.exchange.specs.Table.{tableGood}
 use Rattle.exchange.specs.declared.table.Table.{Table}
-use Rattle.sheet.specs.Form.{form1}
+use Rattle.forms.specs.Form.{form1}
+use Rattle.forms.specs.declared.instance.Instance.{Instance}
 use Rattle.sheet.specs.Instance.{serviceOf}
-use Rattle.sheet.specs.declared.instance.Instance.{Instance}
 use Rattle.sheet.proofs.Parts.{by-test}
 use Rattle.sheet.proofs.Fields.{AllPass}
 use Rattle.sheet.proofs.Trips.{Fits, tidyInstance}

@@ -22,11 +22,11 @@ use Rattle.store.specs.declared.row.Row.{Row}
 use Rattle.store.proofs.Rows.{active-rules}
 use Rattle.exchange.specs.Table.{tableGood}
 use Rattle.exchange.specs.declared.table.Table.{Table}
-use Rattle.sheet.specs.Sheet.{before}
-use Rattle.sheet.proofs.Order.{before-procedure, before-number, before-service}
+use Rattle.forms.specs.Order.{before}
+use Rattle.forms.specs.declared.instance.Instance.{Instance}
+use Rattle.forms.proofs.Orders.{before-procedure, before-number, before-service}
 use Rattle.nightly.specs.Instances.{instancesOf}
 use Rattle.nightly.specs.Write.{placeInstances, rowInstances}
-use Rattle.sheet.specs.declared.instance.Instance.{Instance}
 use Rattle.nightly.proofs.WrittenTables.{row-good, rowOf, rows-all}
 
 -- ---- lists that ascend

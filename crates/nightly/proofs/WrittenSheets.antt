@@ -15,7 +15,8 @@ use Rattle.lists.specs.Entries.{limit}
 use Rattle.exchange.specs.Table.{lastMost, tableGood}
 use Rattle.exchange.specs.declared.table.Table.{Table}
 use Rattle.exchange.proofs.Tables.{table-good}
-use Rattle.sheet.specs.Form.{form1, sheetMost}
+use Rattle.forms.specs.Form.{form1}
+use Rattle.sheet.specs.Size.{sheetMost}
 use Rattle.sheet.specs.Sheet.{sheetOctets}
 use Rattle.sheet.specs.Outcome.{refusalNo, notWritten}
 use Rattle.nightly.specs.Instances.{instancesOf}

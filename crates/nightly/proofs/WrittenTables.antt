@@ -29,11 +29,12 @@ use Rattle.store.proofs.Grids.{grid-row}
 use Rattle.exchange.specs.Table.{tableGood}
 use Rattle.exchange.specs.declared.table.Table.{Table}
 use Rattle.exchange.proofs.Tables.{table-good}
-use Rattle.sheet.specs.Form.{form1, sheetMost}
+use Rattle.forms.specs.Form.{form1}
+use Rattle.forms.specs.declared.instance.Instance.{Instance}
+use Rattle.sheet.specs.Size.{sheetMost}
 use Rattle.sheet.specs.Sheet.{sheetOctets}
 use Rattle.nightly.specs.Instances.{instancesOf}
 use Rattle.nightly.specs.Write.{placeInstances, rowInstances, GridWritable}
-use Rattle.sheet.specs.declared.instance.Instance.{Instance}
 use Rattle.sheet.proofs.Sizes.{AllFit, all-fit-none, all-fit-one, all-fit-both, sheet-most}
 
 -- ---- how many instances there are

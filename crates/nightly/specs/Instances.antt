@@ -6,7 +6,7 @@ use Rattle.laws.specs.Places.{gathered}
 use Rattle.store.specs.Row.{places, numberOfPlace, cellAt, active}
 use Rattle.store.specs.Grid.{procedures, rowAt}
 use Rattle.store.specs.declared.grid.Grid.{Grid}
-use Rattle.sheet.specs.declared.instance.Instance.{Instance}
+use Rattle.forms.specs.declared.instance.Instance.{Instance}
 
 -- the instance at a place of a procedure's row
 abbrev pub instanceOf : Grid → ℕ → ℕ → Instance

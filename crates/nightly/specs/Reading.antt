@@ -6,7 +6,7 @@ use Rattle.laws.specs.Got.{Got, got, wrong}
 use Rattle.access.specs.declared.profile.Profile.{Profile}
 use Rattle.store.specs.Grid.{noGrid}
 use Rattle.exchange.specs.Table.{freshTable}
-use Rattle.sheet.specs.declared.instance.Instance.{Instance}
+use Rattle.forms.specs.declared.instance.Instance.{Instance}
 use Rattle.sheet.specs.declared.record.Refusal.{Refusal}
 use Rattle.sheet.specs.declared.record.Outcome.the-variants.{Refuses}
 use Rattle.nightly.specs.Record.{allIn, allPlaced}

@@ -18,10 +18,11 @@ use Rattle.store.specs.Grid.{rowAt, noGrid}
 use Rattle.store.specs.declared.grid.Grid.{Grid}
 use Rattle.exchange.specs.Table.{freshTable, tableGood}
 use Rattle.exchange.specs.declared.table.Table.{Table}
-use Rattle.sheet.specs.Form.{form1, sheetMost}
+use Rattle.forms.specs.Form.{form1}
+use Rattle.forms.specs.declared.instance.Instance.{Instance}
+use Rattle.sheet.specs.Size.{sheetMost}
 use Rattle.sheet.specs.Sheet.{Sheet, sheetOctets, sheetIn}
 use Rattle.sheet.specs.Outcome.{refusalNo, outcomeNo}
-use Rattle.sheet.specs.declared.instance.Instance.{Instance}
 use Rattle.sheet.specs.declared.record.Refusal.{Refusal}
 use Rattle.sheet.specs.declared.record.Refusal.the-variants.{ShortOutput, BadProfile, BadTable, BadSheet}
 use Rattle.sheet.specs.declared.record.Written.{Written}

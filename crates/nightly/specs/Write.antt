@@ -14,9 +14,9 @@ use Rattle.store.specs.Grid.{procedures, rowAt}
 use Rattle.store.specs.declared.row.Cell.{Cell}
 use Rattle.store.specs.declared.row.Row.{Row}
 use Rattle.store.specs.declared.grid.Grid.{Grid}
-use Rattle.sheet.specs.Form.{instanceMost}
+use Rattle.forms.specs.declared.instance.Instance.{Instance}
+use Rattle.sheet.specs.Size.{instanceMost}
 use Rattle.sheet.specs.Sheet.{instancesOctets}
-use Rattle.sheet.specs.declared.instance.Instance.{Instance}
 
 -- ---- fields
 

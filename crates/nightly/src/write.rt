@@ -2,13 +2,13 @@
 use access::SERVICES;
 use access::read_access;
 use exchange::Table;
+use forms::form_one;
 use groups::put_groups;
 use lists::LIMIT;
 use numbers::Address;
 use sheet::Outcome;
 use sheet::Refusal;
 use sheet::Written;
-use sheet::form_one;
 use store::Cell;
 use store::Grid;
 use store::PLACES;

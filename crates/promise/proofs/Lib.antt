@@ -5,6 +5,7 @@ pub mod OnlyCalls
 pub mod OnlyCodes
 pub mod OnlyCoding
 pub mod OnlyExchange
+pub mod OnlyForms
 pub mod OnlyGroups
 pub mod OnlyLister
 pub mod OnlyLists

@@ -3,15 +3,11 @@ use Prim.Native.Nat.{ℕ}
 use mathlib.Core.List.{List}
 use mathlib.Core.Path.{_≡_}
 use Rattle.laws.proofs.Picks.{both}
-use Rattle.sheet.specs.Form.{FormOne}
+use Rattle.forms.specs.declared.form.Form.{Form}
 use Rattle.sheet.specs.Formed.{SheetFormed, OpeningOf, InstanceFound}
-use Rattle.sheet.specs.declared.forms.Form.{Form}
 use Rattle.sheet.specs.declared.form.SheetForm.{SheetForm}
 use Rattle.sheet.specs.declared.form.Opening.{Opening}
 use Rattle.sheet.specs.declared.read.InstanceRead.{InstanceRead}
-
-pub only-form-one : {a b : Form} → FormOne a → FormOne b → a ≡ b
-only-form-one = both
 
 pub only-sheet-form : (f : Form) (s : List ℕ) {a b : SheetForm} → SheetFormed f s a → SheetFormed f s b → a ≡ b
 only-sheet-form f s = both

@@ -34,8 +34,9 @@ use Rattle.exchange.specs.Arrive.{done}
 use Rattle.onward.specs.Onward.{reasonOf, optionAfter, preferenceAfter, originalShown}
 use Rattle.calls.specs.Call.{callFrom, namesGood, valuesGood, originalGood, callGood}
 use Rattle.calls.specs.Divert.{applying, servedOf, noticed, onward, nowhere, comes}
+use Rattle.forms.specs.Order.{before, follows}
 use Rattle.sheet.specs.Instance.{allGroups, instanceOctets, fieldAt, fieldsAt, addressIn, instanceAt}
-use Rattle.sheet.specs.Sheet.{instancesOctets, sheetOctets, before, follows, runOf, instancesFrom, sheetIn}
+use Rattle.sheet.specs.Sheet.{instancesOctets, sheetOctets, runOf, instancesFrom, sheetIn}
 use Rattle.lister.specs.Listing.{decimalIn, decimal, procedureName, kindText, hexOf, hexText, subText, lineOf, headerLine, instanceLine, instanceLines, listing, listedSheet, refusedLine, printedSheet}
 use Rattle.nightly.specs.Instances.{instancesOf}
 use Rattle.nightly.specs.Record.{wroteSheet}

@@ -26,7 +26,8 @@ use Rattle.store.specs.Grid.{noRow}
 use Rattle.exchange.specs.Table.{freshTable, withRow, withLast}
 use Rattle.exchange.specs.Arrive.{outputLeast, done}
 use Rattle.exchange.specs.declared.table.Table.{Table}
-use Rattle.sheet.specs.Form.{form1, sheetMost}
+use Rattle.forms.specs.Form.{form1}
+use Rattle.sheet.specs.Size.{sheetMost}
 use Rattle.lister.specs.Listing.{listingMost, listedSheet, printedSheet}
 use Rattle.nightly.specs.Record.{wroteSheet}
 use Rattle.calls.specs.Divert.{Told, refuses, passes, diverts, comes}

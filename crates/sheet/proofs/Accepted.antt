@@ -20,10 +20,11 @@ use Rattle.groups.specs.declared.groups.Groups.the-variants as variants
 use Rattle.groups.proofs.GroupLaws.{StandsTo, groups-at-only}
 use Rattle.numbers.specs.Number.{most, fair}
 use Rattle.numbers.specs.declared.address.Address.{Address}
-use Rattle.sheet.specs.declared.forms.Form.{Form}
+use Rattle.forms.specs.Order.{follows}
+use Rattle.forms.specs.declared.form.Form.{Form}
+use Rattle.forms.specs.declared.instance.Instance.{Instance}
 use Rattle.sheet.specs.Instance.{allGroups, digitOf, addressOf, addressFields, instanceFields, fieldOf, fieldAt, fieldsAt, kindGood, addressIn, serviceOf, instanceAt}
-use Rattle.sheet.specs.Sheet.{Sheet, follows, runOf, instancesFrom, instancesOctets, noInstance, sheetOctets, sheetIn}
-use Rattle.sheet.specs.declared.instance.Instance.{Instance}
+use Rattle.sheet.specs.Sheet.{Sheet, runOf, instancesFrom, instancesOctets, noInstance, sheetOctets, sheetIn}
 use Rattle.sheet.proofs.Parts.{FoundAt, found-at-then, found-at-is}
 use Rattle.sheet.proofs.Fields.{Passing, field-passes, fields-passing}
 use Rattle.sheet.proofs.Sizes.{sheet-octets}

@@ -11,18 +11,19 @@ use lib.Dec.{ltb, leb, eqb}
 use borrow.Author.Tests.{ne-eqb, eqb-true, eqb-false, leb-true}
 use Rattle.laws.specs.Pick.{pick}
 use Rattle.laws.proofs.Gots.{Found, found-then, found-is}
-use Rattle.laws.proofs.Picks.{pick-ind, pick-then}
+use Rattle.laws.proofs.Picks.{pick-ind}
 use Rattle.numbers.specs.Number.{most, padded, fair, numberOf}
 use Rattle.numbers.specs.Address.{subOf}
 use Rattle.numbers.proofs.Goods.{fair-some, parts-good}
-use Rattle.sheet.specs.Form.{form1}
+use Rattle.forms.specs.Form.{form1}
+use Rattle.forms.specs.Order.{before, follows}
+use Rattle.forms.specs.declared.instance.Instance.{Instance}
+use Rattle.forms.proofs.Orders.{before-earlier, before-not-later, follows-before}
 use Rattle.sheet.specs.Instance.{addressOf, fieldAt, fieldsAt, kindGood, addressIn, serviceOf, instanceAt}
-use Rattle.sheet.specs.Sheet.{Sheet, before, follows, runOf, instancesFrom, noInstance, sheetIn}
-use Rattle.sheet.specs.declared.instance.Instance.{Instance}
+use Rattle.sheet.specs.Sheet.{Sheet, runOf, instancesFrom, noInstance, sheetIn}
 use Rattle.sheet.proofs.Fields.{AllPass, Passing, field-passes, below-small, fields-passing}
 use Rattle.sheet.proofs.Parts.{by-test}
 use Rattle.sheet.proofs.Readers.{characters, fair-good}
-use Rattle.sheet.proofs.Order.{before-earlier}
 use Rattle.sheet.proofs.Sheets.{run-most}
 use Rattle.sheet.proofs.Trips.{Held, Fits, kept}
 use Rattle.sheet.proofs.SheetTrips.{Ascends, countOf, AllFit, Sheeted}
@@ -92,8 +93,7 @@ module _ (s : List ℕ) where
 none-below : (k : Instance) (ks : List Instance) → Ascends (k ∷ ks) → (q : ℕ) → q < k .procedure → countOf q ks ≡ 0
 none-below k [] asc q less = refl
 none-below k (l ∷ ls) asc q less =
-    let up : k .procedure ≤ l .procedure =
-    ⊎-elim (λ lt. omega (arith, lt)) (λ same. omega (arith, same .0)) (before-earlier k l (asc .0)) in
+    let up : k .procedure ≤ l .procedure = before-not-later k l (asc .0) in
     rw (ne-eqb (l .procedure) q (λ e. omega (arith, e, up, less)), none-below l ls (asc .1) q (omega (arith, up, less)))
 
 -- instances that stand after `run` of the procedure of i, which is the last of them
@@ -139,13 +139,13 @@ module _ (i : Instance) (run : ℕ) (k : Instance) (ks : List Instance) (begun :
       }
 
   after-step : follows form1 i run k ≡ true → Fits k → After k (runOf i run k) ks → After i run (k ∷ ks)
-  unfolding follows runOf
+  unfolding runOf
   after-step ok fits rest =
       let some : eqb run 0 ≡ false = ne-eqb run 0 (λ e. omega (arith, begun, e)) in
-      let both = pick-then (before i k) (pick (eqb (i .procedure) (k .procedure)) (ltb run 8) true) (rw some at ok) in
+      let first = follows-before form1 i k run begun ok in
       by-test (eqb (i .procedure) (k .procedure))
-      (λ e. after-same (eqb-true (i .procedure) (k .procedure) e) (both .0) fits (rw (some, e) at rest))
-      (λ e. after-other (eqb-false (i .procedure) (k .procedure) e) (both .0) fits (rw (some, e) at rest))
+      (λ e. after-same (eqb-true (i .procedure) (k .procedure) e) first fits (rw (some, e) at rest))
+      (λ e. after-other (eqb-false (i .procedure) (k .procedure) e) first fits (rw (some, e) at rest))
 
 run-some : (i : Instance) (run : ℕ) (k : Instance) → 1 ≤ runOf i run k
 unfolding runOf
@@ -168,10 +168,12 @@ module _ (s : List ℕ) where
       (λ _. tt))
 
   sheeted-read : (n at : ℕ) → Found Sheeted (instancesFrom form1 n noInstance 0 s at)
-  unfolding instancesFrom follows runOf
+  unfolding instancesFrom runOf
   sheeted-read zero at = record { ascends = tt; few = λ q. omega arith; each = tt }
   sheeted-read (suc n) at =
       found-then Sheeted (instanceAt form1 s at) _ (λ k p e.
+      pick-ind (Found Sheeted) (follows form1 noInstance 0 k)
+      (λ _.
       found-then Sheeted (instancesFrom form1 n k 1 s p) _ (λ ks q f.
       let rest = found-is (After k 1) f (after-read n k 1 p (omega arith) (omega arith)) in
       record {
@@ -179,6 +181,7 @@ module _ (s : List ℕ) where
         few = rest .few;
         each = (found-is Fits e (instance-fits s at), rest .each);
       }))
+      (λ _. tt))
 
 -- ---- the sheet
 

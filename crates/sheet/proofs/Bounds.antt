@@ -15,11 +15,12 @@ use Rattle.numbers.specs.Number.{unknown, most, fair}
 use Rattle.numbers.specs.declared.address.Address.{Address}
 use Rattle.numbers.proofs.Goods.{fair-some, type-most}
 use Rattle.codes.proofs.Tables.{service-most}
-use Rattle.sheet.specs.declared.forms.Form.{Form}
+use Rattle.forms.specs.Order.{follows}
+use Rattle.forms.specs.declared.form.Form.{Form}
+use Rattle.forms.specs.declared.instance.Instance.{Instance}
 use Rattle.sheet.specs.Instance.{fieldAt, fieldsAt, kindGood, addressIn, serviceOf, instanceAt}
-use Rattle.sheet.specs.Sheet.{follows, runOf, instancesFrom}
+use Rattle.sheet.specs.Sheet.{runOf, instancesFrom}
 use Rattle.sheet.specs.Reading.{fieldBelow}
-use Rattle.sheet.specs.declared.instance.Instance.{Instance}
 use Rattle.sheet.proofs.Fields.{Passing, field-passes, below-small, fields-passing}
 
 pub record AddressBounded (a : Address) : Type 0 where

@@ -1,40 +1,26 @@
 -- A night sheet of form 1 that is read has at most 24 instances: at most 8 of each of three procedures. Assumes nothing.
 use Prim.Native.Nat.{ℕ, zero, suc, _+_, _*_, _≤_, _<_}
 use mathlib.Core.Path.{_≡_, sym}
-use mathlib.Core.Bool.{Bool, true, false}
+use mathlib.Core.Bool.{true, false}
 use mathlib.Core.List.{List}
 use native.Mathlib.Omega.{arith}
 use lib.ListN.{length}
-use lib.Dec.{ltb, leb, eqb}
-use borrow.Author.Tests.{eqb-true, eqb-false, ne-eqb, ltb-true, leb-true}
-use Rattle.laws.specs.Pick.{pick}
+use lib.Dec.{leb, eqb}
+use borrow.Author.Tests.{eqb-true, eqb-false, ne-eqb, leb-true}
 use Rattle.laws.proofs.Gots.{Found, found-then, found-is}
-use Rattle.laws.proofs.Picks.{pick-ind, pick-then}
-use Rattle.sheet.specs.Form.{form1}
+use Rattle.laws.proofs.Picks.{pick-ind}
+use Rattle.forms.specs.Form.{form1}
+use Rattle.forms.specs.Order.{follows}
+use Rattle.forms.specs.declared.instance.Instance.{Instance}
+use Rattle.forms.proofs.Orders.{before-not-later, follows-before}
 use Rattle.sheet.specs.Instance.{fieldAt, instanceAt}
-use Rattle.sheet.specs.Sheet.{before, follows, runOf, instancesFrom, noInstance}
+use Rattle.sheet.specs.Sheet.{runOf, instancesFrom, noInstance}
 use Rattle.sheet.specs.Formed.{Opened, openingIn}
-use Rattle.sheet.specs.declared.instance.Instance.{Instance}
 use Rattle.sheet.proofs.Parts.{by-test}
 use Rattle.sheet.proofs.Fields.{field-passes}
 use Rattle.sheet.proofs.Bounds.{Bounded, AllBounded, instance-bounded, instances-bounded}
 use Rattle.sheet.proofs.Sheets.{instances-count, run-most}
 use Rattle.sheet.proofs.Formed.{Formed}
-
--- one that stands before another is of no later procedure
-before-not-later : (i k : Instance) → before i k ≡ true → i .procedure ≤ k .procedure
-unfolding before
-before-not-later i k =
-    let same : Bool = pick (eqb (i .number) (k .number)) (ltb (i .service) (k .service)) (ltb (i .number) (k .number)) in
-    pick-ind (λ t. t ≡ true → i .procedure ≤ k .procedure) (eqb (i .procedure) (k .procedure)) {x = same}
-    (λ e _. omega (arith, eqb-true (i .procedure) (k .procedure) e))
-    (λ _ less. omega (arith, ltb-true (i .procedure) (k .procedure) less))
-
-follows-before : (i : Instance) (run : ℕ) (k : Instance) → 1 ≤ run → follows form1 i run k ≡ true → before i k ≡ true
-unfolding follows
-follows-before i run k some h =
-    pick-then (before i k) (pick (eqb (i .procedure) (k .procedure)) (ltb run 8) true)
-    (rw (ne-eqb run 0 (λ e. omega arith)) at h) .0
 
 -- `run` of the procedure of the last one, and none of a later one: how many more there may be
 abbrev Few : Instance → ℕ → List Instance → Type 0
@@ -76,7 +62,7 @@ module _ (s : List ℕ) where
       let rest =
       few-after n k (runOf last run k) p (run-some last run k) (run-most last run k after)
       (found-is (Bounded form1) e (instance-bounded form1 s at) .procedure) in
-      run-next last run k (length ks) some room (before-not-later last k (follows-before last run k some after))
+      run-next last run k (length ks) some room (before-not-later last k (follows-before form1 last k run some after))
       (found-is (Few k (runOf last run k)) f rest)))
       (λ _. tt))
 

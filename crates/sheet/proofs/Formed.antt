@@ -9,10 +9,10 @@ use borrow.Author.Tests.{eqb-true}
 use Rattle.laws.specs.Pick.{pick}
 use Rattle.laws.specs.Got.{Got, got, wrong, andThen}
 use Rattle.laws.proofs.Picks.{pick-ind}
-use Rattle.sheet.specs.declared.forms.Form.{Form}
+use Rattle.forms.specs.declared.form.Form.{Form}
+use Rattle.forms.specs.declared.instance.Instance.{Instance}
 use Rattle.sheet.specs.Sheet.{Sheet, instancesFrom, noInstance, sheetIn}
 use Rattle.sheet.specs.Formed.{formedBy, Opened, openingIn, openingRead, Holds}
-use Rattle.sheet.specs.declared.instance.Instance.{Instance}
 use Rattle.sheet.specs.declared.form.Opening.{Opening}
 use Rattle.sheet.specs.declared.form.SheetForm.{SheetForm}
 use Rattle.sheet.proofs.Sheets.{restFrom, sheet-parts, sheet-is}

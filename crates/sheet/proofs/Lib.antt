@@ -7,7 +7,6 @@ pub mod Sheets
 pub mod Formed
 pub mod Walks
 pub mod Counts
-pub mod Order
 pub mod Trips
 pub mod SheetTrips
 pub mod Accepted

@@ -19,10 +19,10 @@ use Rattle.numbers.specs.declared.number.Number.{Number}
 use Rattle.numbers.specs.declared.address.Address.{Address}
 use Rattle.numbers.proofs.Goods.{fair-some, some-fair, type-most, good-number, digits-fair}
 use Rattle.numbers.proofs.Readers.{digits-step, digits-end, record-good}
+use Rattle.forms.specs.declared.instance.Instance.{Instance}
 use Rattle.sheet.specs.Instance.{fieldAt, fieldsAt, kindGood, addressIn, serviceOf}
 use Rattle.sheet.specs.Formed.{instanceRead}
 use Rattle.sheet.specs.Reading.{fieldBelow, fieldsBelow, numberIn, forwardedRead}
-use Rattle.sheet.specs.declared.instance.Instance.{Instance}
 use Rattle.sheet.specs.declared.field.FieldsRead.{FieldsRead}
 use Rattle.sheet.specs.declared.read.ForwardedRead.{ForwardedRead}
 use Rattle.sheet.specs.declared.read.InstanceRead.{InstanceRead}

@@ -7,15 +7,17 @@ use native.Mathlib.Nat.{add-zero}
 use native.Mathlib.Omega.{arith}
 use lib.ListN.{length, length-append}
 use lib.Dec.{leb, eqb}
-use borrow.Author.Tests.{lt-ltb, le-leb, eq-eqb, ne-eqb, eqb-true}
+use borrow.Author.Tests.{le-leb, eq-eqb, ne-eqb, eqb-true, eqb-false}
 use Rattle.laws.specs.Pick.{pick}
 use Rattle.laws.specs.Got.{got}
 use Rattle.laws.specs.Stands.{Stands}
 use Rattle.laws.proofs.Stands.{stands-left, stands-right}
-use Rattle.sheet.specs.Form.{form1}
+use Rattle.forms.specs.Form.{form1}
+use Rattle.forms.specs.Order.{before, follows}
+use Rattle.forms.specs.declared.instance.Instance.{Instance}
+use Rattle.forms.proofs.Orders.{follows-first, follows-same, follows-other, follows-alike}
 use Rattle.sheet.specs.Instance.{allGroups, instanceFields, instanceOctets}
-use Rattle.sheet.specs.Sheet.{before, follows, runOf, instancesFrom, instancesOctets, noInstance, sheetOctets, sheetIn}
-use Rattle.sheet.specs.declared.instance.Instance.{Instance}
+use Rattle.sheet.specs.Sheet.{runOf, instancesFrom, instancesOctets, noInstance, sheetOctets, sheetIn}
 use Rattle.sheet.proofs.Parts.{by-test}
 use Rattle.sheet.proofs.Sizes.{sheet-octets}
 use Rattle.sheet.proofs.Sheets.{instances-end, instances-step}
@@ -58,7 +60,7 @@ count-here i is = rw (eq-eqb (i .procedure) (i .procedure) refl)
 ordered-after :
     (i : Instance) (run : ℕ) (is : List Instance) → AscendsFrom i is → 1 ≤ run → run + countOf (i .procedure) is ≤ 8 →
     ((procedure : ℕ) → countOf procedure is ≤ 8) → Ordered i run is
-unfolding follows runOf
+unfolding runOf
 ordered-after i run [] asc some room few = tt
 ordered-after i run (k ∷ ks) asc some room few =
     let begun : eqb run 0 ≡ false = ne-eqb run 0 (λ e. omega arith) in
@@ -66,18 +68,22 @@ ordered-after i run (k ∷ ks) asc some room few =
     by-test (eqb (i .procedure) (k .procedure))
     (λ e.
     let same : i .procedure ≡ k .procedure = eqb-true (i .procedure) (k .procedure) e in
-    let more : run + (1 + countOf (k .procedure) ks) ≤ 8 = rw (same, count-here k ks) at room in
-    rw (begun, asc .0, e)
-    (lt-ltb run 8 (omega arith), ordered-after k (run + 1) ks (asc .1) (omega arith) (omega arith) later))
-    (λ e.
-    rw (begun, asc .0, e)
-    (refl, ordered-after k 1 ks (asc .1) (omega arith) (omega (arith, few (k .procedure), count-here k ks)) later))
+    let more : run + (1 + countOf (k .procedure) ks) ≤ 8 = rw (same, count-here k ks) at room in (
+      follows-same form1 i k run some (asc .0) same (omega arith),
+      rw (begun, e) (ordered-after k (run + 1) ks (asc .1) (omega arith) (omega arith) later),
+    ))
+    (λ e. (
+      follows-other form1 i k run some (asc .0) (eqb-false (i .procedure) (k .procedure) e),
+      rw (begun, e) (ordered-after k 1 ks (asc .1) (omega arith) (omega (arith, few (k .procedure), count-here k ks)) later),
+    ))
 
 ordered : (is : List Instance) → Sheeted is → Ordered noInstance 0 is
-unfolding follows runOf
+unfolding runOf
 ordered [] h = tt
-ordered (i ∷ is) h =
-    (refl, ordered-after i 1 is (h .ascends) (omega arith) (omega (arith, h .few (i .procedure), count-here i is)) (λ p. omega (arith, h .few p)))
+ordered (i ∷ is) h = (
+  follows-first form1 noInstance i,
+  ordered-after i 1 is (h .ascends) (omega arith) (omega (arith, h .few (i .procedure), count-here i is)) (λ p. omega (arith, h .few p)),
+)
 
 -- three procedures, so at most 24
 counted : (is : List Instance) → AllFit is → length is ≡ countOf 0 is + countOf 1 is + countOf 2 is
@@ -104,13 +110,13 @@ unfolding instancesOctets instanceOctets
 octets-more i is = refl
 
 follows-tidy : (i : Instance) (run : ℕ) (k : Instance) → follows form1 i run (tidyInstance k) ≡ follows form1 i run k
-unfolding follows before
-follows-tidy i run k = refl
+follows-tidy i run k = follows-alike form1 i i run (tidyInstance k) k (refl, refl, refl) (refl, refl, refl)
 
 ordered-tidy : (i k : Instance) (run : ℕ) (ks : List Instance) → Ordered k (runOf i run k) ks → Ordered (tidyInstance k) (runOf i run (tidyInstance k)) ks
-unfolding follows before runOf
+unfolding runOf
 ordered-tidy i k run [] h = tt
-ordered-tidy i k run (j ∷ js) h = h
+ordered-tidy i k run (j ∷ js) h =
+    (follows-alike form1 (tidyInstance k) k (runOf i run k) j j (refl, refl, refl) (refl, refl, refl) ∙ h .0, h .1)
 
 instances-back :
     (is : List Instance) (last : Instance) (run : ℕ) → Ordered last run is → AllFit is → (s : List ℕ) (at : ℕ) →

@@ -1,24 +1,26 @@
 -- Laws of a night sheet by its form alone, over plain values: what stands before the instances, and the instances. Assumes nothing.
 use Prim.Native.Nat.{ℕ, zero, suc, _+_, _-_, _≤_, _<_}
 use mathlib.Core.Path.{_≡_, refl, sym, ap, _∙_}
-use mathlib.Core.Bool.{Bool, true, false, false≢true}
+use mathlib.Core.Bool.{true, false, false≢true}
 use mathlib.Core.List.{List, [], _∷_}
 use native.Mathlib.Nat.{sub-zero}
 use native.Mathlib.Omega.{arith}
 use lib.ListN.{length}
 use lib.Dec.{ltb, leb, eqb, leb·suc-suc}
-use borrow.Author.Tests.{eq-eqb, ne-eqb, ltb-true}
+use borrow.Author.Tests.{eq-eqb, ne-eqb, eqb-true, eqb-false}
 use Rattle.laws.specs.Pick.{pick}
 use Rattle.laws.specs.Got.{Got, got, wrong, andThen}
 use Rattle.laws.proofs.Gots.{Found, found-then, found-is}
-use Rattle.laws.proofs.Picks.{pick-ind, pick-then}
-use Rattle.sheet.specs.Form.{form1}
-use Rattle.sheet.specs.declared.forms.Form.{Form}
+use Rattle.laws.proofs.Picks.{pick-ind}
+use Rattle.forms.specs.Form.{form1}
+use Rattle.forms.specs.Order.{follows}
+use Rattle.forms.specs.declared.form.Form.{Form}
+use Rattle.forms.specs.declared.instance.Instance.{Instance}
+use Rattle.forms.proofs.Orders.{follows-few}
 use Rattle.sheet.specs.Instance.{fieldAt, instanceAt}
-use Rattle.sheet.specs.Sheet.{Sheet, before, follows, runOf, instancesFrom, noInstance, sheetIn}
+use Rattle.sheet.specs.Sheet.{Sheet, runOf, instancesFrom, noInstance, sheetIn}
 use Rattle.sheet.specs.Formed.{formedBy, Opened, openingIn, openingRead}
 use Rattle.sheet.specs.Reading.{anyField, fieldBelow, passedRead}
-use Rattle.sheet.specs.declared.instance.Instance.{Instance}
 use Rattle.sheet.specs.declared.form.Opening.{Opening}
 use Rattle.sheet.specs.declared.form.Passed.{Passed}
 use Rattle.sheet.specs.declared.form.SheetForm.{SheetForm}
@@ -109,19 +111,13 @@ pub run-within :
     (f : Form) (bound : ℕ) → 1 ≤ bound → f .perprocedure ≤ bound → (i : Instance) (run : ℕ) (k : Instance) →
     follows f i run k ≡ true →
     runOf i run k ≤ bound
-unfolding follows runOf
-run-within f bound some most i run k =
-    let P : Bool → Type 0 = λ t. t ≡ true → runOf i run k ≤ bound in
-    pick-ind P (eqb run 0)
-    (λ e _. rw e (omega (arith, some)))
-    (λ e h.
-    let inside = pick-then (before i k) (pick (eqb (i .procedure) (k .procedure)) (ltb run (f .perprocedure)) true) h .1 in
-    pick-ind P (eqb (i .procedure) (k .procedure))
-    (λ same small.
-    let less : run < f .perprocedure = ltb-true run (f .perprocedure) small in
-    rw (e, same) (omega (arith, less, most)))
-    (λ other _. rw (e, other) (omega (arith, some)))
-    inside)
+unfolding runOf
+run-within f bound some most i run k may =
+    pick-ind (λ n. n ≤ bound) (eqb run 0) (λ _. some) (λ none.
+    let begun : 1 ≤ run = omega (arith, eqb-false run 0 none) in
+    pick-ind (λ n. n ≤ bound) (eqb (i .procedure) (k .procedure))
+    (λ same. omega (arith, most, follows-few f i k run begun may (eqb-true (i .procedure) (k .procedure) same)))
+    (λ _. some))
 
 pub run-most :
     (i : Instance) (run : ℕ) (k : Instance) → follows form1 i run k ≡ true → runOf i run k ≤ form1 .perprocedure

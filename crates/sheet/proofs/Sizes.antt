@@ -16,11 +16,11 @@ use Rattle.numbers.specs.Address.{addressGood}
 use Rattle.numbers.specs.declared.number.Number.{Number}
 use Rattle.numbers.specs.declared.address.Address.{Address}
 use Rattle.numbers.proofs.Goods.{Shape, digits-fair, digits-each, type-most, good-number, good-address}
-use Rattle.sheet.specs.Form.{instanceMost}
-use Rattle.sheet.specs.declared.forms.Form.{Form}
+use Rattle.forms.specs.declared.form.Form.{Form}
+use Rattle.forms.specs.declared.instance.Instance.{Instance}
+use Rattle.sheet.specs.Size.{instanceMost}
 use Rattle.sheet.specs.Instance.{allGroups, digitOf, addressFields, instanceFields, instanceOctets}
 use Rattle.sheet.specs.Sheet.{instancesOctets, sheetOctets}
-use Rattle.sheet.specs.declared.instance.Instance.{Instance}
 
 -- ---- one after the other
 

@@ -23,9 +23,9 @@ use Rattle.numbers.specs.declared.number.Number.{Number}
 use Rattle.numbers.specs.declared.address.Address.{Address}
 use Rattle.numbers.proofs.Goods.{some-fair, GoodNumber, good-number, good-address, digits-fair}
 use Rattle.numbers.proofs.Readers as readers
-use Rattle.sheet.specs.Form.{form1}
+use Rattle.forms.specs.Form.{form1}
+use Rattle.forms.specs.declared.instance.Instance.{Instance}
 use Rattle.sheet.specs.Instance.{allGroups, digitOf, addressFields, instanceFields, fieldAt, fieldsAt, kindGood, addressIn, serviceOf, instanceAt}
-use Rattle.sheet.specs.declared.instance.Instance.{Instance}
 use Rattle.sheet.proofs.Fields.{AllPass}
 use Rattle.sheet.proofs.Readers.{kind-small, service-small}
 

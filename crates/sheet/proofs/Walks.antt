@@ -5,11 +5,12 @@ use mathlib.Core.List.{List, [], _∷_}
 use Rattle.laws.specs.Pick.{pick}
 use Rattle.laws.specs.Got.{Got, got, wrong, andThen}
 use Rattle.laws.proofs.Gots.{found-is}
-use Rattle.sheet.specs.declared.forms.Form.{Form}
+use Rattle.forms.specs.Order.{follows}
+use Rattle.forms.specs.declared.form.Form.{Form}
+use Rattle.forms.specs.declared.instance.Instance.{Instance}
 use Rattle.sheet.specs.Instance.{instanceAt}
-use Rattle.sheet.specs.Sheet.{follows, runOf, instancesFrom, noInstance}
+use Rattle.sheet.specs.Sheet.{runOf, instancesFrom, noInstance}
 use Rattle.sheet.specs.Formed.{instanceRead, InstanceFound}
-use Rattle.sheet.specs.declared.instance.Instance.{Instance}
 use Rattle.sheet.specs.declared.read.InstanceRead.{InstanceRead}
 use Rattle.sheet.proofs.Parts.{Thened, then-got, test-got, got-same}
 use Rattle.sheet.proofs.Bounds.{Bounded, instance-bounded}

@@ -7,10 +7,10 @@ use mathlib.Core.List.{List}
 use lib.ListN.{length}
 use lib.Dec.{leb, eqb}
 use Rattle.laws.specs.Got.{Got, got, wrong, andThen}
-use Rattle.sheet.specs.declared.forms.Form.{Form}
+use Rattle.forms.specs.declared.form.Form.{Form}
+use Rattle.forms.specs.declared.instance.Instance.{Instance}
 use Rattle.sheet.specs.Instance.{fieldAt, instanceAt}
 use Rattle.sheet.specs.Sheet.{Sheet, noInstance, sheetIn}
-use Rattle.sheet.specs.declared.instance.Instance.{Instance}
 use Rattle.sheet.specs.declared.read.InstanceRead.{InstanceRead}
 use Rattle.sheet.specs.declared.form.Opening.{Opening}
 use Rattle.sheet.specs.declared.form.SheetForm.{SheetForm}

@@ -14,8 +14,8 @@ use Rattle.codes.specs.Codes.{serviceCode}
 use Rattle.numbers.specs.Number.{unknown, most, fair, typeGood, numberOf, digitsOf}
 use Rattle.numbers.specs.Address.{subOf, forwardedOf, subOctetsOf}
 use Rattle.numbers.specs.declared.address.Address.{Address}
-use Rattle.sheet.specs.declared.forms.Form.{Form}
-use Rattle.sheet.specs.declared.instance.Instance.{Instance}
+use Rattle.forms.specs.declared.form.Form.{Form}
+use Rattle.forms.specs.declared.instance.Instance.{Instance}
 
 -- ---- written
 

@@ -1,4 +1,4 @@
-pub mod Form
+pub mod Size
 pub mod Instance
 pub mod Sheet
 pub mod Formed

@@ -7,8 +7,8 @@ use Rattle.laws.specs.Got.{Got, got, wrong, andThen}
 use Rattle.numbers.specs.Number.{padded, fair, numberOf}
 use Rattle.numbers.specs.declared.number.Number.{Number}
 use Rattle.numbers.specs.declared.address.Address.{Address}
+use Rattle.forms.specs.declared.instance.Instance.{Instance}
 use Rattle.sheet.specs.Instance.{fieldAt, fieldsAt, kindGood, addressOf}
-use Rattle.sheet.specs.declared.instance.Instance.{Instance}
 use Rattle.sheet.specs.declared.field.FieldRead.{FieldRead}
 use Rattle.sheet.specs.declared.field.FieldsRead.{FieldsRead}
 use Rattle.sheet.specs.declared.read.ForwardedRead.{ForwardedRead}

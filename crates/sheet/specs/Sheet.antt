@@ -1,15 +1,16 @@
 -- A night sheet: "Form 1; last handled; instance count; then for each, strictly ascending by the first three, .. Nothing after."
 -- (document 01, "Night sheet")
 use Prim.Native.Nat.{ℕ, zero, suc, _+_}
-use mathlib.Core.Bool.{Bool, true, false}
+use mathlib.Core.Bool.{true}
 use mathlib.Core.List.{List, [], _∷_, _++_}
 use lib.ListN.{length, replicate}
-use lib.Dec.{ltb, leb, eqb}
+use lib.Dec.{leb, eqb}
 use Rattle.laws.specs.Pick.{pick}
 use Rattle.laws.specs.Got.{Got, got, wrong, andThen}
-use Rattle.sheet.specs.declared.forms.Form.{Form}
+use Rattle.forms.specs.Order.{follows}
+use Rattle.forms.specs.declared.form.Form.{Form}
+use Rattle.forms.specs.declared.instance.Instance.{Instance}
 use Rattle.sheet.specs.Instance.{allGroups, instanceOctets, fieldAt, instanceAt}
-use Rattle.sheet.specs.declared.instance.Instance.{Instance}
 
 -- what a sheet holds
 pub record Sheet : Type 0 where
@@ -27,20 +28,7 @@ sheetOctets f last is = allGroups (f .code ∷ last ∷ length is ∷ []) ++ ins
 
 -- ---- read
 
--- "strictly ascending by the first three"
-unfoldable pub before : Instance → Instance → Bool
-before i k =
-    pick (eqb (i .procedure) (k .procedure))
-    (pick (eqb (i .number) (k .number)) (ltb (i .service) (k .service)) (ltb (i .number) (k .number)))
-    (ltb (i .procedure) (k .procedure))
-
--- an instance after `run` others of the procedure of i, which is the last of them: none where run is 0. Of one procedure there are no
--- more than the form has
-unfoldable pub follows : Form → Instance → ℕ → Instance → Bool
-follows f i run k =
-    pick (eqb run 0) true
-    (pick (before i k) (pick (eqb (i .procedure) (k .procedure)) (ltb run (f .perprocedure)) true) false)
-
+-- how many instances of its procedure there are with k, after `run` others of the procedure of i, which is the last of them
 unfoldable pub runOf : Instance → ℕ → Instance → ℕ
 runOf i run k = pick (eqb run 0) 1 (pick (eqb (i .procedure) (k .procedure)) (run + 1) 1)
 

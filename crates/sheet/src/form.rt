@@ -1,14 +1,15 @@
 // A night sheet by the rules of its form alone (document 01, "Night sheet").
 use crate::field::field_at;
 use crate::field::field_below;
-use crate::forms::Form;
-use crate::instance::Instance;
 use crate::read::instance_at;
 use crate::read::no_instance;
+use forms::Form;
+use forms::Instance;
+use forms::may_follow;
 ghost use mathlib.Core.Path.{_≡_};
 ghost use Prim.Native.Nat.{_≤_};
 ghost use Rattle.laws.specs.Got.{wrong};
-ghost use Rattle.sheet.specs.Sheet.{before, follows, runOf, instancesFrom, noInstance};
+ghost use Rattle.sheet.specs.Sheet.{runOf, instancesFrom, noInstance};
 ghost use Rattle.sheet.specs.Formed.{formedBy, SheetFormed, openingRead, OpeningOf};
 ghost use Rattle.sheet.specs.Reading.{passedRead};
 
@@ -71,35 +72,6 @@ pub fn opening_of(f: Form, s: &[u8]) -> Opening
         count: count.value,
         next: count.next,
     }
-}
-
-// Whether the first of two instances comes before the other, by procedure, number and service.
-fn comes_before(i: Instance, k: Instance) -> bool
-    ensures { λ r. ⌜ r ≡ before i k ⌝ }
-{
-    if i.procedure != k.procedure {
-        return i.procedure < k.procedure;
-    }
-    if i.number != k.number {
-        return i.number < k.number;
-    }
-    i.service < k.service
-}
-
-// Whether `k` may stand after `run` instances of one procedure, the last of them `i`.
-fn may_follow(f: Form, i: Instance, run: u8, k: Instance) -> bool
-    ensures { λ r. ⌜ r ≡ follows f i run k ⌝ }
-{
-    if run == 0 {
-        return true;
-    }
-    if !comes_before(i, k) {
-        return false;
-    }
-    if i.procedure == k.procedure {
-        return run < f.perprocedure;
-    }
-    true
 }
 
 // How many instances of its procedure there are with `k`.

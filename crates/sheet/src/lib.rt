@@ -1,8 +1,6 @@
 // What a night sheet is, by its form alone (document 01, "Night sheet").
 mod field;
 mod form;
-mod forms;
-mod instance;
 mod read;
 mod record;
 
@@ -10,9 +8,6 @@ pub use form::Opening;
 pub use form::SheetForm;
 pub use form::opening_of;
 pub use form::sheet_form;
-pub use forms::Form;
-pub use forms::form_one;
-pub use instance::Instance;
 pub use read::InstanceRead;
 pub use read::instance_at;
 pub use record::Outcome;

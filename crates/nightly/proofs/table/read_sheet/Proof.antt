@@ -1,6 +1,6 @@
+use Rattle.forms.specs.Form.{form1}
 use Rattle.sheet.proofs.Formed.{formed-parts, formed-none, opened-holds}
 use Rattle.nightly.proofs.Tables.{profile-few, reads-profile, reads-form, reads-outside, reads-table}
-use Rattle.sheet.specs.Form.{form1}
 use Rattle.sheet.specs.Sheet.{sheetIn}
 use borrow.Author.Tests.{not-true, not-false}
 use borrow.Author.Needs.{needs}

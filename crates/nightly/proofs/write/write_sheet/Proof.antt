@@ -1,7 +1,8 @@
 use Rattle.laws.proofs.Over.{wrote-length}
 use Rattle.nightly.proofs.InstanceWriters.{sheet-space, sheet-wrote}
 use Rattle.nightly.proofs.WrittenSheets.{writes-short, writes-profile, writes-table, writes-sheet, refused-writes, sheet-writes, Ready, ready}
-use Rattle.sheet.specs.Form.{form1, sheetMost}
+use Rattle.forms.specs.Form.{form1}
+use Rattle.sheet.specs.Size.{sheetMost}
 use Rattle.sheet.specs.Sheet.{sheetOctets}
 use Rattle.nightly.specs.Instances.{instancesOf}
 use Rattle.sheet.specs.declared.record.Refusal.the-variants.{ShortOutput, BadProfile, BadTable}

@@ -1,7 +1,7 @@
-use Rattle.sheet.specs.Sheet.{before}
+use Rattle.forms.specs.Order.{before}
 use borrow.Author.Tests.{eq-eqb, ne-eqb}
-use Rattle.sheet.proofs.form.comes_before.Statement.{statement}
-use Rattle.sheet.proofs.form.comes_before.Tie as tie
+use Rattle.forms.proofs.order.comes_before.Statement.{statement}
+use Rattle.forms.proofs.order.comes_before.Tie as tie
 
 returns : tie.Need-returns
 unfolding before

@@ -1,5 +1,5 @@
 // The forms of a night sheet (document 01, "Night sheet").
-ghost use Rattle.sheet.specs.Form.{FormOne};
+ghost use Rattle.forms.specs.Form.{FormOne};
 
 // What the fields of a sheet may be. A later form is another such record, not another reader.
 pub struct Form {

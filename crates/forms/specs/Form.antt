@@ -1,7 +1,6 @@
 -- The forms of a night sheet: what its fields may be (document 01, "Night sheet"). A later form is another record, not another reader.
-use Prim.Native.Nat.{ℕ, _+_, _*_}
 use mathlib.Core.Path.{_≡_}
-use Rattle.sheet.specs.declared.forms.Form.{Form}
+use Rattle.forms.specs.declared.form.Form.{Form}
 
 -- "Form 1"; identifiers to 32,767, cfu to cfnr, "number index 0 to 3", at most 8 for each procedure
 abbrev pub form1 : Form
@@ -10,10 +9,3 @@ form1 = record { code = 1; lastmost = 32767; procedures = 3; numbers = 4; perpro
 -- what `form_one` promises
 abbrev pub FormOne : Form → Type 0
 FormOne r = r ≡ form1
-
--- the most octets of an instance, and of a sheet over its form: "under .. 1,613 (sheet)"
-abbrev pub instanceMost : ℕ
-instanceMost = 67
-
-abbrev pub sheetMost : Form → ℕ
-sheetMost f = instanceMost * (f .procedures * f .perprocedure) + 5

@@ -1,9 +1,9 @@
-use Rattle.sheet.specs.Sheet.{follows}
+use Rattle.forms.specs.Order.{follows}
 use borrow.Author.Tests.{eq-eqb, ne-eqb, not-true, not-false}
 use mathlib.Core.Path.{sym, _∙_}
 use borrow.Author.Needs.{needs}
-use Rattle.sheet.proofs.form.may_follow.Statement.{statement}
-use Rattle.sheet.proofs.form.may_follow.Tie as tie
+use Rattle.forms.proofs.order.may_follow.Statement.{statement}
+use Rattle.forms.proofs.order.may_follow.Tie as tie
 
 returns : tie.Need-returns
 unfolding follows
