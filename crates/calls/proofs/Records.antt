@@ -10,7 +10,8 @@ use borrow.Author.Tests.{ltb-true, leb-true, eqb-true}
 use Rattle.laws.specs.Pick.{pick}
 use Rattle.laws.proofs.Picks.{pick-then}
 use Rattle.codes.specs.Codes.{serviceCode}
-use Rattle.numbers.specs.Number.{most, allDigits}
+use Rattle.numbers.specs.Number.{most}
+use Rattle.codes.specs.Digits.{allDigits}
 use Rattle.access.specs.declared.profile.Profile.{Profile}
 use Rattle.onward.specs.declared.call.Call.{Call}
 use Rattle.calls.specs.Call.{originalAt, callSize, callFrom, namesGood, valuesGood, originalGood, callGood}

@@ -7,7 +7,8 @@ use lib.Seq.{slice}
 use lib.Dec.{ltb, leb, eqb}
 use Rattle.laws.specs.Pick.{pick}
 use Rattle.codes.specs.Codes.{serviceCode}
-use Rattle.numbers.specs.Number.{most, allDigits}
+use Rattle.numbers.specs.Number.{most}
+use Rattle.codes.specs.Digits.{allDigits}
 use Rattle.access.specs.declared.profile.Profile.{Profile}
 use Rattle.onward.specs.Onward.{noReply, eventNo}
 use Rattle.onward.specs.declared.call.Call.{Call}

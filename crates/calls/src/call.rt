@@ -1,7 +1,7 @@
 // A call as it comes to the access: lent octets at fixed offsets (docs/RECORDS.md).
 use access::Profile;
+use codes::all_digits;
 use codes::service_code;
-use numbers::all_digits;
 use onward::Call;
 ghost use mathlib.Core.Path.{_≡_};
 ghost use lib.ListN.{length};

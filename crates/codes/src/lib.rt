@@ -1,7 +1,10 @@
-// The tables of codes of document 01.
+// The tables of codes of document 01, and the characters and types of its numbers.
 mod codes;
+mod digits;
 
 pub use codes::SERVICECOUNT;
 pub use codes::service_code;
 pub use codes::service_place;
 pub use codes::trunkreason;
+pub use digits::all_digits;
+pub use digits::type_good;

@@ -14,11 +14,13 @@ use Rattle.laws.specs.Pick.{pick}
 use Rattle.laws.specs.Got.{Got, got}
 use Rattle.laws.proofs.Gots.{Found, found-then, found-is}
 use Rattle.laws.proofs.Picks.{pick-ind, pick-then, pick-else}
+use Rattle.codes.proofs.Characters.{all-each}
 use Rattle.octets.specs.declared.head.Head.the-variants as head
 use Rattle.octets.specs.declared.head.Head.{Head}
 use Rattle.octets.specs.Head.{headAt}
 use Rattle.values.specs.Enumerated.{enumeratedAt}
-use Rattle.numbers.specs.Number.{most, unknown, public, other, allDigits, fair, digitsGood, typeGood, numberOf, digitsIn, valueOf, stringOf, stringAt, publicIn, otherTag, numberIn, numberAt, digitsOf, numberGood}
+use Rattle.numbers.specs.Number.{most, unknown, public, other, fair, digitsGood, numberOf, digitsIn, valueOf, stringOf, stringAt, publicIn, otherTag, numberIn, numberAt, digitsOf, numberGood}
+use Rattle.codes.specs.Digits.{allDigits, typeGood}
 use Rattle.numbers.specs.Address.{octetsIn, subIn, subAt, forwardedOf, addressIn, addressAt, addressGood}
 use Rattle.numbers.specs.declared.number.Number.{Number}
 use Rattle.numbers.specs.declared.address.Address.{Address}
@@ -37,19 +39,6 @@ pub some-fair : (n : ℕ) → 1 ≤ n → n ≤ most → fair n ≡ true
 unfolding fair
 some-fair n h k = rw (le-ltb n 1 h) (le-leb n most k)
 
--- the first of some digits, and the others
-digits-parts : (c : ℕ) (cs : List ℕ) → allDigits (c ∷ cs) ≡ true → (48 ≤ c) × (c ≤ 57) × (allDigits cs ≡ true)
-unfolding allDigits
-digits-parts c cs h =
-    let low = pick-else (ltb c 48) (pick (ltb 57 c) false (allDigits cs)) h in
-    let high = pick-else (ltb 57 c) (allDigits cs) (low .1) in
-    (ltb-false c 48 (low .0), ltb-false 57 c (high .0), high .1)
-
-all-each : (cs : List ℕ) → allDigits cs ≡ true → (i : ℕ) → i < length cs → (48 ≤ getD cs i 0) × (getD cs i 0 ≤ 57)
-all-each [] h i lt = absurd (omega arith)
-all-each (c ∷ cs) h zero lt = let p = digits-parts c cs h in (p .0, p .1)
-all-each (c ∷ cs) h (suc i) lt = all-each cs (digits-parts c cs h .2) i (omega arith)
-
 -- good digits are 1 to 20
 pub digits-fair : (cs : List ℕ) → digitsGood cs ≡ true → (1 ≤ length cs) × (length cs ≤ most)
 unfolding digitsGood
@@ -60,11 +49,6 @@ pub digits-each :
     (cs : List ℕ) → digitsGood cs ≡ true → (i : ℕ) → i < length cs → (48 ≤ getD cs i 0) × (getD cs i 0 ≤ 57)
 unfolding digitsGood
 digits-each cs h = all-each cs (pick-then (fair (length cs)) (allDigits cs) h .1)
-
--- the types go up to 6
-pub type-most : (kind : ℕ) → typeGood kind ≡ true → kind ≤ 6
-unfolding typeGood
-type-most kind h = ltb-false 6 kind (pick-else (ltb 6 kind) (pick (eqb kind 5) false true) h .0)
 
 -- of unknown form with type 0, or of public form with one of its types
 abbrev pub Shape : Number → Type 0

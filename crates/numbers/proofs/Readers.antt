@@ -23,7 +23,8 @@ use Rattle.octets.specs.declared.head.Head.the-variants as head
 use Rattle.values.specs.declared.enumerated.Enumerated.{Enumerated}
 use Rattle.values.specs.declared.enumerated.Enumerated.the-variants as enumerated
 use Rattle.octets.proofs.Within.{Within, within}
-use Rattle.numbers.specs.Number.{most, unknown, public, padded, allDigits, digitsGood, digitsOf, numberGood, digitsIn, valueOf, fair, typeGood, stringOf, stringAt, publicIn, otherTag, numberIn, numberAt, numberRead}
+use Rattle.numbers.specs.Number.{most, unknown, public, padded, digitsGood, digitsOf, numberGood, digitsIn, valueOf, fair, stringOf, stringAt, publicIn, otherTag, numberIn, numberAt, numberRead}
+use Rattle.codes.specs.Digits.{allDigits, typeGood}
 use Rattle.numbers.specs.Address.{octetsIn, subAt, subRead, forwardedOf, addressIn, addressAt, addressRead}
 use Rattle.numbers.specs.declared.number.Number.{Number}
 use Rattle.numbers.specs.declared.number.NumberRead.{NumberRead}
@@ -31,21 +32,6 @@ use Rattle.numbers.specs.declared.address.Sub.{Sub}
 use Rattle.numbers.specs.declared.address.SubRead.{SubRead}
 use Rattle.numbers.specs.declared.address.Forwarded.{Forwarded}
 use Rattle.numbers.specs.declared.address.AddressRead.{AddressRead}
-
--- ---- digits
-
--- what is left of a string decides: one character more
-pub digits-step :
-    (s : List ℕ) (i : ℕ) → i < length s →
-    allDigits (drop i s)
-    ≡ pick (ltb (getD s i 0) 48) false (pick (ltb 57 (getD s i 0)) false (allDigits (drop (i + 1) s)))
-unfolding allDigits
-digits-step s i h = rw (add-one, drop-cons s i 0 h)
-
--- nothing is left
-pub digits-end : (s : List ℕ) → allDigits (drop (length s) s) ≡ true
-unfolding allDigits
-digits-end s = rw drop-length
 
 -- ---- zeros after octets
 

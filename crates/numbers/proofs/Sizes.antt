@@ -2,7 +2,7 @@
 -- Assumes nothing.
 use Prim.Native.Nat.{ℕ, _+_, _≤_, min}
 use mathlib.Core.Path.{_≡_, refl, ap, _∙_}
-use mathlib.Core.Bool.{true}
+use mathlib.Core.Bool.{Bool, true, false}
 use mathlib.Core.List.{List, [], _++_}
 use native.Mathlib.Omega.{arith}
 use lib.ListN.{length, take, replicate, length-append, length-take}
@@ -14,7 +14,9 @@ use Rattle.octets.specs.Element.{element}
 use Rattle.values.specs.Enumerated.{enumeratedOctets}
 use Rattle.octets.proofs.Elements.{length-small}
 use Rattle.values.proofs.Enumerateds.{length-enumerated}
-use Rattle.numbers.specs.Number.{most, unknown, public, allDigits, fair, digitsGood, typeGood, digitsOf, numberGood, numberOctets}
+use Rattle.numbers.specs.Number.{most, unknown, public, fair, digitsGood, digitsOf, numberGood, numberOctets}
+use Rattle.codes.specs.Digits.{typeGood}
+use Rattle.codes.proofs.Characters.{zeros-digits, type-zero}
 use Rattle.numbers.specs.Address.{subOctetsOf, addressGood, subOctets, addressOctets}
 use Rattle.numbers.specs.declared.number.Number.{Number}
 use Rattle.numbers.specs.declared.address.Address.{Address}
@@ -179,8 +181,8 @@ longestNumber = record { form = public; kind = 0; count = most; digits = replica
 
 -- it is good
 pub longest-number : numberGood longestNumber ≡ true
-unfolding numberGood digitsGood fair allDigits typeGood
-longest-number = refl
+unfolding numberGood digitsGood fair
+longest-number = ap (λ (b : Bool). pick b (typeGood 0) false) (zeros-digits most) ∙ type-zero
 
 -- and has 27 octets
 pub number-longest : length (numberOctets longestNumber) ≡ 27

@@ -18,7 +18,8 @@ use Rattle.octets.specs.declared.head.Head.{Head}
 use Rattle.octets.specs.declared.head.Head.the-variants as head
 use Rattle.octets.proofs.Elements.{length-small, Inside, inside}
 use Rattle.values.proofs.Enumerateds.{enumerated-back}
-use Rattle.numbers.specs.Number.{most, unknown, public, digitsGood, typeGood, numberOf, digitsIn, stringAt, publicIn, otherTag, numberIn, numberAt, digitsOf, tidyNumber, numberGood, numberOctets}
+use Rattle.numbers.specs.Number.{most, unknown, public, digitsGood, numberOf, digitsIn, stringAt, publicIn, otherTag, numberIn, numberAt, digitsOf, tidyNumber, numberGood, numberOctets}
+use Rattle.codes.specs.Digits.{typeGood}
 use Rattle.numbers.specs.Address.{subOf, octetsIn, subAt, addressAt, subOctetsOf, tidyAddress, addressGood, subOctets, addressOctets}
 use Rattle.numbers.specs.declared.number.Number.{Number}
 use Rattle.numbers.specs.declared.address.Address.{Address}

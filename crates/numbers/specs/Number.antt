@@ -10,6 +10,7 @@ use lib.Dec.{ltb, leb, eqb}
 use Rattle.laws.specs.Pick.{pick}
 use Rattle.laws.specs.Got.{Got, got, wrong, andThen}
 use Rattle.laws.specs.Over.{Puts}
+use Rattle.codes.specs.Digits.{allDigits, typeGood}
 use Rattle.octets.specs.Head.{headAt}
 use Rattle.octets.specs.Element.{element}
 use Rattle.values.specs.Enumerated.{enumeratedAt, enumeratedOctets}
@@ -38,11 +39,6 @@ other = 2
 abbrev pub padded : List ℕ → List ℕ
 padded ws = ws ++ replicate (most - length ws) 0
 
--- "only 0 to 9": the characters 48 to 57
-unfoldable pub allDigits : List ℕ → Bool
-allDigits [] = true
-allDigits (c ∷ cs) = pick (ltb c 48) false (pick (ltb 57 c) false (allDigits cs))
-
 -- 1 to 20 octets
 unfoldable pub fair : ℕ → Bool
 fair n = pick (ltb n 1) false (leb n most)
@@ -50,10 +46,6 @@ fair n = pick (ltb n 1) false (leb n most)
 -- "1 to 20 characters, only 0 to 9 (house: no space)"
 unfoldable pub digitsGood : List ℕ → Bool
 digitsGood cs = pick (fair (length cs)) (allDigits cs) false
-
--- "an enumerated type (0, 1, 2, 3, 4 or 6)"
-unfoldable pub typeGood : ℕ → Bool
-typeGood kind = pick (ltb 6 kind) false (pick (eqb kind 5) false true)
 
 -- the record of a number with the digits cs
 abbrev pub numberOf : ℕ → ℕ → List ℕ → Number
@@ -128,10 +120,6 @@ unfoldable pub numberOctets : Number → List ℕ
 numberOctets n =
     pick (eqb (n .form) unknown) (element 0x80 (digitsOf n))
     (element 0xA1 (enumeratedOctets (n .kind) ++ element 0x12 (digitsOf n)))
-
--- what `all_digits` promises
-abbrev pub AllDigits : List ℕ → Bool → Type 0
-AllDigits s r = r ≡ allDigits s
 
 -- what `number_at` promises
 abbrev pub NumberAt : ℕ → List ℕ → ℕ → ℕ → NumberRead → Type 0

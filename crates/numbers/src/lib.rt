@@ -11,6 +11,5 @@ pub use number::MOST;
 pub use number::Number;
 pub use number::NumberRead;
 pub use number::UNKNOWN;
-pub use number::all_digits;
 pub use number::number_at;
 pub use number::number_good;

@@ -1,4 +1,6 @@
 // Numbers (document 01, "Numbers").
+use codes::all_digits;
+use codes::type_good;
 use octets::Head;
 use octets::head_at;
 use octets::put_all;
@@ -9,7 +11,7 @@ ghost use Prim.Native.Nat.{_≤_};
 ghost use lib.ListN.{length};
 ghost use mathlib.Core.List.{[]};
 ghost use Rattle.laws.specs.Got.{got, wrong};
-ghost use Rattle.numbers.specs.Number.{typeGood, otherTag, padded, digitsIn, stringAt, publicIn, numberOf, other, numberRead, AllDigits, NumberAt, NumberGood};
+ghost use Rattle.numbers.specs.Number.{otherTag, padded, digitsIn, stringAt, publicIn, numberOf, other, numberRead, NumberAt, NumberGood};
 
 // The most digits of a number, which are also the most octets of a subaddress, and the forms of its record.
 pub const MOST: usize = 20;
@@ -34,37 +36,6 @@ pub struct NumberRead {
     pub ok: bool,
     pub number: Number,
     pub next: usize,
-}
-
-// Whether all octets of `s` are the characters 0 to 9.
-pub fn all_digits(s: &[u8]) -> bool
-    ensures { λ r. ⌜ AllDigits (now (s .entry)) r ⌝ }
-{
-    let mut i = 0;
-    while i < s.len() {
-        let c = s[i];
-        if c < 48 {
-            return false;
-        }
-        if 57 < c {
-            return false;
-        }
-        i += 1;
-    }
-    true
-}
-
-// Whether a public number can have this type.
-fn type_good(kind: u8) -> bool
-    ensures { λ r. ⌜ r ≡ typeGood kind ⌝ }
-{
-    if 6 < kind {
-        return false;
-    }
-    if kind == 5 {
-        return false;
-    }
-    true
 }
 
 // Whether an element with this tag is a number of another kind.

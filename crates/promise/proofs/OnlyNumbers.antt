@@ -4,15 +4,12 @@ use mathlib.Core.Path.{_≡_}
 use mathlib.Core.Bool.{Bool}
 use mathlib.Core.List.{List}
 use Rattle.laws.proofs.Picks.{both}
-use Rattle.numbers.specs.Number.{AllDigits, NumberAt, NumberGood}
+use Rattle.numbers.specs.Number.{NumberAt, NumberGood}
 use Rattle.numbers.specs.Address.{AddressAt, AddressGood}
 use Rattle.numbers.specs.declared.number.Number.{Number}
 use Rattle.numbers.specs.declared.number.NumberRead.{NumberRead}
 use Rattle.numbers.specs.declared.address.Address.{Address}
 use Rattle.numbers.specs.declared.address.AddressRead.{AddressRead}
-
-pub only-all-digits : (s : List ℕ) {a b : Bool} → AllDigits s a → AllDigits s b → a ≡ b
-only-all-digits s = both
 
 pub only-number-good : (n : Number) {a b : Bool} → NumberGood n a → NumberGood n b → a ≡ b
 only-number-good n = both

@@ -9,7 +9,8 @@ use Rattle.values.specs.Ident.{half, twos, bits, identHolds, identIn, identAt, 
 use Rattle.skip.specs.Skip.{fills}
 use Rattle.groups.specs.Groups.{groupsIn, groupsAt, groupsWith, groups}
 use Rattle.codes.specs.Codes.{placeOf, serviceCode, procedureCode}
-use Rattle.numbers.specs.Number.{allDigits, fair, typeGood, digitsGood, digitsIn, numberAt, numberOctets}
+use Rattle.numbers.specs.Number.{fair, digitsGood, digitsIn, numberAt, numberOctets}
+use Rattle.codes.specs.Digits.{allDigits, typeGood}
 use Rattle.numbers.specs.Address.{subAt, addressAt, subOctets, addressOctets}
 use Rattle.lists.specs.Entries.{entriesOctets, entriesFrom}
 use Rattle.lists.specs.Listed.{listOctets}

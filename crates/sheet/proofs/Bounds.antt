@@ -13,7 +13,8 @@ use Rattle.laws.proofs.Picks.{pick-ind, pick-then, pick-else}
 use Rattle.codes.specs.Codes.{serviceCode}
 use Rattle.numbers.specs.Number.{unknown, most, fair}
 use Rattle.numbers.specs.declared.address.Address.{Address}
-use Rattle.numbers.proofs.Goods.{fair-some, type-most}
+use Rattle.numbers.proofs.Goods.{fair-some}
+use Rattle.codes.proofs.Characters.{type-most}
 use Rattle.codes.proofs.Tables.{service-most}
 use Rattle.forms.specs.Order.{follows}
 use Rattle.forms.specs.declared.form.Form.{Form}

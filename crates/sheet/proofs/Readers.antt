@@ -13,12 +13,14 @@ use Rattle.laws.specs.Got.{Got, got, wrong, andThen}
 use Rattle.laws.proofs.Gots.{found-is}
 use Rattle.laws.proofs.Picks.{pick-ind, pick-then, pick-else}
 use Rattle.codes.specs.Codes.{serviceCode}
-use Rattle.numbers.specs.Number.{most, unknown, padded, fair, typeGood, allDigits, digitsOf, numberGood, numberOf}
+use Rattle.numbers.specs.Number.{most, unknown, padded, fair, digitsOf, numberGood, numberOf}
+use Rattle.codes.specs.Digits.{typeGood, allDigits}
 use Rattle.numbers.specs.Address.{subOf, forwardedOf}
 use Rattle.numbers.specs.declared.number.Number.{Number}
 use Rattle.numbers.specs.declared.address.Address.{Address}
-use Rattle.numbers.proofs.Goods.{fair-some, some-fair, type-most, good-number, digits-fair}
-use Rattle.numbers.proofs.Readers.{digits-step, digits-end, record-good}
+use Rattle.codes.proofs.Characters.{digits-step, digits-end, type-most}
+use Rattle.numbers.proofs.Goods.{fair-some, some-fair, good-number, digits-fair}
+use Rattle.numbers.proofs.Readers.{record-good}
 use Rattle.forms.specs.declared.instance.Instance.{Instance}
 use Rattle.sheet.specs.Instance.{fieldAt, fieldsAt, kindGood, addressIn, serviceOf}
 use Rattle.sheet.specs.Formed.{instanceRead}

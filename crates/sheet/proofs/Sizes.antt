@@ -15,7 +15,8 @@ use Rattle.numbers.specs.Number.{most, digitsOf}
 use Rattle.numbers.specs.Address.{addressGood}
 use Rattle.numbers.specs.declared.number.Number.{Number}
 use Rattle.numbers.specs.declared.address.Address.{Address}
-use Rattle.numbers.proofs.Goods.{Shape, digits-fair, digits-each, type-most, good-number, good-address}
+use Rattle.codes.proofs.Characters.{type-most}
+use Rattle.numbers.proofs.Goods.{Shape, digits-fair, digits-each, good-number, good-address}
 use Rattle.forms.specs.declared.form.Form.{Form}
 use Rattle.forms.specs.declared.instance.Instance.{Instance}
 use Rattle.sheet.specs.Size.{instanceMost}

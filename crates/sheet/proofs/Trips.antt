@@ -17,11 +17,13 @@ use Rattle.laws.proofs.Picks.{pick-else}
 use Rattle.laws.proofs.Stands.{stands-left, stands-right}
 use Rattle.groups.specs.Groups.{groups}
 use Rattle.groups.proofs.GroupLaws.{groups-at-back}
-use Rattle.numbers.specs.Number.{most, padded, fair, allDigits, digitsOf}
+use Rattle.numbers.specs.Number.{most, padded, fair, digitsOf}
+use Rattle.codes.specs.Digits.{allDigits}
 use Rattle.numbers.specs.Address.{subOctetsOf, tidyAddress, addressGood}
 use Rattle.numbers.specs.declared.number.Number.{Number}
 use Rattle.numbers.specs.declared.address.Address.{Address}
 use Rattle.numbers.proofs.Goods.{some-fair, GoodNumber, good-number, good-address, digits-fair}
+use Rattle.codes.proofs.Characters.{digits-step}
 use Rattle.numbers.proofs.Readers as readers
 use Rattle.forms.specs.Form.{form1}
 use Rattle.forms.specs.declared.instance.Instance.{Instance}
@@ -111,7 +113,7 @@ fields-back good small s at (suc count) (n ∷ ns) long pass st =
 -- characters of digits are digits, and come back
 module _ (c : ℕ) (cs : List ℕ) (h : allDigits (c ∷ cs) ≡ true) where
   tested : pick (ltb c 48) false (pick (ltb 57 c) false (allDigits cs)) ≡ true
-  tested = sym (readers.digits-step (c ∷ cs) 0 (omega arith)) ∙ h
+  tested = sym (digits-step (c ∷ cs) 0 (omega arith)) ∙ h
 
   from-zero : 48 ≤ c
   from-zero = ltb-false c 48 (pick-else (ltb c 48) (pick (ltb 57 c) false (allDigits cs)) tested .0)

@@ -11,7 +11,8 @@ use Rattle.groups.specs.Groups.{groups, groupsAt}
 use Rattle.groups.specs.declared.groups.Groups.{Groups}
 use Rattle.groups.specs.declared.groups.Groups.the-variants as groups
 use Rattle.codes.specs.Codes.{serviceCode}
-use Rattle.numbers.specs.Number.{unknown, most, fair, typeGood, numberOf, digitsOf}
+use Rattle.numbers.specs.Number.{unknown, most, fair, numberOf, digitsOf}
+use Rattle.codes.specs.Digits.{typeGood}
 use Rattle.numbers.specs.Address.{subOf, forwardedOf, subOctetsOf}
 use Rattle.numbers.specs.declared.address.Address.{Address}
 use Rattle.forms.specs.declared.form.Form.{Form}

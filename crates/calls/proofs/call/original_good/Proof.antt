@@ -1,6 +1,6 @@
 use Rattle.calls.specs.Call.{originalAt, originalGood}
 use Rattle.laws.proofs.Parts.{part-slice}
-use Rattle.numbers.specs.Number.{allDigits}
+use Rattle.codes.specs.Digits.{allDigits}
 use Prim.Native.Nat.{_+_}
 use mathlib.Core.Path.{ap, _∙_}
 use borrow.Author.Tests.{le-leb, lt-leb}

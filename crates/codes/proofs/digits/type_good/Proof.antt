@@ -1,7 +1,7 @@
-use Rattle.numbers.specs.Number.{typeGood}
+use Rattle.codes.specs.Digits.{typeGood}
 use borrow.Author.Tests.{lt-ltb, le-ltb, eq-eqb, ne-eqb}
-use Rattle.numbers.proofs.number.type_good.Statement.{statement}
-use Rattle.numbers.proofs.number.type_good.Tie as tie
+use Rattle.codes.proofs.digits.type_good.Statement.{statement}
+use Rattle.codes.proofs.digits.type_good.Tie as tie
 
 returns : tie.Need-returns
 unfolding typeGood

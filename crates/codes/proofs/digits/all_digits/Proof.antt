@@ -1,13 +1,13 @@
-use Rattle.numbers.proofs.Readers.{digits-step, digits-end}
-use Rattle.numbers.specs.Number.{allDigits}
+use Rattle.codes.proofs.Characters.{digits-step, digits-end}
+use Rattle.codes.specs.Digits.{allDigits}
 use borrow.Author.Tests.{lt-ltb, le-ltb}
 use borrow.Author.Needs.{needs}
 use native.Mathlib.Omega.{arith}
 use lib.ListN.{length, drop}
 use Prim.Native.Nat.{_-_, _≤_}
 use mathlib.Core.Path.{_≡_, refl, sym, _∙_}
-use Rattle.numbers.proofs.number.all_digits.Statement.{statement}
-use Rattle.numbers.proofs.number.all_digits.Tie as tie
+use Rattle.codes.proofs.digits.all_digits.Statement.{statement}
+use Rattle.codes.proofs.digits.all_digits.Tie as tie
 
 abbrev Inv-loop : tie.InvT-loop
 Inv-loop s i₀ i = (i ≤ length s) × (allDigits s ≡ allDigits (drop i s))
