@@ -8,3 +8,4 @@ pub mod Walks
 pub mod Each
 pub mod Gots
 pub mod Chosen
+pub mod Lefts

@@ -13,6 +13,7 @@ pub mod OnlyNightly
 pub mod OnlyNumbers
 pub mod OnlyOctets
 pub mod OnlyOnward
+pub mod OnlyPrefixes
 pub mod OnlyQuestions
 pub mod OnlyRules
 pub mod OnlySending

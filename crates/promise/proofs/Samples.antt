@@ -26,7 +26,8 @@ use Rattle.access.specs.Access.{numberFrom, prefixFrom, prefixesFrom, profileFr
 use Rattle.access.specs.Profile.{sameDigits, sameNumber, same, placeIn, numbersGood, rising, servicesGood, prefixGood, prefixesGood, subscriptionsGood, usesGood, diversionGood, profileGood}
 use Rattle.store.specs.Row.{active, selected, countWith, activeOf, putIn, clearIn, entryOfPlace, entriesIn, cellGood, rowGood}
 use Rattle.store.specs.Grid.{gridGood}
-use Rattle.rules.specs.Judge.{isSubscribed, servedInvalid, notProvided, otherKind, begins, beginsAny, selectedSame, fits, noRoom, judge, applied}
+use Rattle.prefixes.specs.Prefix.{begins, beginsAny}
+use Rattle.rules.specs.Judge.{isSubscribed, servedInvalid, notProvided, otherKind, selectedSame, fits, noRoom, judge, applied}
 use Rattle.rules.specs.Selection.{numberChosen, serviceChosen, selects, placesOf}
 use Rattle.exchange.specs.Table.{tableGood}
 use Rattle.questions.specs.Question.{notAbove, duplicate, known, invoked, question}

@@ -18,7 +18,8 @@ use Rattle.coding.specs.declared.request.Request.{Request}
 use Rattle.store.specs.Row.{countWith, activeOf, putIn, clearIn}
 use Rattle.store.specs.declared.row.Places.{Places}
 use Rattle.store.specs.declared.row.Row.{Row}
-use Rattle.rules.specs.Judge.{Test, first, notInUse, isSubscribed, servedInvalid, notProvided, userSpecified, otherKind, beginsAny, selectedSame, fits, noRoom, everyTests, activationTests, deactivationTests, testsOf, judge, applied}
+use Rattle.prefixes.specs.Prefix.{beginsAny}
+use Rattle.rules.specs.Judge.{Test, first, notInUse, isSubscribed, servedInvalid, notProvided, userSpecified, otherKind, selectedSame, fits, noRoom, everyTests, activationTests, deactivationTests, testsOf, judge, applied}
 use Rattle.rules.specs.declared.verdict.Verdict.{Verdict}
 use Rattle.rules.specs.declared.verdict.Verdict.the-variants.{Passes, Fails}
 

@@ -11,7 +11,7 @@ use Rattle.codes.specs.Codes.{placeOf}
 use Rattle.numbers.specs.Number.{public, other, digitsOf}
 use Rattle.numbers.specs.declared.number.Number.{Number}
 use Rattle.access.specs.Profile.{servedNumbers, offered, barred, same, placeIn}
-use Rattle.access.specs.declared.profile.Prefix.{Prefix}
+use Rattle.prefixes.specs.Prefix.{beginsAny}
 use Rattle.access.specs.declared.profile.Profile.{Profile}
 use Rattle.coding.specs.Request.{activation, deactivation}
 use Rattle.coding.specs.declared.request.Request.{Request}
@@ -73,16 +73,6 @@ unfoldable pub otherKind : Number → Bool
 otherKind n =
     pick (eqb (n .form) other) true
     (pick (eqb (n .form) public) (pick (eqb (n .kind) 1) (ltb 15 (n .count)) false) false)
-
--- "digits begin with a special prefix"
-unfoldable pub begins : List ℕ → List ℕ → Bool
-begins [] cs = true
-begins (d ∷ ds) [] = false
-begins (d ∷ ds) (c ∷ cs) = pick (eqb d c) (begins ds cs) false
-
-unfoldable pub beginsAny : List Prefix → List ℕ → Bool
-beginsAny [] cs = false
-beginsAny (f ∷ fs) cs = pick (begins (take (f .count) (f .digits)) cs) true (beginsAny fs cs)
 
 -- "forwarded-to number the same as a selected served number", the first of ns having the place `from`
 unfoldable pub selectedSame : Profile → Request → ℕ → List Number → Bool

@@ -1,5 +1,4 @@
 // A request is judged, and applied to the row of its procedure.
-use crate::tests::begins_any;
 use crate::tests::not_provided;
 use crate::tests::other_kind;
 use crate::tests::selected_same;
@@ -11,6 +10,7 @@ use coding::DEACTIVATION;
 use coding::PROCEDURES;
 use coding::Request;
 use lists::LIMIT;
+use prefixes::begins_any;
 use store::Places;
 use store::Row;
 ghost use mathlib.Core.Path.{_≡_};

@@ -1,4 +1,4 @@
-use Rattle.rules.proofs.TestLaws.{Tried, tried-here, tried-next, tried-none}
+use Rattle.prefixes.proofs.Begins.{Tried, tried-here, tried-next, tried-none}
 use Rattle.numbers.specs.Number.{digitsOf}
 use Rattle.access.specs.Profile.{prefixesMost}
 use Rattle.laws.proofs.Parts.{unmapped}
@@ -7,8 +7,8 @@ use native.Mathlib.Omega.{arith}
 use lib.ListN.{length}
 use Prim.Native.Nat.{_-_, _≤_}
 use mathlib.Core.Path.{_≡_, refl, sym, _∙_}
-use Rattle.rules.proofs.tests.begins_any.Statement.{statement}
-use Rattle.rules.proofs.tests.begins_any.Tie as tie
+use Rattle.prefixes.proofs.prefix.begins_any.Statement.{statement}
+use Rattle.prefixes.proofs.prefix.begins_any.Tie as tie
 
 abbrev Inv-loop : tie.InvT-loop
 Inv-loop n count prefixes k₀ k =

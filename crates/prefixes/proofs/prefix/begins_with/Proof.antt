@@ -1,12 +1,12 @@
-use Rattle.rules.proofs.TestLaws.{Begun, begun-next, begun-other, begun-all, begun-short}
+use Rattle.prefixes.proofs.Begins.{Begun, begun-next, begun-other, begun-all, begun-short}
 use Rattle.numbers.specs.Number.{most}
 use borrow.Author.Needs.{needs}
 use native.Mathlib.Omega.{arith}
 use lib.ListN.{length}
 use Prim.Native.Nat.{_-_, _≤_}
 use mathlib.Core.Path.{_≡_, refl}
-use Rattle.rules.proofs.tests.begins_with.Statement.{statement}
-use Rattle.rules.proofs.tests.begins_with.Tie as tie
+use Rattle.prefixes.proofs.prefix.begins_with.Statement.{statement}
+use Rattle.prefixes.proofs.prefix.begins_with.Tie as tie
 
 abbrev Inv-loop : tie.InvT-loop
 Inv-loop count long prefix digits i₀ i = (i ≤ most) × Begun count long prefix digits i
