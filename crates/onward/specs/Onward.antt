@@ -27,6 +27,7 @@ reasonNo reason.Cfu = 1
 reasonNo reason.Cfb = 2
 reasonNo reason.Cfnr = 3
 
+-- "Offered looks at cfu, busy at cfb, no reply at cfnr"
 unfoldable pub reasonOf : ℕ → ℕ
 reasonOf event =
     pick (eqb event (eventNo offered)) (reasonNo reason.Cfu) (pick (eqb event (eventNo busy)) (reasonNo reason.Cfb) (reasonNo reason.Cfnr))
