@@ -15,10 +15,10 @@ use Rattle.values.specs.Ident.{identOctets}
 use Rattle.octets.proofs.Elements.{Inside, inside, length-small}
 use Rattle.values.proofs.Idents.{ident-back, ident-most, ident-other}
 use Rattle.answers.specs.Answer.{problemNo, problemValue, problemOctets, answerOctets}
-use Rattle.coding.specs.Heard.{insideDepth, componentDepth, replyTag}
-use Rattle.coding.specs.Request.{interrogation}
+use Rattle.requests.specs.Heard.{insideDepth, componentDepth, replyTag}
+use Rattle.requests.specs.Request.{interrogation}
 use Rattle.lists.specs.declared.entry.Entry.{Entry}
-use Rattle.coding.proofs.Tags.{result-tag, error-tag, reject-tag}
+use Rattle.requests.proofs.Tags.{result-tag, error-tag, reject-tag}
 use Rattle.answers.specs.Reply.{failedAt, resultAt, afterOwn, ownAt, reply}
 use Rattle.answers.specs.declared.answer.Answer.the-variants as answer
 use Rattle.answers.specs.declared.answer.Problem.{Problem}

@@ -15,9 +15,9 @@ use Rattle.octets.specs.Element.{element}
 use Rattle.values.specs.Ident.{identOctets}
 use Rattle.octets.proofs.Elements.{length-element, Inside, inside}
 use Rattle.values.proofs.Idents.{ident-back, ident-most}
-use Rattle.coding.specs.Heard.{argumentDepth, insideDepth, componentDepth}
-use Rattle.coding.specs.Request.{interrogation}
-use Rattle.coding.proofs.Tags.{result-tag}
+use Rattle.requests.specs.Heard.{argumentDepth, insideDepth, componentDepth}
+use Rattle.requests.specs.Request.{interrogation}
+use Rattle.requests.proofs.Tags.{result-tag}
 use Rattle.lists.specs.Entries.{entriesOctets, allGood, tidyEntries, entriesFrom}
 use Rattle.lists.specs.Listed.{sequenceOctets, listOctets}
 use Rattle.lists.specs.declared.entry.Entry.{Entry}

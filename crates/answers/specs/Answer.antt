@@ -6,7 +6,7 @@ use lib.IntN.{pos}
 use Rattle.laws.specs.Over.{Puts}
 use Rattle.octets.specs.Element.{element}
 use Rattle.values.specs.Ident.{identOctets}
-use Rattle.coding.specs.Request.{interrogation}
+use Rattle.requests.specs.Request.{interrogation}
 use Rattle.lists.specs.Entries.{listed}
 use Rattle.lists.specs.Listed.{listOctets}
 use Rattle.lists.specs.declared.entry.Entry.{Entry}

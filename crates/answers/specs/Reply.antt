@@ -14,8 +14,8 @@ use Rattle.octets.specs.declared.head.Head.{Head}
 use Rattle.octets.specs.declared.head.Head.the-variants as head
 use Rattle.values.specs.declared.ident.Ident.{Ident}
 use Rattle.values.specs.declared.ident.Ident.the-variants as ident
-use Rattle.coding.specs.Heard.{argumentDepth, insideDepth, componentDepth, replyTag}
-use Rattle.coding.specs.Request.{interrogation}
+use Rattle.requests.specs.Heard.{argumentDepth, insideDepth, componentDepth, replyTag}
+use Rattle.requests.specs.Request.{interrogation}
 use Rattle.answers.specs.declared.reply.Reply.{Reply}
 use Rattle.answers.specs.declared.reply.Reply.the-variants.{Dropped, Rejected, Failed, Done, Listed, Wrong}
 

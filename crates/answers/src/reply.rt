@@ -1,11 +1,11 @@
 // What an arriving component says to the end that waits for an answer (document 01, "The customer end").
-use coding::ARGUMENTDEPTH;
-use coding::COMPONENTDEPTH;
-use coding::INSIDEDEPTH;
-use coding::INTERROGATION;
-use coding::reply_tag;
 use octets::Head;
 use octets::head_at;
+use requests::ARGUMENTDEPTH;
+use requests::COMPONENTDEPTH;
+use requests::INSIDEDEPTH;
+use requests::INTERROGATION;
+use requests::reply_tag;
 use values::Ident;
 use values::ident_at;
 ghost use mathlib.Core.Path.{_≡_};

@@ -13,14 +13,14 @@ use Rattle.laws.proofs.Parts.{part-slice}
 use Rattle.numbers.specs.Number.{most}
 use Rattle.numbers.specs.declared.address.Address.{Address}
 use Rattle.numbers.proofs.Goods.{good-number}
-use Rattle.access.specs.Access.{accessRead}
-use Rattle.access.specs.declared.profile.Profile.{Profile}
-use Rattle.access.proofs.Profiles.{good-profile}
-use Rattle.access.proofs.Records.{access-good, access-size}
+use Rattle.profile.specs.Access.{accessRead}
+use Rattle.profile.specs.declared.profile.Profile.{Profile}
+use Rattle.profile.proofs.Profiles.{good-profile}
+use Rattle.profile.proofs.Records.{access-good, access-size}
 use Rattle.lists.specs.Entries.{limit}
 use Rattle.exchange.specs.Table.{tableGood}
 use Rattle.exchange.specs.declared.table.Table.{Table}
-use Rattle.onward.specs.declared.call.Call.{Call}
+use Rattle.calls.specs.declared.call.Call.{Call}
 use Rattle.calls.specs.Call.{originalAt, callFrom, callGood}
 use Rattle.calls.specs.Divert.{servedOf, onward, Comes, refused, byInstance, byCall, applying, comes}
 use Rattle.calls.specs.Original.{servedAt, handedOn, goesOn, originalIn}

@@ -7,16 +7,16 @@ use native.Mathlib.Omega.{arith}
 use lib.Dec.{eqb}
 use borrow.Author.Tests.{eq-eqb, ne-eqb, le-leb, lt-leb}
 use Rattle.laws.proofs.Picks.{pick-ind}
-use Rattle.access.specs.Profile.{servicesMost}
-use Rattle.access.specs.declared.profile.Profile.{Profile}
+use Rattle.profile.specs.Profile.{servicesMost}
+use Rattle.profile.specs.declared.profile.Profile.{Profile}
 use Rattle.store.specs.Row.{cellAt, active, instanceAt}
 use Rattle.store.specs.Grid.{procedures, rowAt}
 use Rattle.store.specs.declared.row.Instance.{Instance}
 use Rattle.store.specs.declared.row.Row.{Row}
 use Rattle.store.specs.declared.grid.Grid.{Grid}
 use Rattle.store.proofs.Instances.{instance-ok, instance-address}
-use Rattle.onward.specs.Onward.{offered, busy, eventNo}
-use Rattle.onward.specs.declared.call.Call.{Call}
+use Rattle.calls.specs.Onward.{offered, busy, eventNo}
+use Rattle.calls.specs.declared.call.Call.{Call}
 use Rattle.calls.specs.Divert.{procedureOf, slotOf, placeOfCall, applying}
 
 pub procedure-known : (event : ℕ) → procedureOf event < procedures

@@ -5,3 +5,5 @@ pub mod Comings
 pub mod Outcomes
 pub mod Limits
 pub mod Withheld
+pub mod Reasons
+pub mod Options

@@ -8,12 +8,12 @@ use lib.Dec.{ltb}
 use borrow.Author.Tests.{ltb-true}
 use Rattle.laws.proofs.Picks.{pick-ind}
 use Rattle.numbers.specs.declared.address.Address.{Address}
-use Rattle.access.specs.Access.{accessRead}
-use Rattle.access.specs.declared.profile.Profile.{Profile}
+use Rattle.profile.specs.Access.{accessRead}
+use Rattle.profile.specs.declared.profile.Profile.{Profile}
 use Rattle.lists.specs.Entries.{limit}
 use Rattle.exchange.specs.Table.{tableGood}
 use Rattle.exchange.specs.declared.table.Table.{Table}
-use Rattle.onward.specs.declared.call.Call.{Call}
+use Rattle.calls.specs.declared.call.Call.{Call}
 use Rattle.calls.specs.Call.{callFrom, callGood}
 use Rattle.calls.specs.Divert.{Told, refuses, passes, diverts, applying, onward, Comes, nowhere, byInstance, byCall, comes}
 

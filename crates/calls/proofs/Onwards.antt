@@ -4,11 +4,11 @@ use mathlib.Core.Path.{_≡_}
 use lib.ListN.{getD}
 use Rattle.numbers.specs.declared.number.Number.{Number}
 use Rattle.numbers.specs.declared.address.Address.{Address}
-use Rattle.access.specs.Profile.{noNumber}
-use Rattle.access.specs.declared.profile.Profile.{Profile}
-use Rattle.onward.specs.Onward.{reasonNo, reasonOf, optionAfter, preferenceAfter, originalShown}
-use Rattle.onward.specs.declared.call.Call.{Call}
-use Rattle.onward.specs.declared.onward.Reason.{Reason}
+use Rattle.profile.specs.Profile.{noNumber}
+use Rattle.profile.specs.declared.profile.Profile.{Profile}
+use Rattle.calls.specs.Onward.{reasonNo, reasonOf, optionAfter, preferenceAfter, originalShown}
+use Rattle.calls.specs.declared.call.Call.{Call}
+use Rattle.calls.specs.declared.onward.Reason.{Reason}
 use Rattle.calls.specs.Divert.{noticeNo, servedOf, noticed, onward, goes, Becomes}
 use Rattle.calls.specs.declared.diverting.Notice.{Notice}
 use Rattle.calls.specs.declared.diverting.Outcome.the-variants.{Diverts}

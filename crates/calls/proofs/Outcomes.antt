@@ -3,9 +3,9 @@ use Prim.Native.Nat.{ℕ}
 use mathlib.Core.Path.{_≡_, refl, sym, ap, _∙_}
 use lib.Dec.{eqb}
 use Rattle.laws.specs.Pick.{pick}
-use Rattle.onward.specs.Onward.{reasonNo}
-use Rattle.onward.specs.declared.onward.Reason.{Reason}
-use Rattle.onward.proofs.Reasons.{reasonBy, reason-by}
+use Rattle.calls.specs.Onward.{reasonNo}
+use Rattle.calls.specs.declared.onward.Reason.{Reason}
+use Rattle.calls.proofs.Reasons.{reasonBy, reason-by}
 use Rattle.calls.specs.Divert.{noticeNo, refusalNo, Told, refuses, passes, diverts, toldBy}
 use Rattle.calls.specs.declared.diverting.Notice.{Notice}
 use Rattle.calls.specs.declared.diverting.Notice.the-variants.{Silent, Diverting, DivertingTo}

@@ -12,8 +12,8 @@ use Rattle.laws.proofs.Picks.{pick-then}
 use Rattle.codes.specs.Codes.{serviceCode}
 use Rattle.numbers.specs.Number.{most}
 use Rattle.codes.specs.Digits.{allDigits}
-use Rattle.access.specs.declared.profile.Profile.{Profile}
-use Rattle.onward.specs.declared.call.Call.{Call}
+use Rattle.profile.specs.declared.profile.Profile.{Profile}
+use Rattle.calls.specs.declared.call.Call.{Call}
 use Rattle.calls.specs.Call.{originalAt, callSize, callFrom, namesGood, valuesGood, originalGood, callGood}
 
 -- a good record: its size, its number and its digits

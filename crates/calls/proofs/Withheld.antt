@@ -11,13 +11,13 @@ use borrow.Author.Tests.{ne-eqb}
 use Rattle.laws.specs.Pick.{pick}
 use Rattle.numbers.specs.Number.{numberOf}
 use Rattle.numbers.specs.declared.address.Address.{Address}
-use Rattle.access.specs.Access.{accessRead}
-use Rattle.access.specs.declared.profile.Profile.{Profile}
+use Rattle.profile.specs.Access.{accessRead}
+use Rattle.profile.specs.declared.profile.Profile.{Profile}
 use Rattle.lists.specs.Entries.{limit}
 use Rattle.exchange.specs.Table.{tableGood}
 use Rattle.exchange.specs.declared.table.Table.{Table}
-use Rattle.onward.specs.Onward.{optionAfter}
-use Rattle.onward.specs.declared.call.Call.{Call}
+use Rattle.calls.specs.Onward.{optionAfter}
+use Rattle.calls.specs.declared.call.Call.{Call}
 use Rattle.calls.specs.Call.{callFrom, callGood}
 use Rattle.calls.specs.Divert.{applying, noticed, onward, Comes, goes, byCall, comes}
 

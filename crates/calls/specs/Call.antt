@@ -9,9 +9,9 @@ use Rattle.laws.specs.Pick.{pick}
 use Rattle.codes.specs.Codes.{serviceCode}
 use Rattle.numbers.specs.Number.{most}
 use Rattle.codes.specs.Digits.{allDigits}
-use Rattle.access.specs.declared.profile.Profile.{Profile}
-use Rattle.onward.specs.Onward.{noReply, eventNo}
-use Rattle.onward.specs.declared.call.Call.{Call}
+use Rattle.profile.specs.declared.profile.Profile.{Profile}
+use Rattle.calls.specs.Onward.{noReply, eventNo}
+use Rattle.calls.specs.declared.call.Call.{Call}
 
 -- where the digits of the original number stand, and the size of the record
 abbrev pub originalAt : ℕ

@@ -10,17 +10,17 @@ use Rattle.codes.specs.Codes.{placeOf}
 use Rattle.numbers.specs.Number.{numberOf}
 use Rattle.numbers.specs.declared.number.Number.{Number}
 use Rattle.numbers.specs.declared.address.Address.{Address}
-use Rattle.access.specs.Access.{accessRead}
-use Rattle.access.specs.Profile.{servicesMost, offered as subscribedServices, noNumber}
-use Rattle.access.specs.declared.profile.Profile.{Profile}
+use Rattle.profile.specs.Access.{accessRead}
+use Rattle.profile.specs.Profile.{servicesMost, offered as subscribedServices, noNumber}
+use Rattle.profile.specs.declared.profile.Profile.{Profile}
 use Rattle.lists.specs.Entries.{limit}
 use Rattle.store.specs.Row.{cellAt, active}
 use Rattle.store.specs.Grid.{rowAt}
 use Rattle.store.specs.declared.grid.Grid.{Grid}
 use Rattle.exchange.specs.Table.{tableGood}
 use Rattle.exchange.specs.declared.table.Table.{Table}
-use Rattle.onward.specs.Onward.{offered, busy, eventNo, reasonNo, reasonOf, chosen, optionAfter, preferenceAfter, originalShown}
-use Rattle.onward.specs.declared.call.Call.{Call}
+use Rattle.calls.specs.Onward.{offered, busy, eventNo, reasonNo, reasonOf, chosen, optionAfter, preferenceAfter, originalShown}
+use Rattle.calls.specs.declared.call.Call.{Call}
 use Rattle.calls.specs.Call.{callFrom, callGood}
 use Rattle.calls.specs.declared.diverting.Notice.{Notice}
 use Rattle.calls.specs.declared.diverting.Notice.the-variants as notice

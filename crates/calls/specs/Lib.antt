@@ -1,3 +1,4 @@
 pub mod Call
 pub mod Divert
 pub mod Original
+pub mod Onward

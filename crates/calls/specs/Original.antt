@@ -6,10 +6,10 @@ use mathlib.Core.List.{List, []}
 use lib.Seq.{slice}
 use lib.Dec.{eqb}
 use Rattle.laws.specs.Pick.{pick}
-use Rattle.access.specs.Access.{accessRead, numbersAt, numberSize}
-use Rattle.access.specs.declared.profile.Profile.{Profile}
+use Rattle.profile.specs.Access.{accessRead, numbersAt, numberSize}
+use Rattle.profile.specs.declared.profile.Profile.{Profile}
 use Rattle.exchange.specs.declared.table.Table.{Table}
-use Rattle.onward.specs.declared.call.Call.{Call}
+use Rattle.calls.specs.declared.call.Call.{Call}
 use Rattle.calls.specs.Call.{originalAt, callFrom}
 use Rattle.calls.specs.Divert.{Told, refuses, passes, diverts, servedOf, comes}
 

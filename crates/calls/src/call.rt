@@ -1,8 +1,7 @@
 // A call as it comes to the access: lent octets at fixed offsets (docs/RECORDS.md).
-use access::Profile;
 use codes::all_digits;
 use codes::service_code;
-use onward::Call;
+use profile::Profile;
 ghost use mathlib.Core.Path.{_≡_};
 ghost use lib.ListN.{length};
 ghost use Rattle.calls.specs.Call.{callSize, callFrom, namesGood, valuesGood, originalGood, callGood};
@@ -15,8 +14,24 @@ const CALLSIZE: usize = 28;
 // The most digits of the original number.
 const DIGITS: u8 = 20;
 
+// The events; what is neither of the first two is no reply.
+pub(crate) const OFFERED: u8 = 0;
+
+pub(crate) const BUSY: u8 = 1;
+
 // The last event: no reply.
 const NOREPLY: u8 = 2;
+
+pub struct Call {
+    pub number: u8,
+    pub service: u8,
+    pub event: u8,
+    pub counter: u8,
+    pub option: u8,
+    pub presentation: u8,
+    pub preference: u8,
+    pub count: u8,
+}
 
 pub(crate) fn call_of(s: &[u8]) -> Call
     requires { ⌜ length (now s) ≡ callSize ⌝ }

@@ -1,27 +1,27 @@
 // What becomes of a call: diverted, not diverted or refused (document 01, "Calls"; Q.732.2-5, 2.5.2.5.1.2).
+use crate::call::BUSY;
+use crate::call::Call;
+use crate::call::OFFERED;
 use crate::call::call_good;
 use crate::call::call_of;
-use access::Profile;
-use access::SERVICES;
-use access::read_access;
-use access::service_slot;
+use crate::onward::Reason;
+use crate::onward::option_after;
+use crate::onward::original_shown;
+use crate::onward::preference_after;
+use crate::onward::reason_of;
 use exchange::Table;
 use numbers::Address;
 use numbers::Number;
-use onward::BUSY;
-use onward::Call;
-use onward::OFFERED;
-use onward::Reason;
-use onward::option_after;
-use onward::original_shown;
-use onward::preference_after;
-use onward::reason_of;
+use profile::Profile;
+use profile::SERVICES;
+use profile::read_access;
+use profile::service_slot;
 use store::Grid;
 ghost use mathlib.Core.Path.{_≡_};
 ghost use mathlib.Core.List.{[]};
 ghost use Prim.Native.Nat.{_<_, _≤_};
 ghost use Rattle.numbers.specs.Number.{numberOf};
-ghost use Rattle.access.specs.Profile.{numbersMost};
+ghost use Rattle.profile.specs.Profile.{numbersMost};
 ghost use Rattle.calls.specs.Divert.{noticeNo, procedureOf, noticed, stays, refused, goes, applying, byInstance, Becomes, DivertsTo};
 
 // What the caller is told: nothing, that the call is diverting, or to which number too.

@@ -14,12 +14,12 @@ use borrow.Author.Tests.{lt-ltb, le-ltb}
 use Rattle.laws.specs.Over.{over}
 use Rattle.laws.proofs.Over.{over-nil, wrote}
 use Rattle.laws.proofs.Picks.{pick-ind}
-use Rattle.access.specs.Access.{accessRead}
-use Rattle.access.specs.Profile.{profileGood}
-use Rattle.access.specs.declared.profile.Profile.{Profile}
-use Rattle.access.proofs.Profiles.{good-profile}
-use Rattle.coding.specs.Request.{interrogation}
-use Rattle.coding.specs.declared.request.Request.{Request}
+use Rattle.profile.specs.Access.{accessRead}
+use Rattle.profile.specs.Profile.{profileGood}
+use Rattle.profile.specs.declared.profile.Profile.{Profile}
+use Rattle.profile.proofs.Profiles.{good-profile}
+use Rattle.requests.specs.Request.{interrogation}
+use Rattle.requests.specs.declared.request.Request.{Request}
 use Rattle.lists.specs.Entries.{limit, listed, entriesOf, allGood}
 use Rattle.lists.specs.declared.entry.Entry.{Entry}
 use Rattle.lists.proofs.Goods.{all-none}
@@ -35,7 +35,7 @@ use Rattle.answers.specs.Answer.{answerOctets, PutAnswer}
 use Rattle.answers.specs.declared.answer.Answer.{Answer}
 use Rattle.answers.proofs.Fits.{Fits, answer-most}
 use Rattle.exchange.specs.Table.{tableGood, withRow, withLast}
-use Rattle.questions.specs.Question.{question}
+use Rattle.exchange.specs.Question.{question}
 use Rattle.exchange.specs.Step.{Step, resultOf, verdictOf, handled, stepOf, step, Stepping}
 use Rattle.exchange.specs.Arrive.{toldBy, outputLeast, componentMost, Done, refused, answered, done, refusedBy, Arrives}
 use Rattle.exchange.specs.declared.table.Table.{Table}
@@ -44,9 +44,9 @@ use Rattle.exchange.specs.declared.arrive.Refusal.{Refusal}
 use Rattle.exchange.specs.declared.arrive.Refusal.the-variants.{ShortOutput, LongComponent, BadProfile, BadTable}
 use Rattle.exchange.specs.declared.arrive.Outcome.the-variants.{Answers}
 use Rattle.exchange.specs.declared.arrive.Arrived.{Arrived}
-use Rattle.questions.proofs.Questions.{question-asks, question-range}
+use Rattle.exchange.proofs.Questions.{question-asks, question-range}
 use Rattle.exchange.proofs.Tables.{table-good}
-use Rattle.questions.proofs.Fitting.{question-fits}
+use Rattle.exchange.proofs.Fitting.{question-fits}
 
 -- ---- the refusals, lowest first
 

@@ -14,11 +14,11 @@ use Rattle.laws.specs.Pick.{pick}
 use Rattle.laws.proofs.Picks.{pick-ind, pick-then, pick-map}
 use Rattle.numbers.specs.Address.{addressGood}
 use Rattle.numbers.proofs.Goods.{ToUnless}
-use Rattle.access.specs.Profile.{servicesMost, profileGood}
-use Rattle.access.specs.declared.profile.Profile.{Profile}
-use Rattle.access.proofs.Profiles.{good-profile}
-use Rattle.coding.specs.Request.{activation, interrogation}
-use Rattle.coding.specs.declared.request.Request.{Request}
+use Rattle.profile.specs.Profile.{servicesMost, profileGood}
+use Rattle.profile.specs.declared.profile.Profile.{Profile}
+use Rattle.profile.proofs.Profiles.{good-profile}
+use Rattle.requests.specs.Request.{activation, interrogation}
+use Rattle.requests.specs.declared.request.Request.{Request}
 use Rattle.lists.specs.Entries.{limit}
 use Rattle.store.specs.Row.{places, cellOf, codeAt, selected, cellGood, rowGood}
 use Rattle.store.specs.Grid.{procedures, rowAt, gridGood}

@@ -6,3 +6,5 @@ pub mod Kept
 pub mod Outcomes
 pub mod Nexts
 pub mod Registered
+pub mod Questions
+pub mod Fitting

@@ -11,12 +11,12 @@ use lib.ListN.{length}
 use lib.Dec.{eqb, ltb}
 use Rattle.laws.specs.Pick.{pick}
 use Rattle.laws.proofs.Picks.{pick-ind}
-use Rattle.access.specs.Access.{accessRead}
-use Rattle.access.specs.Profile.{servicesMost, profileGood}
-use Rattle.access.specs.declared.profile.Profile.{Profile}
-use Rattle.access.proofs.Records.{access-good, access-services}
-use Rattle.coding.specs.Request.{interrogation}
-use Rattle.coding.specs.declared.request.Request.{Request}
+use Rattle.profile.specs.Access.{accessRead}
+use Rattle.profile.specs.Profile.{servicesMost, profileGood}
+use Rattle.profile.specs.declared.profile.Profile.{Profile}
+use Rattle.profile.proofs.Records.{access-good, access-services}
+use Rattle.requests.specs.Request.{interrogation}
+use Rattle.requests.specs.declared.request.Request.{Request}
 use Rattle.lists.specs.Entries.{limit}
 use Rattle.lists.specs.declared.entry.Entry.{Entry}
 use Rattle.store.specs.Grid.{procedures, rowAt}
@@ -31,14 +31,14 @@ use Rattle.answers.specs.declared.answer.Answer.the-variants as answer
 use Rattle.answers.specs.declared.answer.Whose.{Whose}
 use Rattle.answers.specs.declared.answer.Whose.the-variants.{Null, Own}
 use Rattle.exchange.specs.Table.{tableGood}
-use Rattle.questions.specs.Question.{question}
-use Rattle.questions.specs.declared.question.Question.{Question}
+use Rattle.exchange.specs.Question.{question}
+use Rattle.exchange.specs.declared.question.Question.{Question}
 use Rattle.exchange.specs.Step.{Step, stays, moved, resultOf, verdictOf, handled, stepOf, step}
 use Rattle.exchange.specs.Arrive.{Told, refuses, answers, outputLeast, componentMost, Done, refused, answered, done}
 use Rattle.exchange.specs.declared.table.Table.{Table}
 use Rattle.exchange.specs.declared.arrive.Refusal.{Refusal}
 use Rattle.exchange.specs.declared.arrive.Refusal.the-variants.{ShortOutput, LongComponent, BadProfile, BadTable}
-use Rattle.questions.proofs.Questions.{Asked, AtOnce, silence, reject, question-asks, question-range, question-says}
+use Rattle.exchange.proofs.Questions.{Asked, AtOnce, silence, reject, question-asks, question-range, question-says}
 use Rattle.exchange.proofs.Arrivals.{step-fits}
 use Rattle.exchange.proofs.Shapes.{Shaped, shaped-row, shaped-moved, cells-applied}
 use Rattle.exchange.proofs.Kept.{changed, handled-good, moved-grid, moved-last}

@@ -16,11 +16,11 @@ use Rattle.laws.specs.Places.{placesWhere}
 use Rattle.laws.proofs.Chosen.{places-same}
 use Rattle.numbers.specs.Address.{tidyAddress}
 use Rattle.numbers.specs.declared.address.Address.{Address}
-use Rattle.access.specs.Profile.{servicesMost, profileGood}
-use Rattle.access.specs.declared.profile.Profile.{Profile}
-use Rattle.access.proofs.Profiles.{good-profile}
-use Rattle.coding.specs.Request.{activation, deactivation, interrogation}
-use Rattle.coding.specs.declared.request.Request.{Request}
+use Rattle.profile.specs.Profile.{servicesMost, profileGood}
+use Rattle.profile.specs.declared.profile.Profile.{Profile}
+use Rattle.profile.proofs.Profiles.{good-profile}
+use Rattle.requests.specs.Request.{activation, deactivation, interrogation}
+use Rattle.requests.specs.declared.request.Request.{Request}
 use Rattle.lists.specs.Entries.{limit}
 use Rattle.store.specs.Row.{places, active, held, selected, entryOfPlace}
 use Rattle.store.specs.Grid.{procedures, rowAt}

@@ -10,8 +10,8 @@ use lib.Dec.{eqb}
 use borrow.Author.Tests.{eqb-true, eqb-false}
 use Rattle.laws.specs.Pick.{pick}
 use Rattle.laws.proofs.Picks.{pick-ind}
-use Rattle.access.specs.declared.profile.Profile.{Profile}
-use Rattle.coding.specs.declared.request.Request.{Request}
+use Rattle.profile.specs.declared.profile.Profile.{Profile}
+use Rattle.requests.specs.declared.request.Request.{Request}
 use Rattle.store.specs.Row.{places}
 use Rattle.store.specs.Grid.{procedures, rowAt}
 use Rattle.store.specs.declared.row.Places.{Places}

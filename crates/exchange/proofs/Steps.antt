@@ -10,9 +10,9 @@ use lib.ListN.{length, getD, take, set}
 use lib.Dec.{eqb}
 use borrow.Author.Tests.{eq-eqb, ne-eqb}
 use Rattle.laws.specs.Pick.{pick}
-use Rattle.access.specs.declared.profile.Profile.{Profile}
-use Rattle.coding.specs.Request.{interrogation}
-use Rattle.coding.specs.declared.request.Request.{Request}
+use Rattle.profile.specs.declared.profile.Profile.{Profile}
+use Rattle.requests.specs.Request.{interrogation}
+use Rattle.requests.specs.declared.request.Request.{Request}
 use Rattle.lists.specs.Entries.{limit, entriesOf}
 use Rattle.lists.specs.declared.entries.Entries.{Entries}
 use Rattle.store.specs.Row.{entriesIn}
@@ -24,9 +24,9 @@ use Rattle.rules.specs.Judge.{judge, applied}
 use Rattle.rules.specs.declared.verdict.Verdict.the-variants.{Passes, Fails}
 use Rattle.answers.specs.declared.answer.Answer.the-variants.{Listing, Result, Error}
 use Rattle.exchange.specs.Table.{withRow, withLast}
-use Rattle.questions.specs.Question.{question}
+use Rattle.exchange.specs.Question.{question}
 use Rattle.exchange.specs.Step.{moved, resultOf, handled, stepOf, step, Handles, Steps}
-use Rattle.questions.specs.declared.question.Question.{Question}
+use Rattle.exchange.specs.declared.question.Question.{Question}
 use Rattle.exchange.specs.declared.table.Table.{Table}
 use Rattle.exchange.specs.declared.step.Stepped.{Stepped}
 

@@ -5,7 +5,7 @@ use mathlib.Core.Bool.{true, false}
 use lib.Dec.{leb}
 use borrow.Author.Tests.{le-leb, lt-leb, leb-true}
 use Rattle.laws.proofs.Picks.{pick-then}
-use Rattle.access.specs.declared.profile.Profile.{Profile}
+use Rattle.profile.specs.declared.profile.Profile.{Profile}
 use Rattle.store.specs.Grid.{gridGood}
 use Rattle.exchange.specs.Table.{lastMost, tableGood}
 use Rattle.exchange.specs.declared.table.Table.{Table}

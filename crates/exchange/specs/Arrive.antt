@@ -6,7 +6,7 @@ use lib.ListN.{length}
 use lib.Dec.{ltb}
 use Rattle.laws.specs.Pick.{pick}
 use Rattle.laws.specs.Over.{over}
-use Rattle.access.specs.Access.{accessRead}
+use Rattle.profile.specs.Access.{accessRead}
 use Rattle.lists.specs.Entries.{limit}
 use Rattle.answers.specs.Answer.{answerNo, answerValues, answerWhose, answerOctets}
 use Rattle.answers.specs.declared.answer.Whose.{Whose}

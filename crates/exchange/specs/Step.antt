@@ -7,9 +7,9 @@ use lib.Signed.{mag}
 use lib.ListN.{length, take}
 use lib.Dec.{eqb}
 use Rattle.laws.specs.Pick.{pick}
-use Rattle.access.specs.declared.profile.Profile.{Profile}
-use Rattle.coding.specs.Request.{interrogation}
-use Rattle.coding.specs.declared.request.Request.{Request}
+use Rattle.profile.specs.declared.profile.Profile.{Profile}
+use Rattle.requests.specs.Request.{interrogation}
+use Rattle.requests.specs.declared.request.Request.{Request}
 use Rattle.lists.specs.Entries.{limit, entriesOf}
 use Rattle.lists.specs.declared.entry.Entry.{Entry}
 use Rattle.store.specs.Row.{entriesIn}
@@ -22,8 +22,8 @@ use Rattle.rules.specs.declared.verdict.Verdict.the-variants.{Passes, Fails}
 use Rattle.answers.specs.declared.answer.Answer.{Answer}
 use Rattle.answers.specs.declared.answer.Answer.the-variants as answer
 use Rattle.exchange.specs.Table.{withRow, withLast}
-use Rattle.questions.specs.Question.{question}
-use Rattle.questions.specs.declared.question.Question.{Question}
+use Rattle.exchange.specs.Question.{question}
+use Rattle.exchange.specs.declared.question.Question.{Question}
 use Rattle.exchange.specs.declared.table.Table.{Table}
 use Rattle.exchange.specs.declared.step.Stepped.{Stepped}
 

@@ -5,7 +5,7 @@ use mathlib.Core.Bool.{Bool, false}
 use lib.ListN.{set}
 use lib.Dec.{leb}
 use Rattle.laws.specs.Pick.{pick}
-use Rattle.access.specs.declared.profile.Profile.{Profile}
+use Rattle.profile.specs.declared.profile.Profile.{Profile}
 use Rattle.lists.specs.Entries.{limit}
 use Rattle.store.specs.Grid.{noGrid, gridGood}
 use Rattle.store.specs.declared.row.Row.{Row}

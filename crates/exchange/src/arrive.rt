@@ -1,10 +1,10 @@
 // Each arriving component turns a table into the next table and a reply (document 01, "Replies", "Local refusals").
+use crate::question::question_of;
 use crate::step::step_of;
 use crate::table::Table;
-use access::read_access;
 use answers::Answer;
 use answers::put_answer;
-use questions::question_of;
+use profile::read_access;
 use store::Grid;
 ghost use mathlib.Core.Path.{_≡_};
 ghost use Rattle.exchange.specs.declared.arrive.Outcome.the-variants.{Refuses};

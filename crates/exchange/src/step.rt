@@ -1,11 +1,11 @@
 // What the exchange does with a component that is not refused (document 01, "Replies, in the order checked").
-use access::Profile;
+use crate::question::Question;
 use answers::Answer;
-use coding::INTERROGATION;
-use coding::Request;
 use lists::Entries;
 use lists::no_entries;
-use questions::Question;
+use profile::Profile;
+use requests::INTERROGATION;
+use requests::Request;
 use rules::Verdict;
 use rules::apply_request;
 use rules::judge_request;

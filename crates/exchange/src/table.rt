@@ -1,5 +1,5 @@
 // A table: the instances and the last handled identifier.
-use access::Profile;
+use profile::Profile;
 use store::Grid;
 use store::fresh_grid;
 use store::rows_good;

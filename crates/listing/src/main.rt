@@ -1,5 +1,5 @@
 // Prints the listing of the night sheet on its standard input, or `refused 9` (document 01, "Samples").
-use lister::print_sheet;
+use listings::print_sheet;
 
 // Room for the input. A sheet has at most 1,613 octets, so input that fills this is none, and `refused 9` follows by itself.
 const SPACE: usize = 2048;

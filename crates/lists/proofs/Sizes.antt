@@ -18,7 +18,7 @@ use Rattle.values.proofs.Idents.{ident-most, ident-one}
 use Rattle.numbers.specs.Number.{most, numberGood, numberOctets}
 use Rattle.numbers.specs.Address.{addressGood, addressOctets}
 use Rattle.numbers.proofs.Sizes.{every-number-most, number-most, every-address-most, address-most}
-use Rattle.coding.specs.Request.{interrogation}
+use Rattle.requests.specs.Request.{interrogation}
 use Rattle.lists.specs.Entry.{fieldsOctets, entryOctets, entryGood}
 use Rattle.lists.specs.Entries.{limit, entrySize, entriesOctets, allGood}
 use Rattle.lists.specs.Listed.{sequenceOctets, listOctets}

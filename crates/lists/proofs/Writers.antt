@@ -16,7 +16,7 @@ use Rattle.octets.proofs.Elements.{element-size, headed}
 use Rattle.values.proofs.Idents.{ident-one}
 use Rattle.numbers.specs.Number.{PutNumber}
 use Rattle.numbers.specs.Address.{PutAddress}
-use Rattle.coding.specs.Request.{interrogation}
+use Rattle.requests.specs.Request.{interrogation}
 use Rattle.lists.specs.Entry.{fieldsOctets, entryOctets}
 use Rattle.lists.specs.Entries.{limit, entrySize, entriesOctets}
 use Rattle.lists.specs.Listed.{sequenceOctets, listOctets}

@@ -16,7 +16,7 @@ use Rattle.numbers.specs.Address.{subOf, forwardedOf, addressAt, tidyAddress, a
 use Rattle.numbers.specs.declared.number.Number.{Number}
 use Rattle.numbers.specs.declared.address.Address.{Address}
 use Rattle.numbers.specs.declared.address.Forwarded.{Forwarded}
-use Rattle.coding.specs.Heard.{argumentDepth}
+use Rattle.requests.specs.Heard.{argumentDepth}
 use Rattle.lists.specs.declared.entry.Entry.{Entry}
 use Rattle.lists.specs.declared.entry.EntryRead.{EntryRead}
 

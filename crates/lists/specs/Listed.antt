@@ -5,7 +5,7 @@ use lib.IntN.{ℤ, pos}
 use Rattle.laws.specs.Over.{Puts}
 use Rattle.octets.specs.Element.{element}
 use Rattle.values.specs.Ident.{identOctets}
-use Rattle.coding.specs.Request.{interrogation}
+use Rattle.requests.specs.Request.{interrogation}
 use Rattle.lists.specs.Entries.{listed, entriesOctets}
 use Rattle.lists.specs.declared.entry.Entry.{Entry}
 use Rattle.lists.specs.declared.entries.Entries.{Entries}

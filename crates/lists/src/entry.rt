@@ -1,5 +1,4 @@
 // An entry of a list: one active instance (EN 300 207-1, clause 7.1).
-use coding::ARGUMENTDEPTH;
 use numbers::Address;
 use numbers::Forwarded;
 use numbers::Number;
@@ -7,6 +6,7 @@ use numbers::address_at;
 use numbers::number_at;
 use octets::Head;
 use octets::head_at;
+use requests::ARGUMENTDEPTH;
 use values::Enumerated;
 use values::enumerated_at;
 ghost use mathlib.Core.Path.{_≡_};

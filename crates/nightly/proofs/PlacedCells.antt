@@ -11,9 +11,9 @@ use borrow.Author.Tests.{eq-eqb, lt-ltb, eqb-true, eqb-false, ltb-true}
 use Rattle.laws.specs.Pick.{pick}
 use Rattle.laws.proofs.Picks.{pick-then}
 use Rattle.codes.specs.Codes.{placeOf}
-use Rattle.access.specs.Profile.{servicesMost, offered, profileGood}
-use Rattle.access.specs.declared.profile.Profile.{Profile}
-use Rattle.access.proofs.Profiles.{good-profile}
+use Rattle.profile.specs.Profile.{servicesMost, offered, profileGood}
+use Rattle.profile.specs.declared.profile.Profile.{Profile}
+use Rattle.profile.proofs.Profiles.{good-profile}
 use Rattle.store.specs.Row.{places, numberOfPlace, serviceOfPlace, cellOf, noCell, outside, cellAt, active}
 use Rattle.store.specs.Grid.{procedures, noRow, noGrid, rowAt}
 use Rattle.store.specs.declared.row.Row.{Row}

@@ -13,10 +13,10 @@ use Rattle.laws.specs.Places.{gathered}
 use Rattle.laws.proofs.Picks.{pick-ind, pick-else}
 use Rattle.laws.proofs.Walks.{gathered-more, gathered-ind}
 use Rattle.laws.proofs.Chosen.{gathered-same}
-use Rattle.access.specs.Profile.{servicesMost, offered, profileGood}
-use Rattle.access.specs.declared.profile.Profile.{Profile}
-use Rattle.access.proofs.Profiles.{good-profile}
-use Rattle.access.proofs.Rising.{rising-order}
+use Rattle.profile.specs.Profile.{servicesMost, offered, profileGood}
+use Rattle.profile.specs.declared.profile.Profile.{Profile}
+use Rattle.profile.proofs.Profiles.{good-profile}
+use Rattle.profile.proofs.Rising.{rising-order}
 use Rattle.store.specs.Row.{places, numberOfPlace, active}
 use Rattle.store.specs.Grid.{procedures, noGrid, rowAt}
 use Rattle.store.specs.declared.grid.Grid.{Grid}

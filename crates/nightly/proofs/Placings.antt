@@ -11,8 +11,8 @@ use borrow.Author.Tests.{ltb-true}
 use Rattle.laws.specs.Pick.{pick}
 use Rattle.laws.proofs.Picks.{pick-then}
 use Rattle.codes.specs.Codes.{placeOf}
-use Rattle.access.specs.Profile.{offered}
-use Rattle.access.specs.declared.profile.Profile.{Profile}
+use Rattle.profile.specs.Profile.{offered}
+use Rattle.profile.specs.declared.profile.Profile.{Profile}
 use Rattle.store.specs.Grid.{noGrid}
 use Rattle.store.specs.declared.grid.Grid.{Grid}
 use Rattle.forms.specs.Form.{form1}

@@ -9,8 +9,8 @@ use lib.Dec.{ltb}
 use borrow.Author.Tests.{ltb-true, ltb-false}
 use Rattle.laws.specs.Over.{over}
 use Rattle.laws.proofs.Over.{take-over}
-use Rattle.access.specs.Access.{accessRead}
-use Rattle.access.proofs.Records.{access-good, access-services}
+use Rattle.profile.specs.Access.{accessRead}
+use Rattle.profile.proofs.Records.{access-good, access-services}
 use Rattle.lists.specs.Entries.{limit}
 use Rattle.exchange.specs.Table.{tableGood}
 use Rattle.exchange.specs.declared.table.Table.{Table}

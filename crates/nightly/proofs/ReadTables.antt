@@ -13,11 +13,11 @@ use Rattle.laws.proofs.Gots.{found-is}
 use Rattle.codes.specs.Codes.{placeOf}
 use Rattle.numbers.specs.Address.{addressGood}
 use Rattle.codes.proofs.Tables.{place-stands}
-use Rattle.access.specs.Access.{accessRead}
-use Rattle.access.specs.Profile.{servicesMost, offered, profileGood}
-use Rattle.access.specs.declared.profile.Profile.{Profile}
-use Rattle.access.proofs.Profiles.{good-profile}
-use Rattle.access.proofs.Records.{access-good, access-services}
+use Rattle.profile.specs.Access.{accessRead}
+use Rattle.profile.specs.Profile.{servicesMost, offered, profileGood}
+use Rattle.profile.specs.declared.profile.Profile.{Profile}
+use Rattle.profile.proofs.Profiles.{good-profile}
+use Rattle.profile.proofs.Records.{access-good, access-services}
 use Rattle.lists.specs.Entries.{limit}
 use Rattle.store.specs.Row.{places, cellOf, cellAt, cellGood}
 use Rattle.store.specs.Grid.{procedures, noGrid, rowAt}

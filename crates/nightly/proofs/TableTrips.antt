@@ -16,10 +16,10 @@ use Rattle.laws.proofs.Picks.{pick-ind}
 use Rattle.laws.proofs.Stands.{stands-whole}
 use Rattle.laws.proofs.Walks.{gathered-none, gathered-more}
 use Rattle.numbers.specs.Address.{tidyAddress}
-use Rattle.access.specs.Access.{accessRead}
-use Rattle.access.specs.Profile.{servicesMost, profileGood}
-use Rattle.access.specs.declared.profile.Profile.{Profile}
-use Rattle.access.proofs.Records.{access-good, access-services}
+use Rattle.profile.specs.Access.{accessRead}
+use Rattle.profile.specs.Profile.{servicesMost, profileGood}
+use Rattle.profile.specs.declared.profile.Profile.{Profile}
+use Rattle.profile.proofs.Records.{access-good, access-services}
 use Rattle.lists.specs.Entries.{limit}
 use Rattle.store.specs.Row.{places, cellAt, active, held}
 use Rattle.store.specs.Grid.{procedures, noGrid, rowAt}

@@ -6,12 +6,12 @@ use mathlib.Core.List.{List}
 use Rattle.laws.specs.Pick.{pick}
 use Rattle.laws.specs.Got.{Got, got, wrong}
 use Rattle.laws.proofs.Picks.{pick-ind}
-use Rattle.access.specs.Access.{accessRead}
-use Rattle.access.specs.Profile.{servicesMost}
-use Rattle.access.specs.declared.profile.Profile.{Profile}
-use Rattle.access.specs.declared.access.AccessRead.{AccessRead}
-use Rattle.access.proofs.Profiles.{good-profile}
-use Rattle.access.proofs.Records.{access-good}
+use Rattle.profile.specs.Access.{accessRead}
+use Rattle.profile.specs.Profile.{servicesMost}
+use Rattle.profile.specs.declared.profile.Profile.{Profile}
+use Rattle.profile.specs.declared.access.AccessRead.{AccessRead}
+use Rattle.profile.proofs.Profiles.{good-profile}
+use Rattle.profile.proofs.Records.{access-good}
 use Rattle.store.specs.Grid.{noGrid}
 use Rattle.store.specs.declared.grid.Grid.{Grid}
 use Rattle.forms.specs.Form.{form1}

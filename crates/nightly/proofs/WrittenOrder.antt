@@ -11,10 +11,10 @@ use lib.Seq.{getD-take}
 use Rattle.laws.specs.Places.{gathered}
 use Rattle.laws.proofs.Picks.{pick-ind}
 use Rattle.laws.proofs.Walks.{gathered-none, gathered-more, gathered-ind}
-use Rattle.access.specs.Profile.{servicesMost, offered, profileGood}
-use Rattle.access.specs.declared.profile.Profile.{Profile}
-use Rattle.access.proofs.Profiles.{good-profile}
-use Rattle.access.proofs.Rising.{rising-later}
+use Rattle.profile.specs.Profile.{servicesMost, offered, profileGood}
+use Rattle.profile.specs.declared.profile.Profile.{Profile}
+use Rattle.profile.proofs.Profiles.{good-profile}
+use Rattle.profile.proofs.Rising.{rising-later}
 use Rattle.lists.specs.Entries.{limit}
 use Rattle.store.specs.Row.{places, numberOfPlace, serviceOfPlace, active}
 use Rattle.store.specs.Grid.{procedures, rowAt}

@@ -9,8 +9,8 @@ use lib.ListN.{length}
 use borrow.Author.Tests.{lt-ltb, le-ltb}
 use Rattle.laws.specs.Over.{Wrote}
 use Rattle.laws.proofs.Over.{over-nil}
-use Rattle.access.specs.Access.{accessRead}
-use Rattle.access.proofs.Records.{access-good, access-services}
+use Rattle.profile.specs.Access.{accessRead}
+use Rattle.profile.proofs.Records.{access-good, access-services}
 use Rattle.lists.specs.Entries.{limit}
 use Rattle.exchange.specs.Table.{lastMost, tableGood}
 use Rattle.exchange.specs.declared.table.Table.{Table}

@@ -3,7 +3,7 @@ use mathlib.Core.Bool.{true, false}
 use mathlib.Core.List.{List}
 use Rattle.laws.specs.Pick.{pick}
 use Rattle.laws.specs.Got.{Got, got, wrong}
-use Rattle.access.specs.declared.profile.Profile.{Profile}
+use Rattle.profile.specs.declared.profile.Profile.{Profile}
 use Rattle.store.specs.Grid.{noGrid}
 use Rattle.exchange.specs.Table.{freshTable}
 use Rattle.forms.specs.declared.instance.Instance.{Instance}

@@ -1,12 +1,12 @@
 // A night sheet is read against a profile, as a table (document 01, "Night sheet").
-use access::Profile;
-use access::SERVICES;
-use access::read_access;
-use access::service_slot;
 use exchange::Table;
 use exchange::fresh_table;
 use forms::Instance;
 use forms::form_one;
+use profile::Profile;
+use profile::SERVICES;
+use profile::read_access;
+use profile::service_slot;
 use sheet::Outcome;
 use sheet::Refusal;
 use sheet::instance_at;
@@ -18,7 +18,7 @@ use store::fresh_grid;
 ghost use mathlib.Core.Path.{_≡_};
 ghost use Prim.Native.Nat.{_≤_, _<_};
 ghost use Rattle.codes.specs.Codes.{placeOf};
-ghost use Rattle.access.specs.Profile.{servicesMost, offered};
+ghost use Rattle.profile.specs.Profile.{servicesMost, offered};
 ghost use Rattle.forms.specs.Form.{form1};
 ghost use Rattle.sheet.specs.Sheet.{instancesFrom, noInstance};
 ghost use Rattle.sheet.specs.Formed.{Holds};

@@ -1,11 +1,11 @@
 // A table is written as a night sheet (document 01, "Night sheet").
-use access::SERVICES;
-use access::read_access;
 use exchange::Table;
 use forms::form_one;
 use groups::put_groups;
 use lists::LIMIT;
 use numbers::Address;
+use profile::SERVICES;
+use profile::read_access;
 use sheet::Outcome;
 use sheet::Refusal;
 use sheet::Written;

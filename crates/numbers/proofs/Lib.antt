@@ -2,3 +2,4 @@ pub mod Goods
 pub mod Readers
 pub mod Sizes
 pub mod Trips
+pub mod Writers

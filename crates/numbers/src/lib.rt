@@ -1,6 +1,7 @@
 // Numbers and addresses of document 01: the records that hold them, and the octets they are read from.
 mod address;
 mod number;
+mod write;
 
 pub use address::Address;
 pub use address::AddressRead;
@@ -13,3 +14,7 @@ pub use number::NumberRead;
 pub use number::UNKNOWN;
 pub use number::number_at;
 pub use number::number_good;
+pub use write::address_size;
+pub use write::number_size;
+pub use write::put_address;
+pub use write::put_number;

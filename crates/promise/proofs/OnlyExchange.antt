@@ -4,13 +4,15 @@ use mathlib.Core.Path.{_≡_, ap, _∙_}
 use mathlib.Core.Bool.{Bool}
 use mathlib.Core.List.{List}
 use Rattle.laws.proofs.Picks.{both}
-use Rattle.access.specs.declared.profile.Profile.{Profile}
+use Rattle.profile.specs.declared.profile.Profile.{Profile}
 use Rattle.exchange.specs.Table.{FreshTable, TableGood}
 use Rattle.exchange.specs.Arrive.{Arrives}
 use Rattle.exchange.specs.declared.table.Table.{Table}
 use Rattle.exchange.specs.declared.arrive.Outcome.{Outcome}
 use Rattle.exchange.specs.declared.arrive.Arrived.{Arrived}
 use Rattle.exchange.proofs.Outcomes.{told-same}
+use Rattle.exchange.specs.Question.{QuestionOf}
+use Rattle.exchange.specs.declared.question.Question.{Question}
 
 pub only-fresh-table : {a b : Table} → FreshTable a → FreshTable b → a ≡ b
 only-fresh-table = both
@@ -36,3 +38,7 @@ only-arrive access t s xs {r} {q} a b = (
   arrived-same r q (both (a .table) (b .table)) (told-same (r .outcome) (q .outcome) (both (a .told) (b .told))) (both (a .count) (b .count)),
   both (a .lent) (b .lent),
 )
+
+pub only-question-of :
+    (p : Profile) (last : ℕ) (s : List ℕ) {a b : Question} → QuestionOf p last s a → QuestionOf p last s b → a ≡ b
+only-question-of p last s = both

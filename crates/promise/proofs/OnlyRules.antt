@@ -2,8 +2,8 @@
 use Prim.Native.Nat.{ℕ}
 use mathlib.Core.Path.{_≡_}
 use Rattle.laws.proofs.Picks.{both}
-use Rattle.access.specs.declared.profile.Profile.{Profile}
-use Rattle.coding.specs.declared.request.Request.{Request}
+use Rattle.profile.specs.declared.profile.Profile.{Profile}
+use Rattle.requests.specs.declared.request.Request.{Request}
 use Rattle.store.specs.declared.row.Places.{Places}
 use Rattle.store.specs.declared.row.Row.{Row}
 use Rattle.rules.specs.Selection.{PlacesOf}

@@ -4,7 +4,7 @@ use mathlib.Core.Path.{_≡_}
 use mathlib.Core.Bool.{Bool}
 use Rattle.laws.proofs.Picks.{both}
 use Rattle.numbers.specs.declared.address.Address.{Address}
-use Rattle.access.specs.declared.profile.Profile.{Profile}
+use Rattle.profile.specs.declared.profile.Profile.{Profile}
 use Rattle.lists.specs.declared.entries.Entries.{Entries}
 use Rattle.store.specs.Row.{Instances, CountWith, ActiveOf, PutIn, ClearIn, InstanceAt}
 use Rattle.store.specs.Grid.{FreshGrid, RowsGood, EntriesIn}

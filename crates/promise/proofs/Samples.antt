@@ -16,30 +16,30 @@ use Rattle.lists.specs.Entries.{entriesOctets, entriesFrom}
 use Rattle.lists.specs.Listed.{listOctets}
 use Rattle.answers.specs.Answer.{answerOctets}
 use Rattle.answers.specs.Reply.{sameIdent, failedAt, setAt, sequenceAt, listAt, resultAt, afterOwn, ownAt, reply}
-use Rattle.coding.specs.Heard.{replyTag, operationAt, identifierAt, heard}
-use Rattle.coding.specs.Request.{codeAt, serviceAt, servedAt, privates, lastIn, activationIn, interrogationIn, contentsIn, argumentAt}
-use Rattle.coding.specs.Sent.{servedOctets, toOctets, requestOctets}
+use Rattle.requests.specs.Heard.{replyTag, operationAt, identifierAt, heard}
+use Rattle.requests.specs.Request.{codeAt, serviceAt, servedAt, privates, lastIn, activationIn, interrogationIn, contentsIn, argumentAt}
+use Rattle.requests.specs.Sent.{servedOctets, toOctets, requestOctets}
 use Rattle.laws.specs.Places.{everyTo, countTo, eachFrom, changedFrom, gathered}
 use Rattle.numbers.specs.Number.{numberGood}
 use Rattle.numbers.specs.Address.{addressGood}
-use Rattle.access.specs.Access.{numberFrom, prefixFrom, prefixesFrom, profileFrom, accessRead}
-use Rattle.access.specs.Profile.{sameDigits, sameNumber, same, placeIn, numbersGood, rising, servicesGood, prefixGood, prefixesGood, subscriptionsGood, usesGood, diversionGood, profileGood}
+use Rattle.profile.specs.Access.{numberFrom, prefixFrom, prefixesFrom, profileFrom, accessRead}
+use Rattle.profile.specs.Profile.{sameDigits, sameNumber, same, placeIn, numbersGood, rising, servicesGood, prefixGood, prefixesGood, subscriptionsGood, usesGood, diversionGood, profileGood}
 use Rattle.store.specs.Row.{active, selected, countWith, activeOf, putIn, clearIn, entryOfPlace, entriesIn, cellGood, rowGood}
 use Rattle.store.specs.Grid.{gridGood}
-use Rattle.prefixes.specs.Prefix.{begins, beginsAny}
+use Rattle.rules.specs.Prefix.{begins, beginsAny}
 use Rattle.rules.specs.Judge.{isSubscribed, servedInvalid, notProvided, otherKind, selectedSame, fits, noRoom, judge, applied}
 use Rattle.rules.specs.Selection.{numberChosen, serviceChosen, selects, placesOf}
 use Rattle.exchange.specs.Table.{tableGood}
-use Rattle.questions.specs.Question.{notAbove, duplicate, known, invoked, question}
+use Rattle.exchange.specs.Question.{notAbove, duplicate, known, invoked, question}
 use Rattle.exchange.specs.Step.{moved, resultOf, handled, stepOf, step}
 use Rattle.exchange.specs.Arrive.{done}
-use Rattle.onward.specs.Onward.{reasonOf, optionAfter, preferenceAfter, originalShown}
+use Rattle.calls.specs.Onward.{reasonOf, optionAfter, preferenceAfter, originalShown}
 use Rattle.calls.specs.Call.{callFrom, namesGood, valuesGood, originalGood, callGood}
 use Rattle.calls.specs.Divert.{applying, servedOf, noticed, onward, nowhere, comes}
 use Rattle.forms.specs.Order.{before, follows}
 use Rattle.sheet.specs.Instance.{allGroups, instanceOctets, fieldAt, fieldsAt, addressIn, instanceAt}
 use Rattle.sheet.specs.Sheet.{instancesOctets, sheetOctets, runOf, instancesFrom, sheetIn}
-use Rattle.lister.specs.Listing.{decimalIn, decimal, procedureName, kindText, hexOf, hexText, subText, lineOf, headerLine, instanceLine, instanceLines, listing, listedSheet, refusedLine, printedSheet}
+use Rattle.listings.specs.Listing.{decimalIn, decimal, procedureName, kindText, hexOf, hexText, subText, lineOf, headerLine, instanceLine, instanceLines, listing, listedSheet, refusedLine, printedSheet}
 use Rattle.nightly.specs.Instances.{instancesOf}
 use Rattle.nightly.specs.Record.{wroteSheet}
 use Rattle.promise.specs.Samples.{Each, samples}

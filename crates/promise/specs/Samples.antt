@@ -28,19 +28,19 @@ use Rattle.exchange.specs.Arrive.{outputLeast, done}
 use Rattle.exchange.specs.declared.table.Table.{Table}
 use Rattle.forms.specs.Form.{form1}
 use Rattle.sheet.specs.Size.{sheetMost}
-use Rattle.lister.specs.Listing.{listingMost, listedSheet, printedSheet}
+use Rattle.listings.specs.Listing.{listingMost, listedSheet, printedSheet}
 use Rattle.nightly.specs.Record.{wroteSheet}
 use Rattle.calls.specs.Divert.{Told, refuses, passes, diverts, comes}
-use Rattle.coding.specs.Heard.{local, heard}
-use Rattle.coding.specs.Request.{activation, interrogation, allNumbers, nowhere, requestOf, argumentAt}
-use Rattle.coding.specs.Sent.{requestOctets}
+use Rattle.requests.specs.Heard.{local, heard}
+use Rattle.requests.specs.Request.{activation, interrogation, allNumbers, nowhere, requestOf, argumentAt}
+use Rattle.requests.specs.Sent.{requestOctets}
 use Rattle.answers.specs.declared.answer.Answer.{Answer}
 use Rattle.answers.specs.declared.answer.Answer.the-variants as answer
 use Rattle.answers.specs.declared.answer.Problem.the-variants as problem
 use Rattle.answers.specs.declared.answer.Whose.the-variants as whose
-use Rattle.coding.specs.declared.heard.Heard.{Heard}
-use Rattle.coding.specs.declared.heard.Heard.the-variants as heard
-use Rattle.coding.specs.declared.request.Request.{Request}
+use Rattle.requests.specs.declared.heard.Heard.{Heard}
+use Rattle.requests.specs.declared.heard.Heard.the-variants as heard
+use Rattle.requests.specs.declared.request.Request.{Request}
 
 pub data Sample : Type 0 where
   reads-identifier : List ℕ → Ident → Sample

@@ -11,14 +11,14 @@ use Rattle.laws.specs.Pick.{pick}
 use Rattle.laws.proofs.Picks.{pick-ind, pick-then, pick-else, pick-map, pick-first}
 use Rattle.numbers.specs.Number.{other, digitsOf}
 use Rattle.numbers.specs.declared.number.Number.{Number}
-use Rattle.access.specs.Profile.{servedNumbers, barred}
-use Rattle.access.specs.declared.profile.Profile.{Profile}
-use Rattle.coding.specs.Request.{activation, deactivation}
-use Rattle.coding.specs.declared.request.Request.{Request}
+use Rattle.profile.specs.Profile.{servedNumbers, barred}
+use Rattle.profile.specs.declared.profile.Profile.{Profile}
+use Rattle.requests.specs.Request.{activation, deactivation}
+use Rattle.requests.specs.declared.request.Request.{Request}
 use Rattle.store.specs.Row.{countWith, activeOf, putIn, clearIn}
 use Rattle.store.specs.declared.row.Places.{Places}
 use Rattle.store.specs.declared.row.Row.{Row}
-use Rattle.prefixes.specs.Prefix.{beginsAny}
+use Rattle.rules.specs.Prefix.{beginsAny}
 use Rattle.rules.specs.Judge.{Test, first, notInUse, isSubscribed, servedInvalid, notProvided, userSpecified, otherKind, selectedSame, fits, noRoom, everyTests, activationTests, deactivationTests, testsOf, judge, applied}
 use Rattle.rules.specs.declared.verdict.Verdict.{Verdict}
 use Rattle.rules.specs.declared.verdict.Verdict.the-variants.{Passes, Fails}

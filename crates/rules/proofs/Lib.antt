@@ -1,3 +1,4 @@
 pub mod Selections
 pub mod TestLaws
 pub mod Judges
+pub mod Begins

@@ -16,11 +16,11 @@ use Rattle.laws.specs.Places.{eachFrom}
 use Rattle.laws.proofs.Over.{over-nil, over-cons, length-over}
 use Rattle.laws.proofs.Each.{getD-each, length-each, each-all}
 use Rattle.laws.proofs.Picks.{pick-ind, pick-then, pick-first}
-use Rattle.access.specs.Profile.{numbersMost, servicesMost, servedNumbers, offered, placeIn, rising}
-use Rattle.access.specs.declared.profile.Profile.{Profile}
-use Rattle.access.proofs.Profiles.{place-most, rising-above}
-use Rattle.coding.specs.declared.request.Served.{Served}
-use Rattle.coding.specs.declared.request.Request.{Request}
+use Rattle.profile.specs.Profile.{numbersMost, servicesMost, servedNumbers, offered, placeIn, rising}
+use Rattle.profile.specs.declared.profile.Profile.{Profile}
+use Rattle.profile.proofs.Profiles.{place-most, rising-above}
+use Rattle.requests.specs.declared.request.Served.{Served}
+use Rattle.requests.specs.declared.request.Request.{Request}
 use Rattle.store.specs.Row.{places, numberOfPlace, serviceOfPlace, selected}
 use Rattle.store.specs.declared.row.Places.{Places}
 use Rattle.store.proofs.Turns.{is-selected, not-selected}

@@ -8,10 +8,10 @@ use lib.ListN.{length, take, drop, getD}
 use Rattle.laws.specs.Pick.{pick}
 use Rattle.laws.proofs.Lefts.{left-cons, left-none}
 use Rattle.numbers.specs.declared.number.Number.{Number}
-use Rattle.access.specs.Profile.{sameNumber, noNumber}
-use Rattle.access.specs.declared.profile.Profile.{Profile}
-use Rattle.access.proofs.Profiles.{same-plain}
-use Rattle.coding.specs.declared.request.Request.{Request}
+use Rattle.profile.specs.Profile.{sameNumber, noNumber}
+use Rattle.profile.specs.declared.profile.Profile.{Profile}
+use Rattle.profile.proofs.Profiles.{same-plain}
+use Rattle.requests.specs.declared.request.Request.{Request}
 use Rattle.rules.specs.Selection.{Asks}
 use Rattle.rules.proofs.Selections.{isAsked}
 use Rattle.rules.specs.Judge.{selectedSame}

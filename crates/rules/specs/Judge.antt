@@ -10,11 +10,11 @@ use Rattle.laws.specs.Pick.{pick}
 use Rattle.codes.specs.Codes.{placeOf}
 use Rattle.numbers.specs.Number.{public, other, digitsOf}
 use Rattle.numbers.specs.declared.number.Number.{Number}
-use Rattle.access.specs.Profile.{servedNumbers, offered, barred, same, placeIn}
-use Rattle.prefixes.specs.Prefix.{beginsAny}
-use Rattle.access.specs.declared.profile.Profile.{Profile}
-use Rattle.coding.specs.Request.{activation, deactivation}
-use Rattle.coding.specs.declared.request.Request.{Request}
+use Rattle.profile.specs.Profile.{servedNumbers, offered, barred, same, placeIn}
+use Rattle.rules.specs.Prefix.{beginsAny}
+use Rattle.profile.specs.declared.profile.Profile.{Profile}
+use Rattle.requests.specs.Request.{activation, deactivation}
+use Rattle.requests.specs.declared.request.Request.{Request}
 use Rattle.lists.specs.Entries.{limit}
 use Rattle.store.specs.Row.{countWith, activeOf, putIn, clearIn}
 use Rattle.store.specs.declared.row.Places.{Places}

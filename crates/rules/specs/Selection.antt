@@ -6,10 +6,10 @@ use lib.ListN.{getD}
 use lib.Dec.{ltb, eqb}
 use Rattle.laws.specs.Pick.{pick}
 use Rattle.laws.specs.Places.{eachFrom}
-use Rattle.access.specs.Profile.{servedNumbers, placeIn}
-use Rattle.access.specs.declared.profile.Profile.{Profile}
-use Rattle.coding.specs.declared.request.Served.{Served}
-use Rattle.coding.specs.declared.request.Request.{Request}
+use Rattle.profile.specs.Profile.{servedNumbers, placeIn}
+use Rattle.profile.specs.declared.profile.Profile.{Profile}
+use Rattle.requests.specs.declared.request.Served.{Served}
+use Rattle.requests.specs.declared.request.Request.{Request}
 use Rattle.store.specs.Row.{places, numberOfPlace, serviceOfPlace}
 use Rattle.store.specs.declared.row.Places.{Places}
 

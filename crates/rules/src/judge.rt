@@ -1,16 +1,16 @@
 // A request is judged, and applied to the row of its procedure.
+use crate::prefix::begins_any;
 use crate::tests::not_provided;
 use crate::tests::other_kind;
 use crate::tests::selected_same;
 use crate::tests::served_invalid;
 use crate::verdict::Verdict;
-use access::Profile;
-use coding::ACTIVATION;
-use coding::DEACTIVATION;
-use coding::PROCEDURES;
-use coding::Request;
 use lists::LIMIT;
-use prefixes::begins_any;
+use profile::Profile;
+use requests::ACTIVATION;
+use requests::DEACTIVATION;
+use requests::PROCEDURES;
+use requests::Request;
 use store::Places;
 use store::Row;
 ghost use mathlib.Core.Path.{_≡_};

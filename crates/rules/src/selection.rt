@@ -1,10 +1,10 @@
 // Which numbers and services a request selects.
-use access::NUMBERS;
-use access::Profile;
-use access::SERVICES;
-use access::number_place;
-use coding::Request;
 use octets::put_all;
+use profile::NUMBERS;
+use profile::Profile;
+use profile::SERVICES;
+use profile::number_place;
+use requests::Request;
 use store::PLACES;
 use store::Places;
 ghost use mathlib.Core.Path.{_≡_};
@@ -13,7 +13,7 @@ ghost use lib.Dec.{ltb, eqb};
 ghost use lib.ListN.{getD};
 ghost use Rattle.laws.specs.Pick.{pick};
 ghost use Rattle.laws.specs.Places.{eachFrom};
-ghost use Rattle.access.specs.Profile.{servicesMost};
+ghost use Rattle.profile.specs.Profile.{servicesMost};
 ghost use Rattle.rules.specs.Selection.{Asks, serviceChosen, PlacesOf};
 
 // What `number_asked` answers where a request selects every number.

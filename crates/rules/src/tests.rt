@@ -1,15 +1,15 @@
 // The tests of registration, one by one.
 use crate::selection::is_asked;
 use crate::selection::number_asked;
-use access::NUMBERS;
-use access::Profile;
-use access::number_place;
-use access::same_number;
-use access::service_slot;
-use coding::Request;
 use numbers::Number;
+use profile::NUMBERS;
+use profile::Profile;
+use profile::number_place;
+use profile::same_number;
+use profile::service_slot;
+use requests::Request;
 ghost use mathlib.Core.Path.{_≡_};
-ghost use Rattle.access.specs.Profile.{servedNumbers};
+ghost use Rattle.profile.specs.Profile.{servedNumbers};
 ghost use Rattle.rules.specs.Judge.{servedInvalid, notProvided, otherKind, selectedSame};
 
 // The forms and the type that are told apart, and the most digits of an international number.

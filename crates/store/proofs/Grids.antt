@@ -5,7 +5,7 @@ use mathlib.Core.Bool.{Bool, true, false}
 use native.Mathlib.Omega.{arith}
 use Rattle.laws.proofs.Picks.{pick-ind}
 use Rattle.laws.proofs.Walks.{every-none, every-last, every-more, every-fails, every-at, every-all}
-use Rattle.access.specs.declared.profile.Profile.{Profile}
+use Rattle.profile.specs.declared.profile.Profile.{Profile}
 use Rattle.store.specs.Row.{rowGood}
 use Rattle.store.specs.Grid.{procedures, rowAt, gridOf, gridGood}
 use Rattle.store.specs.declared.grid.Grid.{Grid}

@@ -7,7 +7,7 @@ use Rattle.laws.specs.Pick.{pick}
 use Rattle.laws.specs.Places.{placesWhere}
 use Rattle.laws.proofs.Picks.{pick-ind}
 use Rattle.laws.proofs.Chosen.{count-nothing, nothing-counted, gathered-places, gathered-same}
-use Rattle.access.specs.declared.profile.Profile.{Profile}
+use Rattle.profile.specs.declared.profile.Profile.{Profile}
 use Rattle.store.specs.Row.{places, active, selected, activeOf, entryOfPlace, entriesIn}
 use Rattle.store.specs.declared.row.Places.{Places}
 use Rattle.store.specs.declared.row.Row.{Row}

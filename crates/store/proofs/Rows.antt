@@ -18,7 +18,7 @@ use Rattle.laws.proofs.Walks.{count-same, count-fewer, every-at, every-all, len
 use Rattle.numbers.specs.Number.{numberGood}
 use Rattle.numbers.specs.Address.{tidyAddress, addressGood}
 use Rattle.numbers.specs.declared.address.Address.{Address}
-use Rattle.access.specs.declared.profile.Profile.{Profile}
+use Rattle.profile.specs.declared.profile.Profile.{Profile}
 use Rattle.lists.specs.Entries.{allGood}
 use Rattle.lists.specs.declared.entry.Entry.{Entry}
 use Rattle.lists.proofs.Goods.{entry-good, all-none, all-one, all-both}

@@ -14,7 +14,7 @@ use Rattle.laws.specs.Pick.{pick}
 use Rattle.laws.specs.Places.{countTo, gathered}
 use Rattle.laws.proofs.Walks.{count-more, gathered-more, Kept}
 use Rattle.numbers.specs.declared.address.Address.{Address}
-use Rattle.access.specs.declared.profile.Profile.{Profile}
+use Rattle.profile.specs.declared.profile.Profile.{Profile}
 use Rattle.lists.specs.Entry.{noEntry}
 use Rattle.lists.specs.Entries.{limit, entriesOf}
 use Rattle.lists.specs.declared.entry.Entry.{Entry}

@@ -5,7 +5,7 @@ use mathlib.Core.Bool.{Bool}
 use mathlib.Core.List.{List, [], _∷_}
 use lib.ListN.{getD, replicate, take}
 use Rattle.laws.specs.Places.{everyTo}
-use Rattle.access.specs.declared.profile.Profile.{Profile}
+use Rattle.profile.specs.declared.profile.Profile.{Profile}
 use Rattle.lists.specs.Entries.{limit, entriesOf}
 use Rattle.lists.specs.declared.entries.Entries.{Entries}
 use Rattle.store.specs.Row.{places, noCell, entriesIn, rowGood}

@@ -13,8 +13,8 @@ use Rattle.numbers.specs.Number.{numberOf}
 use Rattle.numbers.specs.Address.{tidyAddress, subOf, forwardedOf, addressGood}
 use Rattle.numbers.specs.declared.number.Number.{Number}
 use Rattle.numbers.specs.declared.address.Address.{Address}
-use Rattle.access.specs.Profile.{numbersMost, servicesMost}
-use Rattle.access.specs.declared.profile.Profile.{Profile}
+use Rattle.profile.specs.Profile.{numbersMost, servicesMost}
+use Rattle.profile.specs.declared.profile.Profile.{Profile}
 use Rattle.lists.specs.Entry.{entryOf}
 use Rattle.lists.specs.declared.entry.Entry.{Entry}
 use Rattle.store.specs.declared.row.Cell.{Cell}

@@ -2,7 +2,7 @@
 use crate::row::PLACES;
 use crate::row::Row;
 use crate::row::no_cell;
-use access::Profile;
+use profile::Profile;
 ghost use Rattle.store.specs.Grid.{FreshGrid, RowsGood};
 
 pub const PROCEDURES: usize = 3;

@@ -1,7 +1,4 @@
 // What a procedure holds: a row of cells, one for each number and each service of the profile.
-use access::NUMBERS;
-use access::Profile;
-use access::SERVICES;
 use lists::Entries;
 use lists::Entry;
 use lists::LIMIT;
@@ -9,6 +6,9 @@ use lists::no_entries;
 use numbers::Address;
 use numbers::Number;
 use numbers::address_good;
+use profile::NUMBERS;
+use profile::Profile;
+use profile::SERVICES;
 ghost use mathlib.Core.Path.{_≡_};
 ghost use Prim.Native.Nat.{_<_};
 ghost use lib.Dec.{eqb};

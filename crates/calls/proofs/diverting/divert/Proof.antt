@@ -1,9 +1,9 @@
 use Rattle.calls.proofs.Records.{good-call}
 use Rattle.calls.proofs.Comings.{comes-profile, comes-table, comes-call, comes-by}
-use Rattle.access.specs.declared.access.AccessRead.{AccessRead}
-use Rattle.access.proofs.Profiles.{good-profile}
-use Rattle.access.proofs.Records.{access-good}
-use Rattle.access.proofs.Diversions.{option-most}
+use Rattle.profile.specs.declared.access.AccessRead.{AccessRead}
+use Rattle.profile.proofs.Profiles.{good-profile}
+use Rattle.profile.proofs.Records.{access-good}
+use Rattle.profile.proofs.Diversions.{option-most}
 use native.Mathlib.Omega.{arith}
 use mathlib.Core.Path.{sym, ap, _∙_}
 use borrow.Author.Tests.{not-true, not-false}

@@ -1,5 +1,5 @@
 use Rattle.calls.proofs.Onwards.{goes-on}
-use Rattle.onward.proofs.Options.{option-least}
+use Rattle.calls.proofs.Options.{option-least}
 use native.Mathlib.Omega.{arith}
 use borrow.Author.Needs.{needs}
 use Rattle.calls.proofs.diverting.go_on.Statement.{statement}

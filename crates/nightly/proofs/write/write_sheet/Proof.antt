@@ -6,8 +6,8 @@ use Rattle.sheet.specs.Size.{sheetMost}
 use Rattle.sheet.specs.Sheet.{sheetOctets}
 use Rattle.nightly.specs.Instances.{instancesOf}
 use Rattle.sheet.specs.declared.record.Refusal.the-variants.{ShortOutput, BadProfile, BadTable}
-use Rattle.access.specs.Access.{accessRead}
-use Rattle.access.specs.declared.access.AccessRead.{AccessRead}
+use Rattle.profile.specs.Access.{accessRead}
+use Rattle.profile.specs.declared.access.AccessRead.{AccessRead}
 use Rattle.lists.specs.Entries.{limit}
 use Rattle.exchange.specs.Table.{tableGood}
 use Rattle.laws.specs.Over.{Wrote}

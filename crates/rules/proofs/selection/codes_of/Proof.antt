@@ -1,7 +1,7 @@
 use Rattle.rules.proofs.Selections.{slotCode}
 use Rattle.laws.specs.Places.{eachFrom}
 use Rattle.laws.proofs.Each.{each-spelled, each-set, each-done}
-use Rattle.access.specs.Profile.{servicesMost}
+use Rattle.profile.specs.Profile.{servicesMost}
 use lib.ListN.{length, take, length-set}
 use mathlib.Core.Path.{_≡_, refl, _∙_}
 use native.Mathlib.Omega.{arith}

@@ -1,5 +1,5 @@
 use Rattle.rules.proofs.Selections.{asks-ignored, asks-all, asks-one}
-use Rattle.access.specs.Profile.{numbersMost}
+use Rattle.profile.specs.Profile.{numbersMost}
 use Rattle.laws.proofs.Parts.{unmapped}
 use borrow.Author.Needs.{needs}
 use lib.ListN.{length}

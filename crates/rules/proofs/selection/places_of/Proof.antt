@@ -1,5 +1,5 @@
 use Rattle.rules.proofs.Selections.{Chosen, chosen-first, chosen-skip, chosen-put, chosen-all}
-use Rattle.access.specs.Profile.{numbersMost, servicesMost}
+use Rattle.profile.specs.Profile.{numbersMost, servicesMost}
 use Rattle.laws.proofs.Over.{wrote}
 use Rattle.laws.proofs.Each.{length-each}
 use lib.ListN.{length}

@@ -1,5 +1,5 @@
 use Rattle.rules.proofs.TestLaws.{Compared, compared-here, compared-skip, compared-other, compared-none}
-use Rattle.access.specs.Profile.{numbersMost}
+use Rattle.profile.specs.Profile.{numbersMost}
 use Rattle.laws.proofs.Parts.{unmapped}
 use borrow.Author.Needs.{needs}
 use native.Mathlib.Omega.{arith}

@@ -1,4 +1,0 @@
-pub mod Saids
-pub mod Tolds
-pub mod Diversions
-pub mod OnlyCard

@@ -1,0 +1,292 @@
+-- Laws of questions, over plain values: what the machine's tests of signed numbers say, and what is known of a question, whatever
+-- component it came from. Assumes nothing.
+use Prim.Native.Nat.{ℕ, _<_, _≤_}
+use mathlib.Core.Path.{_≡_, refl, sym, ap, _∙_}
+use mathlib.Core.Bool.{Bool, true, false, false≢true}
+use mathlib.Core.List.{List}
+use native.Mathlib.Omega.{arith}
+use lib.IntN.{ℤ, pos, negsuc, natAbs}
+use lib.Signed.{mag, ltZ, nonNeg}
+use lib.Dec.{T, leb, eqb}
+use mir.Syntax.{w8, w16}
+use mir.Val.{Fits, SFits, toZ, ofZ}
+use mir.Facts.{toZ-ofZ, toZ-pos}
+use borrow.Author.Tests.{ltb-true, leb-false, eq-eqb, ne-eqb, eqb-true}
+use Rattle.laws.specs.Got.{Got, got, wrong}
+use Rattle.laws.proofs.Picks.{pick-ind}
+use Rattle.codes.specs.Codes.{serviceCode}
+use Rattle.numbers.proofs.Goods.{ToUnless}
+use Rattle.profile.specs.declared.profile.Profile.{Profile}
+use Rattle.requests.specs.Heard.{heard}
+use Rattle.requests.specs.Request.{activation, deactivation, interrogation, requestRead, argumentAt}
+use Rattle.requests.specs.declared.heard.Heard.{Heard}
+use Rattle.requests.specs.declared.heard.Heard.the-variants as heard
+use Rattle.requests.specs.declared.heard.Operation.{Operation}
+use Rattle.requests.specs.declared.request.Request.{Request}
+use Rattle.requests.specs.declared.request.RequestRead.{RequestRead}
+use Rattle.requests.proofs.Ranges.{HeardRanges, heard-range}
+use Rattle.requests.proofs.Requests.{argument-read}
+use Rattle.answers.specs.declared.answer.Answer.{Answer}
+use Rattle.answers.specs.declared.answer.Answer.the-variants as answer
+use Rattle.answers.specs.declared.answer.Problem.{Problem}
+use Rattle.answers.specs.declared.answer.Problem.the-variants.{General, Invoke}
+use Rattle.answers.specs.declared.answer.Whose.{Whose}
+use Rattle.answers.specs.declared.answer.Whose.the-variants.{Null, Own}
+use Rattle.exchange.specs.Question.{asks, rejects, notAbove, duplicate, known, codeOf, argued, invoked, questionOf, question}
+use Rattle.exchange.specs.declared.question.Question.{Question}
+
+-- ---- the machine's tests
+
+negative-not-above : (z : ℤ) (last : ℕ) → ltZ z (pos 0) ≡ true → true ≡ notAbove z last
+unfolding notAbove
+negative-not-above (pos n) last e = absurd (omega (arith, ltb-true n 0 e))
+negative-not-above (negsuc n) last e = refl
+
+number-not-above : (z : ℤ) (last : ℕ) → ltZ z (pos 0) ≡ false → leb (natAbs z) last ≡ notAbove z last
+unfolding notAbove
+number-not-above (pos n) last e = refl
+number-not-above (negsuc n) last e = let z : _≡_ {A = ℕ} 0 1 = cc in absurd (omega arith)
+
+number-fits : (z : ℤ) → SFits w16 z → ltZ z (pos 0) ≡ false → T (nonNeg z) × Fits w16 (natAbs z)
+number-fits (pos n) fits e = (tt, record { fits = omega (arith, fits .sfits) })
+number-fits (negsuc n) fits e = let z : _≡_ {A = ℕ} 0 1 = cc in absurd (omega arith)
+
+-- the bits that the machine compares are those of one number
+bits-are : (z : ℤ) → SFits w16 z → (n : ℕ) → n < 32768 → ofZ w16 z ≡ n → z ≡ pos n
+bits-are z fits n small e = sym (toZ-ofZ fits) ∙ ap (toZ w16) e ∙ toZ-pos w16 small
+
+last-known :
+    (z : ℤ) → SFits w16 z → (ofZ w16 z ≡ activation → ⊥) → (ofZ w16 z ≡ deactivation → ⊥) →
+    eqb (ofZ w16 z) interrogation ≡ known z
+unfolding known
+last-known (pos n) fits first second = rw (ne-eqb n activation first, ne-eqb n deactivation second)
+last-known (negsuc n) fits first second = ne-eqb (ofZ w16 (negsuc n)) interrogation (λ e. omega (arith, fits .sfits))
+
+-- a signed number of 16 bits, as the machine holds it
+module _ (z : ℤ) (fits : SFits w16 z) where
+  -- "identifier not above last handled": a negative one
+  pub below-zero : (last : ℕ) → ltZ (toZ w16 (ofZ w16 z)) (pos 0) ≡ true → true ≡ notAbove z last
+  below-zero last e = negative-not-above z last (rw (toZ-ofZ fits) at e)
+
+  -- and one that can be cast
+  pub from-zero :
+      (last : ℕ) → ltZ (toZ w16 (ofZ w16 z)) (pos 0) ≡ false →
+      leb (natAbs (toZ w16 (ofZ w16 z))) last ≡ notAbove z last
+  from-zero last e = rw (toZ-ofZ fits) (number-not-above z last (rw (toZ-ofZ fits) at e))
+
+  pub from-zero-fits :
+      ltZ (toZ w16 (ofZ w16 z)) (pos 0) ≡ false →
+      T (nonNeg (toZ w16 (ofZ w16 z))) × Fits w16 (natAbs (toZ w16 (ofZ w16 z)))
+  from-zero-fits e = rw (toZ-ofZ fits) (number-fits z fits (rw (toZ-ofZ fits) at e))
+
+  -- "operation not 7, 8, 11"
+  pub activation-known : ofZ w16 z ≡ activation → true ≡ known z
+  unfolding known
+  activation-known e = rw (bits-are z fits activation (omega arith) e)
+
+  pub deactivation-known : ofZ w16 z ≡ deactivation → true ≡ known z
+  unfolding known
+  deactivation-known e = rw (bits-are z fits deactivation (omega arith) e)
+
+  pub interrogation-known :
+      (ofZ w16 z ≡ activation → ⊥) → (ofZ w16 z ≡ deactivation → ⊥) → eqb (ofZ w16 z) interrogation ≡ known z
+  interrogation-known = last-known z fits
+
+-- ---- operations
+
+-- which of the three it is
+pub data Known (operation : ℕ) : Type 0 where
+  activates : operation ≡ activation → Known operation
+  deactivates : operation ≡ deactivation → Known operation
+  interrogates : operation ≡ interrogation → Known operation
+
+-- an operation that is known is one of the three, and its own code
+pub known-code : (z : ℤ) → known z ≡ true → (z ≡ pos (codeOf z)) × Known (codeOf z)
+unfolding known
+known-code (pos n) =
+    let P : Bool → Type 0 = λ t. t ≡ true → (pos n ≡ pos n) × Known n in
+    pick-ind P (eqb n activation) (λ e _. (refl, activates (eqb-true n activation e)))
+    (λ _. pick-ind P (eqb n deactivation)
+    (λ e _. (refl, deactivates (eqb-true n deactivation e)))
+    (λ _ e. (refl, interrogates (eqb-true n interrogation e))))
+known-code (negsuc n) = λ e. absurd (false≢true e)
+
+known-small : {operation : ℕ} → Known operation → operation ≤ 11
+known-small (activates e) = omega arith
+known-small (deactivates e) = omega arith
+known-small (interrogates e) = omega arith
+
+-- so that the machine can cast it
+module _ (z : ℤ) (fits : SFits w16 z) (e : known z ≡ true) where
+  machine-code : toZ w16 (ofZ w16 z) ≡ pos (codeOf z)
+  machine-code = toZ-ofZ fits ∙ known-code z e .0
+
+  pub code-fits : T (nonNeg (toZ w16 (ofZ w16 z))) × Fits w8 (natAbs (toZ w16 (ofZ w16 z)))
+  code-fits =
+      rw machine-code (tt, record { fits = omega (arith, known-small (known-code z e .1)) })
+
+  pub code-cast : natAbs (toZ w16 (ofZ w16 z)) ≡ codeOf z
+  code-cast = ap natAbs machine-code
+
+-- ---- what the reader of the argument answers
+
+-- a request that was read is asked
+pub argued-found :
+    (identifier : ℤ) (operation : Operation) (g : Got Request) (r : RequestRead) → r ≡ requestRead g → r .ok ≡ true →
+    asks identifier (codeOf (operation .value)) (r .request) ≡ argued identifier operation g
+argued-found identifier operation (got request next) r e h = rw e
+argued-found identifier operation wrong r e h =
+    absurd (false≢true (sym (ap (λ (x : RequestRead). x .ok) e) ∙ h))
+
+-- an argument that is wrong is rejected
+pub argued-none :
+    (identifier : ℤ) (operation : Operation) (g : Got Request) (r : RequestRead) → r ≡ requestRead g → r .ok ≡ false →
+    rejects (Own identifier) (Invoke 2) ≡ argued identifier operation g
+argued-none identifier operation (got request next) r e h =
+    absurd (false≢true (sym h ∙ ap (λ (x : RequestRead). x .ok) e))
+argued-none identifier operation wrong r e h = refl
+
+-- ---- what is known of a question
+
+-- an identifier above the last that was handled
+pub record Above (last : ℕ) (identifier : ℤ) : Type 0 where
+  pub number : identifier ≡ pos (mag identifier)
+  pub more : last < mag identifier
+
+-- what is no duplicate for a counted end is above the last that was handled
+not-above-false : (z : ℤ) (last : ℕ) → notAbove z last ≡ false → Above last z
+unfolding notAbove
+not-above-false (pos n) last e = record { number = refl; more = leb-false n last e }
+not-above-false (negsuc n) last e = absurd (false≢true (sym e))
+
+duplicate-false : (p : Profile) (last : ℕ) (z : ℤ) → duplicate p last z ≡ false → p .counted ≡ 1 → Above last z
+unfolding duplicate
+duplicate-false p last z e counted = not-above-false z last (rw (eq-eqb (p .counted) 1 counted) at e)
+
+-- a request that must be judged: its codes are those of the tables, its operation is known, an activation's address is one that a
+-- table holds unless its number is of another kind, and for a counted end the identifier is new
+pub record Asked (p : Profile) (last : ℕ) (q : Question) : Type 0 where
+  pub procedure : q .request .procedure < 3
+  pub service : serviceCode (q .request .service) ≡ true
+  pub operation : Known (q .operation)
+  pub to : q .operation ≡ activation → ToUnless (q .request .to)
+  pub above : p .counted ≡ 1 → Above last (q .identifier)
+
+-- the procedure of its request is one of the three, also where nothing is asked
+argued-procedure :
+    (identifier : ℤ) (operation : Operation) (s : List ℕ) (at end : ℕ) (g : Got Request) → argumentAt operation s at end ≡ g →
+    argued identifier operation g .request .procedure < 3
+argued-procedure identifier operation s at end (got r next) read = argument-read operation s at end r next read .procedure
+argued-procedure identifier operation s at end wrong read = omega arith
+
+procedure-of : (p : Profile) (last : ℕ) (s : List ℕ) (h : Heard) → questionOf p last s h .request .procedure < 3
+unfolding invoked
+procedure-of p last s heard.NotOne = omega arith
+procedure-of p last s heard.Silent = omega arith
+procedure-of p last s heard.OtherTag = omega arith
+procedure-of p last s heard.NoIdentifier = omega arith
+procedure-of p last s (heard.NoOperation identifier) = omega arith
+procedure-of p last s (heard.Asks identifier operation at end) =
+    let P : Question → Type 0 = λ q. q .request .procedure < 3 in
+    pick-ind P (duplicate p last identifier) (λ _. omega arith)
+    (λ _. pick-ind P (known (operation .value))
+    (λ _. argued-procedure identifier operation s at end (argumentAt operation s at end) refl)
+    (λ _. omega arith))
+
+pub question-procedure : (p : Profile) (last : ℕ) (s : List ℕ) → question p last s .request .procedure < 3
+unfolding question
+question-procedure p last s = procedure-of p last s (heard s)
+
+argued-asks :
+    (p : Profile) (last : ℕ) (identifier : ℤ) (operation : Operation) (s : List ℕ) (at end : ℕ) →
+    duplicate p last identifier ≡ false → known (operation .value) ≡ true →
+    (g : Got Request) → argumentAt operation s at end ≡ g → argued identifier operation g .asked ≡ true →
+    Asked p last (argued identifier operation g)
+argued-asks p last identifier operation s at end new is-known (got r next) read e =
+    let known = known-code (operation .value) is-known in
+    let is = argument-read operation s at end r next read in
+    record {
+      procedure = is .procedure;
+      service = is .service;
+      operation = known .1;
+      to = λ activates. is .to (known .0 ∙ ap pos activates);
+      above = duplicate-false p last identifier new;
+    }
+argued-asks p last identifier operation s at end new is-known wrong read e = absurd (false≢true e)
+
+asks-of :
+    (p : Profile) (last : ℕ) (s : List ℕ) (h : Heard) → questionOf p last s h .asked ≡ true →
+    Asked p last (questionOf p last s h)
+unfolding invoked
+asks-of p last s heard.NotOne e = absurd (false≢true e)
+asks-of p last s heard.Silent e = absurd (false≢true e)
+asks-of p last s heard.OtherTag e = absurd (false≢true e)
+asks-of p last s heard.NoIdentifier e = absurd (false≢true e)
+asks-of p last s (heard.NoOperation identifier) e = absurd (false≢true e)
+asks-of p last s (heard.Asks identifier operation at end) e =
+    let P : Question → Type 0 = λ q. q .asked ≡ true → Asked p last q in
+    pick-ind P (duplicate p last identifier) (λ _ f. absurd (false≢true f))
+    (λ new. pick-ind P (known (operation .value))
+    (λ is-known.
+    argued-asks p last identifier operation s at end new is-known (argumentAt operation s at end) refl)
+    (λ _ f. absurd (false≢true f)))
+    e
+
+pub question-asks :
+    (p : Profile) (last : ℕ) (s : List ℕ) → question p last s .asked ≡ true → Asked p last (question p last s)
+unfolding question
+question-asks p last s = asks-of p last s (heard s)
+
+-- its identifier has 16 bits
+argued-range :
+    (identifier : ℤ) (operation : Operation) (g : Got Request) → mag identifier < 32768 →
+    mag (argued identifier operation g .identifier) < 32768
+argued-range identifier operation (got r next) range = range
+argued-range identifier operation wrong range = omega arith
+
+range-of :
+    (p : Profile) (last : ℕ) (s : List ℕ) (h : Heard) → HeardRanges h →
+    mag (questionOf p last s h .identifier) < 32768
+unfolding invoked
+range-of p last s heard.NotOne range = omega arith
+range-of p last s heard.Silent range = omega arith
+range-of p last s heard.OtherTag range = omega arith
+range-of p last s heard.NoIdentifier range = omega arith
+range-of p last s (heard.NoOperation identifier) range = omega arith
+range-of p last s (heard.Asks identifier operation at end) range =
+    let P : Question → Type 0 = λ q. mag (q .identifier) < 32768 in
+    pick-ind P (duplicate p last identifier) (λ _. omega arith)
+    (λ _. pick-ind P (known (operation .value))
+    (λ _. argued-range identifier operation (argumentAt operation s at end) range) (λ _. omega arith))
+
+pub question-range : (p : Profile) (last : ℕ) (s : List ℕ) → mag (question p last s .identifier) < 32768
+unfolding question
+question-range p last s = range-of p last s (heard s) (heard-range s)
+
+-- before a request is judged there is silence or a reject, no error, no result and no listing
+pub data AtOnce (a : Answer) : Type 0 where
+  silence : a ≡ answer.Silence → AtOnce a
+  reject : (whose : Whose) (problem : Problem) → a ≡ answer.Reject whose problem → AtOnce a
+
+argued-says :
+    (identifier : ℤ) (operation : Operation) (g : Got Request) → AtOnce (argued identifier operation g .answer)
+argued-says identifier operation (got r next) = silence refl
+argued-says identifier operation wrong = reject (Own identifier) (Invoke 2) refl
+
+says-of : (p : Profile) (last : ℕ) (s : List ℕ) (h : Heard) → AtOnce (questionOf p last s h .answer)
+unfolding invoked
+says-of p last s heard.NotOne = reject Null (General 2) refl
+says-of p last s heard.Silent = silence refl
+says-of p last s heard.OtherTag = reject Null (General 0) refl
+says-of p last s heard.NoIdentifier = reject Null (General 1) refl
+says-of p last s (heard.NoOperation identifier) = reject (Own identifier) (General 1) refl
+says-of p last s (heard.Asks identifier operation at end) =
+    let P : Question → Type 0 = λ q. AtOnce (q .answer) in
+    pick-ind P (duplicate p last identifier) (λ _. reject (Own identifier) (Invoke 0) refl)
+    (λ _. pick-ind P (known (operation .value))
+    (λ _. argued-says identifier operation (argumentAt operation s at end))
+    (λ _. reject (Own identifier) (Invoke 1) refl))
+
+pub question-says : (p : Profile) (last : ℕ) (s : List ℕ) → AtOnce (question p last s .answer)
+unfolding question
+question-says p last s = says-of p last s (heard s)

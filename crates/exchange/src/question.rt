@@ -1,0 +1,171 @@
+// What an arriving component asks, or the answer that it gets at once (document 01, "Replies, in the order checked").
+use answers::Answer;
+use answers::Problem;
+use answers::Whose;
+use numbers::Address;
+use numbers::Forwarded;
+use numbers::Number;
+use profile::Profile;
+use requests::ACTIVATION;
+use requests::DEACTIVATION;
+use requests::Heard;
+use requests::INTERROGATION;
+use requests::Operation;
+use requests::Request;
+use requests::Served;
+use requests::argument_at;
+use requests::hear;
+ghost use mathlib.Core.Path.{_≡_};
+ghost use Rattle.answers.specs.declared.answer.Problem.the-variants.{General};
+ghost use Rattle.answers.specs.declared.answer.Whose.the-variants.{Null};
+ghost use Rattle.exchange.specs.Question.{notAbove, duplicate, known, says, rejects, invoked, QuestionOf};
+
+// The operations as the numbers that an identifier's reader hands on.
+const ACTIVATIONVALUE: i16 = ACTIVATION as i16;
+
+const DEACTIVATIONVALUE: i16 = DEACTIVATION as i16;
+
+const INTERROGATIONVALUE: i16 = INTERROGATION as i16;
+
+// A request that must be judged, with its identifier and its operation's code; or, where `asked` is false, the answer.
+pub struct Question {
+    pub asked: bool,
+    pub answer: Answer,
+    pub identifier: i16,
+    pub operation: u8,
+    pub request: Request,
+}
+
+// An answer at once.
+fn says_at_once(answer: Answer) -> Question
+    ensures { λ r. ⌜ r ≡ says answer ⌝ }
+{
+    let none = Number {
+        form: 0,
+        kind: 0,
+        count: 0,
+        digits: [0; 20],
+    };
+    Question {
+        asked: false,
+        answer,
+        identifier: 0,
+        operation: 0,
+        request: Request {
+            procedure: 0,
+            service: 0,
+            served: Served {
+                all: 0,
+                number: none,
+            },
+            to: Forwarded {
+                address: Address {
+                    number: none,
+                    subcount: 0,
+                    sub: [0; 20],
+                },
+                user: 0,
+            },
+        },
+    }
+}
+
+fn not_above(identifier: i16, last: u16) -> bool
+    ensures { λ r. ⌜ r ≡ notAbove identifier last ⌝ }
+{
+    if identifier < 0 {
+        return true;
+    }
+    identifier as u16 <= last
+}
+
+fn is_duplicate(p: Profile, last: u16, identifier: i16) -> bool
+    ensures { λ r. ⌜ r ≡ duplicate p last identifier ⌝ }
+{
+    if p.counted == 1 {
+        return not_above(identifier, last);
+    }
+    false
+}
+
+fn is_known(operation: i16) -> bool
+    ensures { λ r. ⌜ r ≡ known operation ⌝ }
+{
+    if operation == ACTIVATIONVALUE {
+        return true;
+    }
+    if operation == DEACTIVATIONVALUE {
+        return true;
+    }
+    operation == INTERROGATIONVALUE
+}
+
+// What an invoke component asks, whose argument stands at `at`, of the octets before `end`.
+fn invoked_by(
+    p: Profile,
+    last: u16,
+    s: &[u8],
+    identifier: i16,
+    operation: Operation,
+    at: usize,
+    end: usize,
+) -> Question
+    ensures { λ r. ⌜ r ≡ invoked p last (now (s .entry)) identifier operation at end ⌝ }
+{
+    let whose = Whose::Own(identifier);
+    if is_duplicate(p, last, identifier) {
+        let problem = Problem::Invoke(0);
+        return says_at_once(Answer::Reject { whose, problem });
+    }
+    if !is_known(operation.value) {
+        let problem = Problem::Invoke(1);
+        return says_at_once(Answer::Reject { whose, problem });
+    }
+    let read = argument_at(s, at, end, operation);
+    if !read.ok {
+        let problem = Problem::Invoke(2);
+        return says_at_once(Answer::Reject { whose, problem });
+    }
+    let request = read.request;
+    Question {
+        asked: true,
+        answer: Answer::Silence,
+        identifier,
+        operation: operation.value as u8,
+        request,
+    }
+}
+
+// A reject of a component without a readable identifier.
+fn rejects_null(problem: u8) -> Question
+    ensures { λ r. ⌜ r ≡ rejects Null (General problem) ⌝ }
+{
+    let problem = Problem::General(problem);
+    says_at_once(Answer::Reject {
+        whose: Whose::Null,
+        problem,
+    })
+}
+
+// What the component `s` asks of an exchange that has handled `last`.
+pub fn question_of(p: Profile, last: u16, s: &[u8]) -> Question
+    ensures { λ r. ⌜ QuestionOf p last (now (s .entry)) r ⌝ }
+{
+    match hear(s) {
+        Heard::NotOne => rejects_null(2),
+        Heard::Silent => says_at_once(Answer::Silence),
+        Heard::OtherTag => rejects_null(0),
+        Heard::NoIdentifier => rejects_null(1),
+        Heard::NoOperation { identifier } => {
+            let whose = Whose::Own(identifier);
+            let problem = Problem::General(1);
+            says_at_once(Answer::Reject { whose, problem })
+        }
+        Heard::Asks {
+            identifier,
+            operation,
+            at,
+            end,
+        } => invoked_by(p, last, s, identifier, operation, at, end),
+    }
+}

@@ -1,0 +1,63 @@
+use borrow.Author.Needs.{needs}
+use borrow.Author.Tests.{not-true, not-false}
+use mathlib.Core.Path.{sym, ap, _∙_}
+use native.Mathlib.Omega.{arith}
+use Rattle.laws.proofs.Over.{wrote-length}
+use Rattle.forms.specs.Form.{form1}
+use Rattle.sheet.specs.Sheet.{sheetIn}
+use Rattle.sheet.specs.declared.form.SheetForm.{SheetForm}
+use Rattle.sheet.proofs.Formed.{formed-none}
+use Rattle.listings.proofs.Sheets.{listing-octets, prints-short, prints-none, prints-sheet}
+use Rattle.listings.proofs.list.print_sheet.Statement.{statement}
+use Rattle.listings.proofs.list.print_sheet.Tie as tie
+
+returns : tie.Need-returns
+returns c =
+    let a = c .before .before .before .args in
+    prints-short (a .s .now) (a .out .now) (omega (arith, listing-octets, c .if1 .taken))
+
+form-one-requires : tie.Need-form-one-requires
+form-one-requires c κs = search needs
+
+sheet-form-requires : tie.Need-sheet-form-requires
+sheet-form-requires c κs = search needs
+
+slice-aggregate-put-all : tie.Need-slice-aggregate-put-all
+slice-aggregate-put-all c = search needs
+
+put-all-requires : tie.Need-put-all-requires
+put-all-requires c κs = search needs
+
+same-length : tie.Need-same-length
+same-length c = search needs
+
+returns-2 : tie.Need-returns-2
+returns-2 c =
+    let a = c .before .before .before .before .before .before .before .before .before .before .before .before .args in
+    prints-none (a .s .now) (a .out .now) (omega (arith, listing-octets, c .before .before .before .before .before .before .before .before .before .if1 .left)) (formed-none (sheetIn form1 _) _ (rw (c .before .before .before .before .before .before .before .before .form-one .ensures) at (c .before .before .before .before .before .before .before .sheet-form .ensures)) (not-true _ (c .before .before .before .before .before .if2 .taken))) (c .before .before .put-all .ensures)
+
+write-listing-requires : tie.Need-write-listing-requires
+write-listing-requires c κs = (omega (arith, listing-octets, c .before .before .before .before .before .if1 .left), ap (λ (r : SheetForm). r .ok) (sym (rw (c .before .before .before .before .form-one .ensures) at (c .before .before .before .sheet-form .ensures))) ∙ not-false _ (c .before .if2 .left))
+
+same-length-2 : tie.Need-same-length-2
+same-length-2 c = wrote-length (c .before .before .write-listing .ensures)
+
+returns-3 : tie.Need-returns-3
+returns-3 c =
+    let a = c .before .before .before .before .before .before .before .before .before .before .before .args in
+    prints-sheet (a .s .now) (a .out .now) (omega (arith, listing-octets, c .before .before .before .before .before .before .before .before .if1 .left)) (ap (λ (r : SheetForm). r .ok) (sym (rw (c .before .before .before .before .before .before .before .form-one .ensures) at (c .before .before .before .before .before .before .sheet-form .ensures))) ∙ not-false _ (c .before .before .before .before .if2 .left)) (c .before .before .write-listing .ensures)
+
+pub print-sheet-spec : {M : Type 1} → statement M
+print-sheet-spec =
+    tie.close
+    (tie.spec
+    returns
+    form-one-requires
+    sheet-form-requires
+    slice-aggregate-put-all
+    put-all-requires
+    same-length
+    returns-2
+    write-listing-requires
+    same-length-2
+    returns-3)

@@ -1,0 +1,64 @@
+// The lines of a listing (document 01, "Samples").
+use crate::word::write_digits;
+use crate::word::write_kind;
+use crate::word::write_name;
+use crate::word::write_number;
+use crate::word::write_sub;
+use forms::Instance;
+use forms::form_one;
+use octets::put_all;
+use sheet::instance_at;
+ghost use Prim.Native.Nat.{_+_, _≤_};
+ghost use lib.ListN.{length};
+ghost use Rattle.laws.specs.Over.{Wrote};
+ghost use Rattle.forms.specs.Form.{form1};
+ghost use Rattle.sheet.specs.Sheet.{instancesFrom, noInstance};
+ghost use Rattle.sheet.specs.Formed.{Holds};
+ghost use Rattle.listings.specs.Listing.{headerLine, instanceLine};
+ghost use Rattle.listings.specs.Write.{Counted, linesFound};
+
+// The header at the start of the output.
+pub(crate) fn write_header(out: &mut [u8], last: u16, count: u32) -> usize
+    requires { ⌜ length (headerLine (form1 .code) last count) ≤ length (now out) ⌝ }
+    ensures { λ r. ⌜ Wrote (now (out .entry)) 0 (headerLine (form1 .code) last count) r (now (out .exit)) ⌝ }
+{
+    let p = put_all(out, 0, b"form 1 last ");
+    let q = write_number(out, p, last as u32, b' ');
+    let k = put_all(out, q, b"count ");
+    write_number(out, k, count, b'\n')
+}
+
+fn write_line(out: &mut [u8], at: usize, i: Instance) -> usize
+    requires { ⌜ Counted (i .address) × (at + length (instanceLine i) ≤ length (now out)) ⌝ }
+    ensures { λ r. ⌜ Wrote (now (out .entry)) at (instanceLine i) r (now (out .exit)) ⌝ }
+{
+    let address = i.address;
+    let number = address.number;
+    let digits = number.digits;
+    let sub = address.sub;
+    let p = write_name(out, at, i.procedure);
+    let q = write_number(out, p, i.number as u32, b' ');
+    let k = write_number(out, q, i.service as u32, b' ');
+    let m = write_kind(out, k, number.form, number.kind);
+    let t = write_digits(out, m, digits, number.count as usize);
+    write_sub(out, t, sub, address.subcount as usize)
+}
+
+// The lines of `count` instances from `from` on, which `sheet_form` has found there.
+pub(crate) fn write_lines(out: &mut [u8], at: usize, s: &[u8], from: usize, count: u32) -> usize
+    requires { ⌜ Holds (instancesFrom form1 count noInstance 0 (now s) from) × (at + length (linesFound (instancesFrom form1 count noInstance 0 (now s) from)) ≤ length (now out)) ⌝ }
+    ensures { λ r. ⌜ Wrote (now (out .entry)) at (linesFound (instancesFrom form1 count noInstance 0 (now (s .entry)) from)) r (now (out .exit)) ⌝ }
+{
+    let f = form_one();
+    let mut p = at;
+    let mut here = from;
+    let mut i: u32 = 0;
+    while i < count {
+        let read = instance_at(f, s, here);
+        let instance = read.instance;
+        p = write_line(out, p, instance);
+        here = read.next;
+        i += 1;
+    }
+    p
+}

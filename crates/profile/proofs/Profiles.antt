@@ -1,0 +1,291 @@
+-- Laws of profiles, over plain values: what the loops over one need, and what a good one gives. Assumes nothing.
+use Prim.Native.Nat.{ℕ, zero, suc, min, _+_, _≤_, _<_}
+use mathlib.Core.Path.{_≡_, refl}
+use mathlib.Core.Bool.{Bool, true, false, false≢true}
+use mathlib.Core.List.{List, [], _∷_}
+use native.Mathlib.Numerals.{add-one}
+use native.Mathlib.Omega.{arith}
+use lib.ListN.{length, take, drop, getD, length-take, drop-of-length-le}
+use lib.Seq.{drop-cons, getD-take, slice, slice-cons, slice-empty, take-all}
+use lib.Dec.{ltb, eqb}
+use borrow.Author.Tests.{eq-eqb, le-ltb, ltb-true, ltb-false, eqb-true}
+use Rattle.laws.specs.Pick.{pick}
+use Rattle.laws.specs.Places.{everyTo}
+use Rattle.laws.proofs.Picks.{pick-ind, pick-then, pick-else}
+use Rattle.laws.proofs.Walks.{every-at}
+use Rattle.codes.specs.Codes.{serviceCode}
+use Rattle.numbers.specs.Number.{most, digitsOf, numberGood, tidyNumber}
+use Rattle.numbers.specs.declared.number.Number.{Number}
+use Rattle.profile.specs.Profile.{numbersMost, servicesMost, prefixesMost, servedNumbers, offered, sameDigits, sameNumber, same, placeIn, noNumber, numbersGood, noPrefix, prefixGood, rising, servicesGood, flag, subscriptionsGood, usesGood, diversionGood, prefixesGood, profileGood}
+use Rattle.profile.specs.declared.profile.Prefix.{Prefix}
+use Rattle.profile.specs.declared.profile.Profile.{Profile}
+
+-- ---- the digits of two numbers
+
+-- what is left of both decides: one digit more
+pub same-step :
+    (a b : List ℕ) (n i : ℕ) → i < n → n ≤ length a → n ≤ length b →
+    sameDigits (slice i n a) (slice i n b)
+    ≡ pick (eqb (getD a i 0) (getD b i 0)) (sameDigits (slice (i + 1) n a) (slice (i + 1) n b)) false
+unfolding sameDigits
+same-step a b n i h la lb = rw (slice-cons i n a 0 h la, slice-cons i n b 0 h lb, add-one)
+
+-- nothing is left
+pub same-end : (a b : List ℕ) (n : ℕ) → sameDigits (slice n n a) (slice n n b) ≡ true
+unfolding sameDigits
+same-end a b n = rw (slice-empty n a, slice-empty n b)
+
+-- a record that counts more digits than it has room for has all of them
+pub same-all :
+    (a b : List ℕ) (n : ℕ) → most < n → length a ≡ most → length b ≡ most →
+    sameDigits (take n a) (take n b) ≡ sameDigits (take most a) (take most b)
+same-all a b n h la lb =
+    rw (
+      take-all n a (omega arith),
+      take-all n b (omega arith),
+      take-all most a (omega arith),
+      take-all most b (omega arith),
+    )
+
+-- what is left to test of numbers of one form, type and count
+pub same-left :
+    (a b : Number) → a .form ≡ b .form → a .kind ≡ b .kind → a .count ≡ b .count →
+    sameNumber a b ≡ sameDigits (take (a .count) (a .digits)) (take (a .count) (b .digits))
+unfolding sameNumber
+same-left a b form kind count =
+    rw (
+      eq-eqb (a .form) (b .form) form,
+      eq-eqb (a .kind) (b .kind) kind,
+      eq-eqb (a .count) (b .count) count,
+      ← count,
+    )
+
+digits-refl : (a : List ℕ) → sameDigits a a ≡ true
+unfolding sameDigits
+digits-refl [] = refl
+digits-refl (x ∷ xs) = rw (eq-eqb x x refl) (digits-refl xs)
+
+digits-same : (a b : List ℕ) → sameDigits a b ≡ true → a ≡ b
+unfolding sameDigits
+digits-same [] [] h = refl
+digits-same [] (y ∷ ys) h = absurd (false≢true h)
+digits-same (x ∷ xs) [] h = absurd (false≢true h)
+digits-same (x ∷ xs) (y ∷ ys) h =
+    let p = pick-then (eqb x y) (sameDigits xs ys) h in
+    rw (eqb-true x y (p .0), digits-same xs ys (p .1))
+
+-- a number is the same as itself
+pub same-refl : (a : Number) → sameNumber a a ≡ true
+unfolding sameNumber
+same-refl a =
+    rw (eq-eqb (a .form) (a .form) refl, eq-eqb (a .kind) (a .kind) refl, eq-eqb (a .count) (a .count) refl)
+    (digits-refl (digitsOf a))
+
+-- numbers that are the same differ at most past their digits
+pub same-tidy : (a b : Number) → sameNumber a b ≡ true → tidyNumber a ≡ tidyNumber b
+unfolding sameNumber
+same-tidy a b h =
+    let digits : Bool = sameDigits (digitsOf a) (digitsOf b) in
+    let counts : Bool = pick (eqb (a .count) (b .count)) digits false in
+    let p = pick-then (eqb (a .form) (b .form)) (pick (eqb (a .kind) (b .kind)) counts false) h in
+    let q = pick-then (eqb (a .kind) (b .kind)) counts (p .1) in
+    let r = pick-then (eqb (a .count) (b .count)) digits (q .1) in
+    rw (
+      eqb-true (a .form) (b .form) (p .0),
+      eqb-true (a .kind) (b .kind) (q .0),
+      digits-same (digitsOf a) (digitsOf b) (r .1),
+    )
+
+-- an access takes for the same what is the same
+pub same-plain : (p : Profile) (a b : Number) → same p a b ≡ sameNumber a b
+unfolding same
+same-plain p a b = refl
+
+-- ---- the place of a number
+
+-- a place is no further than there are numbers
+pub place-most : (p : Profile) (n : Number) (ns : List Number) → placeIn p n ns ≤ length ns
+unfolding placeIn
+place-most p n [] = omega arith
+place-most p n (x ∷ xs) =
+    pick-ind (λ k. k ≤ length (x ∷ xs)) (same p x n) (λ _. omega arith) (λ _. omega (arith, place-most p n xs))
+
+module _ (p : Profile) (n : Number) (count : ℕ) (numbers : List Number) where
+  -- a search that has come to k
+  abbrev pub Come : ℕ → Type 0
+  Come k = placeIn p n (take count numbers) ≡ k + placeIn p n (drop k (take count numbers))
+
+  -- meets one number more
+  step :
+      (k : ℕ) → k < count → k < length numbers →
+      placeIn p n (drop k (take count numbers))
+      ≡ pick (sameNumber (getD numbers k noNumber) n) 0 (1 + placeIn p n (drop (suc k) (take count numbers)))
+  unfolding placeIn same
+  step k h long =
+      rw (
+        drop-cons (take count numbers) k noNumber (omega (arith, length-take count numbers)),
+        getD-take count numbers k noNumber h,
+      )
+
+  -- finds the number there
+  pub number-here :
+      (k : ℕ) → k < count → k < length numbers → sameNumber (getD numbers k noNumber) n ≡ true → Come k →
+      k ≡ placeIn p n (take count numbers)
+  number-here k h long e come =
+      let z : placeIn p n (drop k (take count numbers)) ≡ 0 = rw (step k h long, e) in
+      omega arith
+
+  -- goes on where another number stands
+  pub number-next :
+      (k : ℕ) → k < count → k < length numbers → sameNumber (getD numbers k noNumber) n ≡ false → Come k →
+      Come (k + 1)
+  number-next k h long e come =
+      let z : placeIn p n (drop k (take count numbers)) ≡ 1 + placeIn p n (drop (suc k) (take count numbers)) =
+      rw (step k h long, e) in
+      rw add-one (omega arith)
+
+  -- finds nothing where there are no more numbers
+  pub number-none :
+      (k : ℕ) → min count (length numbers) ≤ k → Come k → k ≡ placeIn p n (take count numbers)
+  unfolding placeIn
+  number-none k h come =
+      let past : length (take count numbers) ≤ k = omega (arith, length-take count numbers) in
+      let z : placeIn p n (drop k (take count numbers)) ≡ 0 = rw (drop-of-length-le (take count numbers) past) in
+      omega arith
+
+-- ---- what is left to test where a count keeps its bounds
+
+-- whether the number at a place is one that a table holds and the first of its kind
+abbrev pub numberFits : Profile → ℕ → List Number → ℕ → Bool
+numberFits p count numbers k =
+    pick (numberGood (getD numbers k noNumber))
+    (eqb (placeIn p (getD numbers k noNumber) (take count numbers)) k)
+    false
+
+abbrev pub numbersFit : Profile → ℕ → Bool
+numbersFit p = everyTo (numberFits p (p .numbercount) (p .numbers))
+
+abbrev pub prefixFits : List Prefix → ℕ → Bool
+prefixFits prefixes k = prefixGood (getD prefixes k noPrefix)
+
+pub numbers-fair :
+    (p : Profile) → 1 ≤ p .numbercount → p .numbercount ≤ numbersMost →
+    numbersGood p ≡ numbersFit p (p .numbercount)
+unfolding numbersGood
+numbers-fair p some few = rw (le-ltb (p .numbercount) 1 some, le-ltb numbersMost (p .numbercount) few)
+
+pub services-fair :
+    (p : Profile) → 1 ≤ p .servicecount → p .servicecount ≤ servicesMost →
+    servicesGood p ≡ rising 0 (offered p)
+unfolding servicesGood
+services-fair p some few = rw (le-ltb (p .servicecount) 1 some, le-ltb servicesMost (p .servicecount) few)
+
+pub prefixes-fair :
+    (p : Profile) → p .prefixcount ≤ prefixesMost →
+    prefixesGood p ≡ everyTo (prefixFits (p .prefixes)) (p .prefixcount)
+unfolding prefixesGood
+prefixes-fair p few = rw (le-ltb prefixesMost (p .prefixcount) few)
+
+-- ---- services that ascend
+
+-- what is left decides: one service more
+pub rising-step :
+    (below : ℕ) (l : List ℕ) (n k : ℕ) → k < n → n ≤ length l →
+    rising below (slice k n l)
+    ≡ pick (ltb below (getD l k 0))
+    (pick (serviceCode (getD l k 0)) (rising (getD l k 0) (slice (k + 1) n l)) false)
+    false
+unfolding rising
+rising-step below l n k h long = rw (slice-cons k n l 0 h long, add-one)
+
+-- nothing is left
+pub rising-end : (below : ℕ) (l : List ℕ) (n : ℕ) → rising below (slice n n l) ≡ true
+unfolding rising
+rising-end below l n = rw (slice-empty n l)
+
+-- each service is above `below`
+pub rising-above :
+    (below : ℕ) (cs : List ℕ) (k : ℕ) → rising below cs ≡ true → k < length cs → below < getD cs k 0
+unfolding rising
+rising-above below [] k h lt = absurd (omega arith)
+rising-above below (c ∷ cs) zero h lt =
+    ltb-true below c (pick-then (ltb below c) (pick (serviceCode c) (rising c cs) false) h .0)
+rising-above below (c ∷ cs) (suc k) h lt =
+    let p = pick-then (ltb below c) (pick (serviceCode c) (rising c cs) false) h in
+    let rest = pick-then (serviceCode c) (rising c cs) (p .1) .1 in
+    omega (arith, ltb-true below c (p .0), rising-above c cs k rest (omega arith))
+
+-- ---- what a good profile gives
+
+numbers-each :
+    (p : Profile) → numbersGood p ≡ true →
+    (1 ≤ p .numbercount) × (p .numbercount ≤ numbersMost) × (numbersFit p (p .numbercount) ≡ true)
+unfolding numbersGood
+numbers-each p h =
+    let n : ℕ = p .numbercount in
+    let each : Bool = numbersFit p n in
+    let a = pick-else (ltb n 1) (pick (ltb numbersMost n) false each) h in
+    let b = pick-else (ltb numbersMost n) each (a .1) in
+    (ltb-false n 1 (a .0), ltb-false numbersMost n (b .0), b .1)
+
+services-rise :
+    (p : Profile) → servicesGood p ≡ true →
+    (1 ≤ p .servicecount) × (p .servicecount ≤ servicesMost) × (rising 0 (offered p) ≡ true)
+unfolding servicesGood
+services-rise p h =
+    let n : ℕ = p .servicecount in
+    let rises : Bool = rising 0 (offered p) in
+    let a = pick-else (ltb n 1) (pick (ltb servicesMost n) false rises) h in
+    let b = pick-else (ltb servicesMost n) rises (a .1) in
+    (ltb-false n 1 (a .0), ltb-false servicesMost n (b .0), b .1)
+
+-- what holds of cfu, cfb and cfnr holds of every procedure
+three : (P : ℕ → Type 0) → P 0 → P 1 → P 2 → (k : ℕ) → k < 3 → P k
+three P a b c zero h = a
+three P a b c (suc zero) h = b
+three P a b c (suc (suc zero)) h = c
+three P a b c (suc (suc (suc k))) h = absurd (omega arith)
+
+subscriptions-each :
+    (p : Profile) → subscriptionsGood p ≡ true → (k : ℕ) → k < 3 → getD (p .subscribed) k 0 < 2
+unfolding subscriptionsGood
+subscriptions-each p h =
+    let cfu : ℕ = getD (p .subscribed) 0 0 in
+    let cfb : ℕ = getD (p .subscribed) 1 0 in
+    let cfnr : ℕ = getD (p .subscribed) 2 0 in
+    let a = pick-then (flag cfu) (pick (flag cfb) (flag cfnr) false) h in
+    let b = pick-then (flag cfb) (flag cfnr) (a .1) in
+    three (λ k. getD (p .subscribed) k 0 < 2) (ltb-true cfu 2 (a .0)) (ltb-true cfb 2 (b .0)) (ltb-true cfnr 2 (b .1))
+
+-- a good profile: its numbers, its services and its subscriptions
+pub record GoodProfile (p : Profile) : Type 0 where
+  pub some : 1 ≤ p .numbercount
+  pub few : p .numbercount ≤ numbersMost
+  pub numbers : (k : ℕ) → k < p .numbercount → numberGood (getD (p .numbers) k noNumber) ≡ true
+  pub services-some : 1 ≤ p .servicecount
+  pub services-few : p .servicecount ≤ servicesMost
+  pub rises : rising 0 (offered p) ≡ true
+  pub flags : (k : ℕ) → k < 3 → getD (p .subscribed) k 0 < 2
+
+pub good-profile : (p : Profile) → profileGood p ≡ true → GoodProfile p
+unfolding profileGood
+good-profile p h =
+    let diversions : Bool = pick (diversionGood p) (prefixesGood p) false in
+    let uses : Bool = pick (usesGood p) diversions false in
+    let rest : Bool = pick (subscriptionsGood p) uses false in
+    let q = pick-then (numbersGood p) (pick (servicesGood p) rest false) h in
+    let o = pick-then (servicesGood p) rest (q .1) in
+    let n = numbers-each p (q .0) in
+    let s = services-rise p (o .0) in
+    record {
+      some = n .0;
+      few = n .1;
+      numbers = λ k lt. pick-then
+          (numberGood (getD (p .numbers) k noNumber))
+          (eqb (placeIn p (getD (p .numbers) k noNumber) (servedNumbers p)) k)
+          (every-at (numberFits p (p .numbercount) (p .numbers)) (p .numbercount) k lt (n .2)) .0;
+      services-some = s .0;
+      services-few = s .1;
+      rises = s .2;
+      flags = subscriptions-each p (pick-then (subscriptionsGood p) uses (o .1) .0);
+    }

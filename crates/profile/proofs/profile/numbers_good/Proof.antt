@@ -1,0 +1,116 @@
+use Rattle.profile.proofs.Profiles.{numberFits, numbersFit, numbers-fair}
+use Rattle.profile.proofs.Firsts.{first-here, later-not}
+use Rattle.profile.specs.Profile.{numbersMost, numbersGood}
+use Rattle.profile.specs.declared.profile.Profile.{Profile}
+use Rattle.laws.specs.Places.{everyTo}
+use Rattle.laws.proofs.Parts.{unmapped}
+use Rattle.laws.proofs.Walks.{every-none, every-more, every-fails}
+use borrow.Author.Tests.{lt-ltb, le-ltb, eq-eqb, ne-eqb, not-true, not-false}
+use borrow.Author.Needs.{needs}
+use native.Mathlib.Omega.{arith}
+use lib.ListN.{length}
+use Prim.Native.Nat.{_-_, _≤_}
+use mathlib.Core.Path.{_≡_, sym, ap, _∙_}
+use mathlib.Core.Bool.{true}
+use Rattle.profile.proofs.profile.numbers_good.Statement.{statement}
+use Rattle.profile.proofs.profile.numbers_good.Tie as tie
+
+abbrev Inv-loop : tie.InvT-loop
+Inv-loop count numbers k₀ k =
+    (k ≤ count) × ((p : Profile) → everyTo (numberFits p count numbers) k ≡ true)
+
+abbrev μ-loop : tie.MeasureT-loop
+μ-loop count numbers k₀ k = count - k
+
+cast-count : tie.Need-cast-count Inv-loop μ-loop
+cast-count c = search needs
+
+returns : tie.Need-returns Inv-loop μ-loop
+unfolding numbersGood
+returns c = rw (lt-ltb _ _ (c .if1 .taken))
+
+returns-2 : tie.Need-returns-2 Inv-loop μ-loop
+unfolding numbersGood
+returns-2 c = rw (le-ltb _ 1 (c .before .if1 .left), lt-ltb _ _ (c .if2 .taken))
+
+loop-holds : tie.Need-loop-holds Inv-loop μ-loop
+loop-holds c =
+    let s = c .before .before .before .before .args .p in
+    (omega arith, λ p. every-none (numberFits p (s .numbercount) (s .numbers)))
+
+mul-n : tie.Need-mul-n Inv-loop μ-loop
+mul-n c = search needs
+
+array-copy-out-n : tie.Need-array-copy-out-n Inv-loop μ-loop
+array-copy-out-n c = search needs
+
+number-good-requires : tie.Need-number-good-requires Inv-loop μ-loop
+number-good-requires c κs = search needs
+
+returns-3 : tie.Need-returns-3 Inv-loop μ-loop
+returns-3 c = let l = c .before .before .before .before in let s = l .before .before .before .before .before .args .p in sym (numbers-fair s (omega arith) (omega arith) ∙ every-fails (numberFits s (s .numbercount) (s .numbers)) (s .numbercount) (l .loop .k) (omega arith) (rw (sym (c .before .number-good .ensures) ∙ not-true _ (c .if3 .taken))))
+
+same-before-requires : tie.Need-same-before-requires Inv-loop μ-loop
+same-before-requires c κs = search needs
+
+returns-4 : tie.Need-returns-4 Inv-loop μ-loop
+returns-4 c =
+    let l = c .before .before .before .before .before .before in
+    let start = l .before .before .before .before .before in
+    let s = start .args .p in
+    let long : length (s .numbers) ≡ numbersMost = search (unmapped, needs, start .good) in
+    let k = l .loop .k in
+    let some = sym (c .before .same-before .ensures) ∙ c .if4 .taken in
+    sym (numbers-fair s (omega arith) (omega arith)
+    ∙ every-fails (numberFits s (s .numbercount) (s .numbers)) (s .numbercount) k (omega arith)
+    (rw (
+      sym (c .before .before .before .number-good .ensures) ∙ not-false _ (c .before .before .if3 .left),
+      ne-eqb _ _ (later-not s (s .numbers) (s .numbercount) k (omega arith) (omega arith) some),
+    )))
+
+add-k : tie.Need-add-k Inv-loop μ-loop
+add-k c = search needs
+
+loop-less : tie.Need-loop-less Inv-loop μ-loop
+loop-less c = search needs
+
+loop-again : tie.Need-loop-again Inv-loop μ-loop
+loop-again c =
+    let l = c .before .before .before .before .before .before in
+    let start = l .before .before .before .before .before in
+    let s = start .args .p in
+    let long : length (s .numbers) ≡ numbersMost = search (unmapped, needs, start .good) in
+    let k = l .loop .k in
+    let none = sym (c .before .same-before .ensures) ∙ c .if4 .left in (
+      omega arith,
+      λ p.
+          every-more (numberFits p (s .numbercount) (s .numbers)) k (l .loop .inv .1 p)
+          (rw (
+            sym (c .before .before .before .number-good .ensures) ∙ not-false _ (c .before .before .if3 .left),
+            eq-eqb _ _ (first-here p (s .numbers) (s .numbercount) k (omega arith) (omega arith) none),
+          )),
+    )
+
+returns-5 : tie.Need-returns-5 Inv-loop μ-loop
+returns-5 c = let l = c .before in let s = l .before .before .before .before .before .args .p in let e : l .loop .k ≡ s .numbercount = omega arith in sym (numbers-fair s (omega arith) (omega arith) ∙ ap (numbersFit s) (sym e) ∙ l .loop .inv .1 s)
+
+pub numbers-good-spec : {M : Type 1} → statement M
+numbers-good-spec =
+    tie.close
+    (tie.spec
+    Inv-loop
+    μ-loop
+    cast-count
+    returns
+    returns-2
+    loop-holds
+    mul-n
+    array-copy-out-n
+    number-good-requires
+    returns-3
+    same-before-requires
+    returns-4
+    add-k
+    loop-less
+    loop-again
+    returns-5)

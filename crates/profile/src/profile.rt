@@ -1,0 +1,292 @@
+// A profile, and whether it breaks a rule (document 01, "Profile and table").
+use codes::service_code;
+use numbers::Number;
+use numbers::number_good;
+ghost use mathlib.Core.Path.{_≡_};
+ghost use Prim.Native.Nat.{_≤_};
+ghost use lib.ListN.{take, getD};
+ghost use lib.Dec.{ltb};
+ghost use Rattle.laws.specs.Places.{countTo};
+ghost use Rattle.profile.specs.Profile.{sameDigits, sameNumber, noNumber, prefixGood, numbersGood, servicesGood, subscriptionsGood, usesGood, diversionGood, prefixesGood, profileGood, SameNumber, NumberPlace, ServiceSlot};
+
+// The most numbers, services and prefixes of a profile, and the most digits of one.
+pub const NUMBERS: usize = 4;
+
+pub const SERVICES: usize = 6;
+
+pub(crate) const PREFIXES: usize = 16;
+
+const DIGITS: usize = 20;
+
+// A special prefix: `count` digits as characters.
+#[repr(C)]
+pub struct Prefix {
+    pub count: u8,
+    pub digits: [u8; 20],
+}
+
+// What the carrier has agreed with the subscriber. Places past a count carry no meaning; the fields from `subscribed` to `release`
+// are 0 or 1, but for `option`.
+#[repr(C)]
+pub struct Profile {
+    pub numbercount: u8,
+    pub numbers: [Number; NUMBERS],
+    pub servicecount: u8,
+    pub services: [u8; SERVICES],
+    pub subscribed: [u8; 3],
+    pub msn: u8,
+    pub all: u8,
+    pub inuse: u8,
+    pub counted: u8,
+    pub option: u8,
+    pub release: u8,
+    pub limit: u8,
+    pub prefixcount: u8,
+    pub prefixes: [Prefix; PREFIXES],
+}
+
+fn same_digits(a: [u8; 20], b: [u8; 20], n: usize) -> bool
+    requires { ⌜ n ≤ 20 ⌝ }
+    ensures { λ r. ⌜ r ≡ sameDigits (take n a) (take n b) ⌝ }
+{
+    let mut i: usize = 0;
+    while i < n {
+        if a[i] != b[i] {
+            return false;
+        }
+        i += 1;
+    }
+    true
+}
+
+// Whether two numbers are the same.
+pub fn same_number(a: Number, b: Number) -> bool
+    ensures { λ r. ⌜ SameNumber a b r ⌝ }
+{
+    if a.form != b.form {
+        return false;
+    }
+    if a.kind != b.kind {
+        return false;
+    }
+    if a.count != b.count {
+        return false;
+    }
+    let count = a.count as usize;
+    let x = a.digits;
+    let y = b.digits;
+    if DIGITS < count {
+        return same_digits(x, y, DIGITS);
+    }
+    same_digits(x, y, count)
+}
+
+// The place of the first served number that is the same; how many there are where none is.
+pub fn number_place(p: Profile, n: Number) -> usize
+    ensures { λ r. ⌜ NumberPlace p n r ⌝ }
+{
+    let count = p.numbercount as usize;
+    let numbers = p.numbers;
+    let mut k: usize = 0;
+    while k < NUMBERS {
+        if count <= k {
+            return k;
+        }
+        let x = numbers[k];
+        if same_number(x, n) {
+            return k;
+        }
+        k += 1;
+    }
+    k
+}
+
+// The place of the service among those of the profile; how many there are where it is none of them.
+pub fn service_slot(p: Profile, service: u8) -> usize
+    ensures { λ r. ⌜ ServiceSlot p service r ⌝ }
+{
+    let count = p.servicecount as usize;
+    let services = p.services;
+    let mut k: usize = 0;
+    while k < SERVICES {
+        if count <= k {
+            return k;
+        }
+        if services[k] == service {
+            return k;
+        }
+        k += 1;
+    }
+    k
+}
+
+// Whether one of the first `count` numbers is the same.
+fn same_before(numbers: [Number; NUMBERS], n: Number, count: usize) -> bool
+    requires { ⌜ count ≤ 4 ⌝ }
+    ensures { λ r. ⌜ r ≡ ltb 0 (countTo (λ k. sameNumber (getD numbers k noNumber) n) count) ⌝ }
+{
+    let mut k: usize = 0;
+    while k < count {
+        let x = numbers[k];
+        if same_number(x, n) {
+            return true;
+        }
+        k += 1;
+    }
+    false
+}
+
+fn numbers_good(p: Profile) -> bool
+    ensures { λ r. ⌜ r ≡ numbersGood p ⌝ }
+{
+    let count = p.numbercount as usize;
+    let numbers = p.numbers;
+    if count < 1 {
+        return false;
+    }
+    if NUMBERS < count {
+        return false;
+    }
+    let mut k: usize = 0;
+    while k < count {
+        let n = numbers[k];
+        if !number_good(n) {
+            return false;
+        }
+        if same_before(numbers, n, k) {
+            return false;
+        }
+        k += 1;
+    }
+    true
+}
+
+fn services_good(p: Profile) -> bool
+    ensures { λ r. ⌜ r ≡ servicesGood p ⌝ }
+{
+    let count = p.servicecount as usize;
+    let services = p.services;
+    if count < 1 {
+        return false;
+    }
+    if SERVICES < count {
+        return false;
+    }
+    let mut below: u8 = 0;
+    let mut k: usize = 0;
+    while k < count {
+        let code = services[k];
+        if code <= below {
+            return false;
+        }
+        if !service_code(code) {
+            return false;
+        }
+        below = code;
+        k += 1;
+    }
+    true
+}
+
+fn prefix_good(f: Prefix) -> bool
+    ensures { λ r. ⌜ r ≡ prefixGood f ⌝ }
+{
+    let digits = f.digits;
+    number_good(Number {
+        form: 0,
+        kind: 0,
+        count: f.count,
+        digits,
+    })
+}
+
+// Most profiles have no prefix, and then the array is not copied.
+fn prefixes_good(p: Profile) -> bool
+    ensures { λ r. ⌜ r ≡ prefixesGood p ⌝ }
+{
+    let count = p.prefixcount as usize;
+    if count == 0 {
+        return true;
+    }
+    if PREFIXES < count {
+        return false;
+    }
+    let prefixes = p.prefixes;
+    let mut k: usize = 0;
+    while k < count {
+        let f = prefixes[k];
+        if !prefix_good(f) {
+            return false;
+        }
+        k += 1;
+    }
+    true
+}
+
+fn subscriptions_good(p: Profile) -> bool
+    ensures { λ r. ⌜ r ≡ subscriptionsGood p ⌝ }
+{
+    let subscribed = p.subscribed;
+    if 1 < subscribed[0] {
+        return false;
+    }
+    if 1 < subscribed[1] {
+        return false;
+    }
+    subscribed[2] < 2
+}
+
+fn uses_good(p: Profile) -> bool
+    ensures { λ r. ⌜ r ≡ usesGood p ⌝ }
+{
+    if 1 < p.all {
+        return false;
+    }
+    if 1 < p.inuse {
+        return false;
+    }
+    if 1 < p.counted {
+        return false;
+    }
+    if p.msn == 0 {
+        return p.numbercount == 1;
+    }
+    p.msn == 1
+}
+
+fn diversion_good(p: Profile) -> bool
+    ensures { λ r. ⌜ r ≡ diversionGood p ⌝ }
+{
+    if 2 < p.option {
+        return false;
+    }
+    if 1 < p.release {
+        return false;
+    }
+    if p.limit < 1 {
+        return false;
+    }
+    p.limit < 6
+}
+
+// Whether a profile breaks no rule.
+pub(crate) fn profile_good(p: Profile) -> bool
+    ensures { λ r. ⌜ r ≡ profileGood p ⌝ }
+{
+    if !numbers_good(p) {
+        return false;
+    }
+    if !services_good(p) {
+        return false;
+    }
+    if !subscriptions_good(p) {
+        return false;
+    }
+    if !uses_good(p) {
+        return false;
+    }
+    if !diversion_good(p) {
+        return false;
+    }
+    prefixes_good(p)
+}

@@ -1,0 +1,19 @@
+-- Each promise of the crate listings admits one answer, and one lent output afterwards. Assumes nothing.
+use Prim.Native.Nat.{ℕ}
+use mathlib.Core.List.{List}
+use mathlib.Core.Path.{_≡_}
+use Rattle.laws.proofs.Picks.{both}
+use Rattle.sheet.specs.declared.record.Written.{Written}
+use Rattle.sheet.proofs.Outcomes.{outcome-same, written-same}
+use Rattle.listings.specs.Listing.{ListsSheet, PrintsSheet}
+
+pub only-list-sheet :
+    (s xs : List ℕ) {r q : Written} {ys zs : List ℕ} → ListsSheet s xs r ys → ListsSheet s xs q zs → (r ≡ q) × (ys ≡ zs)
+only-list-sheet s xs {r} {q} a b = (
+  written-same r q (outcome-same (r .outcome) (q .outcome) (both (a .outcome) (b .outcome))) (both (a .count) (b .count)),
+  both (a .lent) (b .lent),
+)
+
+pub only-print-sheet :
+    (s xs : List ℕ) {r q : ℕ} {ys zs : List ℕ} → PrintsSheet s xs r ys → PrintsSheet s xs q zs → (r ≡ q) × (ys ≡ zs)
+only-print-sheet s xs a b = (both (a .count) (b .count), both (a .lent) (b .lent))

@@ -1,0 +1,73 @@
+-- What an arriving component says, down to where its argument stands (document 01, "Replies, in the order checked").
+use Prim.Native.Nat.{ℕ, _+_}
+use mathlib.Core.Path.{_≡_}
+use mathlib.Core.Bool.{Bool, true}
+use mathlib.Core.List.{List}
+use lib.IntN.{ℤ}
+use lib.ListN.{length}
+use lib.Dec.{eqb}
+use Rattle.laws.specs.Pick.{pick}
+use Rattle.octets.specs.Head.{headAt}
+use Rattle.values.specs.Ident.{identAt}
+use Rattle.skip.specs.Skip.{skipDepth}
+use Rattle.octets.specs.declared.head.Head.{Head}
+use Rattle.octets.specs.declared.head.Head.the-variants as head
+use Rattle.values.specs.declared.ident.Ident.{Ident}
+use Rattle.values.specs.declared.ident.Ident.the-variants as ident
+use Rattle.requests.specs.declared.heard.Heard.{Heard}
+use Rattle.requests.specs.declared.heard.Heard.the-variants.{NotOne, Silent, OtherTag, NoIdentifier, NoOperation, Asks}
+use Rattle.requests.specs.declared.heard.Operation.{Operation}
+
+-- how many elements deep what stands in an argument, in a component, and a component itself may go: what is skipped stands in
+-- the argument, and is the deepest
+abbrev pub argumentDepth : ℕ
+argumentDepth = skipDepth
+
+abbrev pub insideDepth : ℕ
+insideDepth = 1 + argumentDepth
+
+abbrev pub componentDepth : ℕ
+componentDepth = 1 + insideDepth
+
+-- "outer tag A2, A3, A4"
+unfoldable pub replyTag : ℕ → Bool
+replyTag tag = pick (eqb tag 0xA2) true (pick (eqb tag 0xA3) true (eqb tag 0xA4))
+
+-- an operation is a local value
+abbrev pub local : ℤ → Operation
+local value = record { value = value }
+
+-- "operation unreadable (a linked identifier too)"
+abbrev pub operationOf : ℤ → ℕ → Ident → Heard
+operationOf identifier end (ident.Is value place) = Asks identifier (local value) place end
+operationOf identifier end ident.Unreadable = NoOperation identifier
+
+unfoldable pub operationAt : ℤ → List ℕ → ℕ → ℕ → Heard
+operationAt identifier s at end = operationOf identifier end (identAt insideDepth s at end)
+
+-- "identifier unreadable"
+abbrev pub identifierOf : List ℕ → ℕ → Ident → Heard
+identifierOf s end (ident.Is identifier place) = operationAt identifier s place end
+identifierOf s end ident.Unreadable = NoIdentifier
+
+unfoldable pub identifierAt : List ℕ → ℕ → ℕ → Heard
+identifierAt s at end = identifierOf s end (identAt insideDepth s at end)
+
+-- "not one element filling the input (empty input too)", "outer tag A2, A3, A4", "another outer tag but A1"
+abbrev pub componentOf : List ℕ → Head → Heard
+componentOf s (head.Is tag start stop next) =
+    pick (eqb next (length s))
+    (pick (replyTag tag) Silent (pick (eqb tag 0xA1) (identifierAt s start stop) OtherTag))
+    NotOne
+componentOf s head.Bad = NotOne
+
+unfoldable pub heard : List ℕ → Heard
+heard s = componentOf s (headAt componentDepth s 0 (length s))
+
+-- what `hear` promises
+abbrev pub Hears : List ℕ → Heard → Type 0
+Hears s r = r ≡ heard s
+
+-- what `reply_tag` promises
+abbrev pub ReplyTag : ℕ → Bool → Type 0
+ReplyTag tag r = r ≡ replyTag tag

@@ -1,0 +1,4 @@
+pub mod Heard
+pub mod Request
+pub mod Sent
+pub mod Sending

@@ -1,0 +1,138 @@
+-- The arguments of activation, deactivation and interrogation (EN 300 207-1, clause 7.1; document 01, "Reading a component").
+use Prim.Native.Nat.{ℕ, _-_, _/_}
+use mathlib.Core.Path.{_≡_}
+use mathlib.Core.Bool.{Bool, true, false}
+use mathlib.Core.List.{List, []}
+use lib.IntN.{ℤ, pos, negsuc}
+use lib.ListN.{getD}
+use lib.Dec.{leb, eqb}
+use Rattle.laws.specs.Pick.{pick}
+use Rattle.laws.specs.Got.{Got, got, wrong, andThen}
+use Rattle.octets.specs.Head.{headAt}
+use Rattle.values.specs.Enumerated.{enumeratedTag, enumeratedAt}
+use Rattle.skip.specs.Skip.{fills, skipAt}
+use Rattle.octets.specs.declared.head.Head.{Head}
+use Rattle.octets.specs.declared.head.Head.the-variants as head
+use Rattle.skip.specs.declared.skip.Skip.{Skip}
+use Rattle.skip.specs.declared.skip.Skip.the-variants as skip
+use Rattle.codes.specs.Codes.{procedureCode, serviceCode}
+use Rattle.numbers.specs.Number.{valueOf, numberOf, numberAt}
+use Rattle.numbers.specs.Address.{subOf, forwardedOf, addressAt}
+use Rattle.numbers.specs.declared.number.Number.{Number}
+use Rattle.numbers.specs.declared.address.Forwarded.{Forwarded}
+use Rattle.requests.specs.Heard.{argumentDepth, insideDepth}
+use Rattle.requests.specs.declared.request.Served.{Served}
+use Rattle.requests.specs.declared.request.ServedRead.{ServedRead}
+use Rattle.requests.specs.declared.request.Request.{Request}
+use Rattle.requests.specs.declared.request.RequestRead.{RequestRead}
+use Rattle.requests.specs.declared.heard.Operation.{Operation}
+
+-- "Operations: activation 7, deactivation 8, interrogation 11."
+abbrev pub activation : ℕ
+activation = 7
+
+abbrev pub deactivation : ℕ
+deactivation = 8
+
+abbrev pub interrogation : ℕ
+interrogation = 11
+
+-- an enumerated code that `good` lets in
+unfoldable pub codeAt : (ℕ → Bool) → ℕ → List ℕ → ℕ → ℕ → Got ℕ
+codeAt good depth s at end =
+    andThen (valueOf (enumeratedAt depth s at end)) (λ code place. pick (good code) (got code place) wrong)
+
+-- "Interrogation may omit the basic service, meaning 0": it is there if the next tag is that of an enumerated value
+unfoldable pub serviceAt : ℕ → List ℕ → ℕ → ℕ → Got ℕ
+serviceAt depth s at end =
+    pick (leb end at) (got 0 at)
+    (pick (eqb (getD s at 0) enumeratedTag) (codeAt serviceCode depth s at end) (got 0 at))
+
+-- a served user number: one of its own, or NULL, all of them
+abbrev pub individual : Number → Served
+individual number = record { all = 0; number = number }
+
+abbrev pub allNumbers : Served
+allNumbers = record { all = 1; number = numberOf 0 0 [] }
+
+abbrev pub servedIn : ℕ → List ℕ → ℕ → ℕ → Head → Got Served
+servedIn depth s at end (head.Is tag start stop next) =
+    pick (eqb tag 0x05) (pick (eqb start stop) (got allNumbers next) wrong)
+    (andThen (numberAt depth s at end) (λ number place. got (individual number) place))
+servedIn depth s at end head.Bad = wrong
+
+unfoldable pub servedAt : ℕ → List ℕ → ℕ → ℕ → Got Served
+servedAt depth s at end = servedIn depth s at end (headAt depth s at end)
+
+abbrev pub servedRead : Got Served → ServedRead
+servedRead (got served next) = record { ok = true; served = served; next = next }
+servedRead wrong = record { ok = false; served = individual (numberOf 0 0 []); next = 0 }
+
+-- "After the last known element of an argument, elements with a private-class tag are skipped (house)."
+unfoldable pub privateAt : List ℕ → ℕ → ℕ → Skip
+privateAt s at end = pick (eqb (getD s at 0 / 64) 3) (skipAt s at end) skip.Wrong
+
+unfoldable pub privates : List ℕ → ℕ → ℕ → Bool
+privates s at end = fills (λ a. privateAt s a end) (end - at) at end
+
+-- no forwarded-to address
+abbrev pub nowhere : Forwarded
+nowhere = forwardedOf (numberOf 0 0 []) (subOf [])
+
+abbrev pub requestOf : ℕ → ℕ → Forwarded → Served → Request
+requestOf procedure service to served = record { procedure = procedure; service = service; served = served; to = to }
+
+-- the served number, and nothing but private elements after it
+unfoldable pub lastIn : ℕ → ℕ → Forwarded → List ℕ → ℕ → ℕ → Got Request
+lastIn procedure service to s at end =
+    andThen (servedAt argumentDepth s at end)
+    (λ served place. pick (privates s place end) (got (requestOf procedure service to served) end) wrong)
+
+-- "procedure, basicService, forwardedToAddress, servedUserNr"
+unfoldable pub activationIn : List ℕ → ℕ → ℕ → Got Request
+activationIn s at end =
+    andThen (codeAt procedureCode argumentDepth s at end) (λ procedure p.
+    andThen (codeAt serviceCode argumentDepth s p end) (λ service q.
+    andThen (addressAt argumentDepth s q end) (λ to r. lastIn procedure service to s r end)))
+
+-- "procedure, basicService, servedUserNr"
+unfoldable pub deactivationIn : List ℕ → ℕ → ℕ → Got Request
+deactivationIn s at end =
+    andThen (codeAt procedureCode argumentDepth s at end) (λ procedure p.
+    andThen (codeAt serviceCode argumentDepth s p end) (λ service q. lastIn procedure service nowhere s q end))
+
+-- "procedure, basicService DEFAULT allServices, servedUserNr"
+unfoldable pub interrogationIn : List ℕ → ℕ → ℕ → Got Request
+interrogationIn s at end =
+    andThen (codeAt procedureCode argumentDepth s at end) (λ procedure p.
+    andThen (serviceAt argumentDepth s p end) (λ service q. lastIn procedure service nowhere s q end))
+
+-- the argument's contents, by its operation
+unfoldable pub contentsIn : ℕ → List ℕ → ℕ → ℕ → Got Request
+contentsIn operation s at end =
+    pick (eqb operation activation) (activationIn s at end)
+    (pick (eqb operation deactivation) (deactivationIn s at end)
+    (pick (eqb operation interrogation) (interrogationIn s at end) wrong))
+
+-- "argument not one last element as in clause 7.1"
+abbrev pub argumentOf : ℕ → List ℕ → ℕ → Head → Got Request
+argumentOf operation s end (head.Is tag start stop next) =
+    pick (eqb tag 0x30) (pick (eqb next end) (contentsIn operation s start stop) wrong) wrong
+argumentOf operation s end head.Bad = wrong
+
+abbrev pub localAt : List ℕ → ℕ → ℕ → ℤ → Got Request
+localAt s at end (pos operation) = argumentOf operation s end (headAt insideDepth s at end)
+localAt s at end (negsuc n) = wrong
+
+-- the request that stands at `at`, of the octets of s before `end`, by the operation that was heard
+unfoldable pub argumentAt : Operation → List ℕ → ℕ → ℕ → Got Request
+argumentAt operation s at end = localAt s at end (operation .value)
+
+-- what a reader answers
+abbrev pub requestRead : Got Request → RequestRead
+requestRead (got request next) = record { ok = true; request = request }
+requestRead wrong = record { ok = false; request = requestOf 0 0 nowhere (individual (numberOf 0 0 [])) }
+
+-- what `argument_at` promises
+abbrev pub ArgumentAt : Operation → List ℕ → ℕ → ℕ → RequestRead → Type 0
+ArgumentAt operation s at end r = r ≡ requestRead (argumentAt operation s at end)

@@ -1,0 +1,4 @@
+pub mod Saids
+pub mod Tolds
+pub mod Diversions
+pub mod OnlyBorder

@@ -1,0 +1,98 @@
+// Calls, as C puts them.
+use calls::Notice;
+use calls::Onward;
+use calls::Outcome;
+use calls::Reason;
+use calls::Refusal;
+use calls::divert;
+use calls::original;
+use exchange::Table;
+use octets::put_all;
+ghost use mathlib.Core.Path.{_≡_};
+ghost use Rattle.calls.specs.Onward.{reasonNo};
+ghost use Rattle.calls.specs.Divert.{noticeNo, refusalNo};
+ghost use Rattle.sconcetoad.specs.Diversion.{DivertedBy, CopiesOriginal};
+
+// The numbers of the refusal, of the reason and of the notice, each 0 where there is none; and the call that goes on.
+#[repr(C)]
+pub struct Diverted {
+    pub refusal: u8,
+    pub reason: u8,
+    pub notice: u8,
+    pub call: Onward,
+}
+
+fn refusal_no(refusal: Refusal) -> u8
+    ensures { λ r. ⌜ r ≡ refusalNo refusal ⌝ }
+{
+    match refusal {
+        Refusal::BadProfile => 3,
+        Refusal::BadTable => 4,
+        Refusal::BadCall => 5,
+        Refusal::LimitReached => 6,
+    }
+}
+
+fn reason_no(reason: Reason) -> u8
+    ensures { λ r. ⌜ r ≡ reasonNo reason ⌝ }
+{
+    match reason {
+        Reason::Cfu => 1,
+        Reason::Cfb => 2,
+        Reason::Cfnr => 3,
+    }
+}
+
+fn notice_no(notice: Notice) -> u8
+    ensures { λ r. ⌜ r ≡ noticeNo notice ⌝ }
+{
+    match notice {
+        Notice::Silent => 0,
+        Notice::Diverting => 1,
+        Notice::DivertingTo => 2,
+    }
+}
+
+// What becomes of `call`.
+#[no_mangle]
+pub extern "C" fn sconcetoad_divert(table: Table, access: &[u8], call: &[u8]) -> Diverted
+    ensures { λ r. ⌜ DivertedBy (now (access .entry)) table (now (call .entry)) r ⌝ }
+{
+    let diversion = divert(table, access, call);
+    let outcome = diversion.outcome;
+    let call = diversion.call;
+    match outcome {
+        Outcome::Refuses { refusal } => Diverted {
+            refusal: refusal_no(refusal),
+            reason: 0,
+            notice: 0,
+            call,
+        },
+        Outcome::Passes => Diverted {
+            refusal: 0,
+            reason: 0,
+            notice: 0,
+            call,
+        },
+        Outcome::Diverts { reason, notice } => Diverted {
+            refusal: 0,
+            reason: reason_no(reason),
+            notice: notice_no(notice),
+            call,
+        },
+    }
+}
+
+// The digits of the original number that `call` hands on, at the start of `out`.
+#[no_mangle]
+pub extern "C" fn sconcetoad_original<'a>(
+    table: Table,
+    access: &'a [u8],
+    call: &'a [u8],
+    out: &mut [u8],
+) -> usize
+    ensures { λ n. ⌜ CopiesOriginal (now (access .entry)) table (now (call .entry)) (now (out .entry)) n (now (out .exit)) ⌝ }
+{
+    let digits = original(table, access, call);
+    put_all(out, 0, digits)
+}

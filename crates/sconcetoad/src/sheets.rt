@@ -1,0 +1,83 @@
+// Night sheets, as C has them written, read and listed.
+use exchange::Table;
+use listings::list_sheet;
+use nightly::read_sheet;
+use nightly::write_sheet;
+use sheet::Outcome;
+use sheet::Refusal;
+ghost use mathlib.Core.Path.{_≡_};
+ghost use Rattle.sheet.specs.Outcome.{outcomeNo};
+ghost use Rattle.sconcetoad.specs.Sheets.{SheetWrittenBy, SheetTakenBy, SheetListedBy};
+
+// The number of the refusal, 0 where there is none; and how many octets were written.
+#[repr(C)]
+pub struct SheetWritten {
+    pub refusal: u8,
+    pub count: usize,
+}
+
+// The number of the refusal, and the table that was read; a fresh one where the sheet is refused.
+#[repr(C)]
+pub struct SheetTaken {
+    pub refusal: u8,
+    pub table: Table,
+}
+
+// The numbers of document 01, "Local refusals".
+fn refusal_no(outcome: Outcome) -> u8
+    ensures { λ r. ⌜ r ≡ outcomeNo outcome ⌝ }
+{
+    match outcome {
+        Outcome::Refuses { refusal } => match refusal {
+            Refusal::ShortOutput => 1,
+            Refusal::BadProfile => 3,
+            Refusal::BadTable => 4,
+            Refusal::BadSheet => 9,
+        },
+        Outcome::Done => 0,
+    }
+}
+
+// `table` as a night sheet at the start of `out`.
+#[no_mangle]
+pub extern "C" fn sconcetoad_write_sheet(
+    table: Table,
+    access: &[u8],
+    out: &mut [u8],
+) -> SheetWritten
+    ensures { λ r. ⌜ SheetWrittenBy (now (access .entry)) table (now (out .entry)) r (now (out .exit)) ⌝ }
+{
+    let written = write_sheet(table, access, out);
+    let outcome = written.outcome;
+    SheetWritten {
+        refusal: refusal_no(outcome),
+        count: written.count,
+    }
+}
+
+// The table that `sheet` holds, by the profile of an access.
+#[no_mangle]
+pub extern "C" fn sconcetoad_read_sheet(access: &[u8], sheet: &[u8]) -> SheetTaken
+    ensures { λ r. ⌜ SheetTakenBy (now (access .entry)) (now (sheet .entry)) r ⌝ }
+{
+    let read = read_sheet(access, sheet);
+    let outcome = read.outcome;
+    let table = read.table;
+    SheetTaken {
+        refusal: refusal_no(outcome),
+        table,
+    }
+}
+
+// The listing of `sheet` at the start of `out`.
+#[no_mangle]
+pub extern "C" fn sconcetoad_list_sheet(sheet: &[u8], out: &mut [u8]) -> SheetWritten
+    ensures { λ r. ⌜ SheetListedBy (now (sheet .entry)) (now (out .entry)) r (now (out .exit)) ⌝ }
+{
+    let written = list_sheet(sheet, out);
+    let outcome = written.outcome;
+    SheetWritten {
+        refusal: refusal_no(outcome),
+        count: written.count,
+    }
+}
