@@ -12,7 +12,7 @@ use Rattle.laws.specs.Stands.{Stands}
 use Rattle.laws.proofs.Stands.{stands-whole, stands-left, stands-right}
 use Rattle.octets.specs.Element.{element}
 use Rattle.values.specs.Ident.{identOctets}
-use Rattle.octets.proofs.Elements.{Inside, inside, length-small}
+use Rattle.octets.proofs.Elements.{Inside, inside-element, length-small}
 use Rattle.values.proofs.Idents.{ident-back, ident-most, ident-other}
 use Rattle.answers.specs.Answer.{problemNo, problemValue, problemOctets, answerOctets}
 use Rattle.requests.specs.Heard.{insideDepth, componentDepth, replyTag}
@@ -58,7 +58,7 @@ module _ (identifier : ℤ) (operation : ℕ) (range : mag identifier < 32768) w
       let three = length-small (problemNo problem) (problemValue problem ∷ []) (omega arith) in
       let both = length-append a (problemOctets problem) in
       let few = ident-most identifier range in
-      let i = inside componentDepth s 0 (length s) 0xA4 ws (λ e. omega arith) (λ e. omega arith) (omega arith)
+      let i = inside-element componentDepth s 0 (length s) 0xA4 ws (λ e. omega arith) (λ e. omega arith) (omega arith)
       (stands-whole s) (omega arith) (omega arith) in
       own-in identifier operation 0xA4 ws s range reject-tag i refl
       (stands-left s (i .start) a (problemOctets problem) (i .stands)) (omega arith)
@@ -76,7 +76,7 @@ module _ (identifier : ℤ) (operation : ℕ) (range : mag identifier < 32768) w
       let both = length-append a b in
       let few = ident-most identifier range in
       let few2 = ident-most (pos value) (omega arith) in
-      let i = inside componentDepth s 0 (length s) 0xA3 ws (λ e. omega arith) (λ e. omega arith) (omega arith)
+      let i = inside-element componentDepth s 0 (length s) 0xA3 ws (λ e. omega arith) (λ e. omega arith) (omega arith)
       (stands-whole s) (omega arith) (omega arith) in
       let first : ℕ = i .start + length a in
       let last : first + length b ≡ length s = omega (arith, i .stop) in
@@ -96,7 +96,7 @@ module _ (identifier : ℤ) (operation : ℕ) (range : mag identifier < 32768) w
       let a : List ℕ = identOctets identifier in
       let s : List ℕ = element 0xA2 a in
       let few = ident-most identifier range in
-      let i = inside componentDepth s 0 (length s) 0xA2 a (λ e. omega arith) (λ e. omega arith) (omega arith)
+      let i = inside-element componentDepth s 0 (length s) 0xA2 a (λ e. omega arith) (λ e. omega arith) (omega arith)
       (stands-whole s) (omega arith) (omega arith) in
       let last : i .start + length a ≡ length s = omega (arith, i .stop) in
       own-in identifier operation 0xA2 a s range result-tag i refl (i .stands) (omega arith)
@@ -115,9 +115,9 @@ null-back identifier operation problem es =
     let three = length-small (problemNo problem) (problemValue problem ∷ []) (omega arith) in
     let two = length-small 0x05 [] (omega arith) in
     let both = length-append a b in
-    let i = inside componentDepth s 0 (length s) 0xA4 ws (λ e. omega arith) (λ e. omega arith) (omega arith)
+    let i = inside-element componentDepth s 0 (length s) 0xA4 ws (λ e. omega arith) (λ e. omega arith) (omega arith)
     (stands-whole s) (omega arith) (omega arith) in
     let stop : i .start + length ws ≡ length s = omega (arith, i .stop) in
-    let j = inside insideDepth s (i .start) (length s) 0x05 [] (λ e. omega arith) (λ e. omega arith) (omega arith)
+    let j = inside-element insideDepth s (i .start) (length s) 0x05 [] (λ e. omega arith) (λ e. omega arith) (omega arith)
     (stands-left s (i .start) a b (i .stands)) (omega arith) (omega arith) in
     rw (i .is, stop, eq-eqb (length s) (length s) refl, reject-tag, ident-other insideDepth s (i .start) (length s) (j .is) (λ e. omega arith))

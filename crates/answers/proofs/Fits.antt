@@ -11,7 +11,7 @@ use Rattle.octets.specs.Element.{element}
 use Rattle.values.specs.Ident.{identOctets}
 use Rattle.octets.proofs.Elements.{length-small, length-most}
 use Rattle.values.proofs.Idents.{ident-most}
-use Rattle.lists.specs.Entries.{limit, allGood}
+use Rattle.lists.specs.Entries.{instancesMost, allGood}
 use Rattle.lists.specs.declared.entry.Entry.{Entry}
 use Rattle.lists.proofs.Sizes.{list-fits}
 use Rattle.answers.specs.Answer.{problemNo, problemValue, whoseOctets, problemOctets, answerOctets}
@@ -27,12 +27,12 @@ OwnFits whose.Null = Unit {0}
 OwnFits (whose.Own identifier) = mag identifier < 32768
 
 -- and an error value of one octet
-abbrev pub Fits : Answer → Type 0
-Fits answer.Silence = Unit {0}
-Fits (answer.Reject whose problem) = OwnFits whose
-Fits (answer.Error identifier value) = (mag identifier < 32768) × (value < 256)
-Fits (answer.Result identifier) = mag identifier < 32768
-Fits (answer.Listing identifier) = mag identifier < 32768
+abbrev pub EntriesFit : Answer → Type 0
+EntriesFit answer.Silence = Unit {0}
+EntriesFit (answer.Reject whose problem) = OwnFits whose
+EntriesFit (answer.Error identifier value) = (mag identifier < 32768) × (value < 256)
+EntriesFit (answer.Result identifier) = mag identifier < 32768
+EntriesFit (answer.Listing identifier) = mag identifier < 32768
 
 -- whose it is takes at most four octets
 whose-most : (w : Whose) → OwnFits w → length (whoseOctets w) ≤ 4
@@ -40,7 +40,7 @@ whose-most whose.Null h = omega (arith, length-small 0x05 [] (omega arith))
 whose-most (whose.Own identifier) h = ident-most identifier h
 
 pub answer-most :
-    (a : Answer) (es : List Entry) → Fits a → allGood es ≡ true → length es ≤ limit → length (answerOctets a es) ≤ 707
+    (a : Answer) (es : List Entry) → EntriesFit a → allGood es ≡ true → length es ≤ instancesMost → length (answerOctets a es) ≤ 707
 unfolding answerOctets
 answer-most answer.Silence es h good few = omega arith
 answer-most (answer.Reject w problem) es h good few =

@@ -13,7 +13,7 @@ use Rattle.laws.specs.Stands.{Stands}
 use Rattle.laws.proofs.Stands.{stands-whole, stands-left, stands-right}
 use Rattle.octets.specs.Element.{element}
 use Rattle.values.specs.Ident.{identOctets}
-use Rattle.octets.proofs.Elements.{length-element, Inside, inside}
+use Rattle.octets.proofs.Elements.{length-element, Inside, inside-element}
 use Rattle.values.proofs.Idents.{ident-back, ident-most}
 use Rattle.requests.specs.Heard.{argumentDepth, insideDepth, componentDepth}
 use Rattle.requests.specs.Request.{interrogation}
@@ -89,13 +89,13 @@ module _ (identifier : ℤ) (left : ℕ) (es : List Entry) (range : mag identifi
       let sequence = length-element 0x30 (sequenceOctets es) in
       let pair = length-append o t in
       let set = length-element 0x31 (entriesOctets es) in
-      let i = inside componentDepth s 0 (length s) 0xA2 (a ++ q) (λ z. omega arith) (λ z. omega arith) (omega arith)
+      let i = inside-element componentDepth s 0 (length s) 0xA2 (a ++ q) (λ z. omega arith) (λ z. omega arith) (omega arith)
       (stands-whole s) (omega arith) (omega arith) in
       let p : ℕ = i .start + length a in
-      let j = inside insideDepth s p (length s) 0x30 (sequenceOctets es) (λ z. omega arith) (λ z. omega arith) (omega arith)
+      let j = inside-element insideDepth s p (length s) 0x30 (sequenceOctets es) (λ z. omega arith) (λ z. omega arith) (omega arith)
       (stands-right s (i .start) a q (i .stands)) (omega (arith, i .stop)) (omega arith) in
       let r : ℕ = j .start + length o in
-      let k = inside argumentDepth s r (length s) 0x31 (entriesOctets es) (λ z. omega arith) (λ z. omega arith) (omega arith)
+      let k = inside-element argumentDepth s r (length s) 0x31 (entriesOctets es) (λ z. omega arith) (λ z. omega arith) (omega arith)
       (stands-right s (j .start) o t (j .stands)) (omega (arith, i .stop, j .stop)) (omega arith) in
       let last : k .start + length (entriesOctets es) ≡ length s = omega (arith, i .stop, j .stop, k .stop) in
       record {

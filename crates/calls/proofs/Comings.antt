@@ -17,13 +17,13 @@ use Rattle.profile.specs.Access.{accessRead}
 use Rattle.profile.specs.declared.profile.Profile.{Profile}
 use Rattle.profile.proofs.Profiles.{good-profile}
 use Rattle.profile.proofs.Records.{access-good, access-size}
-use Rattle.lists.specs.Entries.{limit}
+use Rattle.lists.specs.Entries.{instancesMost}
 use Rattle.exchange.specs.Table.{tableGood}
 use Rattle.exchange.specs.declared.table.Table.{Table}
 use Rattle.calls.specs.declared.call.Call.{Call}
 use Rattle.calls.specs.Call.{originalAt, callFrom, callGood}
 use Rattle.calls.specs.Divert.{servedOf, onward, Comes, refused, byInstance, byCall, applying, comes}
-use Rattle.calls.specs.Original.{servedAt, handedOn, goesOn, originalIn}
+use Rattle.calls.specs.Original.{servedDigitsAt, handedOn, goesOn, originalIn}
 use Rattle.calls.specs.declared.diverting.Refusal.the-variants.{BadProfile, BadTable, BadCall}
 use Rattle.calls.proofs.Records.{good-call}
 
@@ -36,11 +36,11 @@ module _ (access : List ℕ) (t : Table) (s : List ℕ) where
 
   module _ (ok : accessRead access .ok ≡ true) where
     pub comes-table :
-        tableGood limit (accessRead access .profile) t ≡ false → comes access t s ≡ refused BadTable
+        tableGood instancesMost (accessRead access .profile) t ≡ false → comes access t s ≡ refused BadTable
     unfolding comes
     comes-table bad = rw (ok, bad)
 
-    module _ (table : tableGood limit (accessRead access .profile) t ≡ true) where
+    module _ (table : tableGood instancesMost (accessRead access .profile) t ≡ true) where
       pub comes-call : callGood (accessRead access .profile) s ≡ false → comes access t s ≡ refused BadCall
       unfolding comes
       comes-call bad = rw (ok, table, bad)
@@ -79,7 +79,7 @@ goes-good access t s =
     let p : Profile = accessRead access .profile in
     let P : Comes → Type 0 = λ x. goesOn (x .told) ≡ true → GoesOn access s x in
     pick-ind P (accessRead access .ok)
-    (λ ok. pick-ind P (tableGood limit p t)
+    (λ ok. pick-ind P (tableGood instancesMost p t)
     (λ _. pick-ind P (callGood p s)
     (λ good h. record {
       ok = ok;
@@ -93,7 +93,7 @@ goes-good access t s =
 -- the digits of its number stand within the access record
 pub served-within :
     (access s : List ℕ) → accessRead access .ok ≡ true → callGood (accessRead access .profile) s ≡ true →
-    servedAt (callFrom s .number) + servedOf (accessRead access .profile) (callFrom s) .count ≤ length access
+    servedDigitsAt (callFrom s .number) + servedOf (accessRead access .profile) (callFrom s) .count ≤ length access
 unfolding servedOf
 served-within access s ok good =
     let p : Profile = accessRead access .profile in
@@ -115,7 +115,7 @@ module _ (access : List ℕ) (t : Table) (s : List ℕ) where
 
   module _ (goes : goesHere ≡ true) where
     abbrev from : ℕ
-    from = servedAt (callFrom s .number)
+    from = servedDigitsAt (callFrom s .number)
 
     abbrev to : ℕ
     to = from + servedOf (accessRead access .profile) (callFrom s) .count

@@ -9,9 +9,9 @@ use borrow.Author.Tests.{eq-eqb, ne-eqb, le-leb, lt-leb}
 use Rattle.laws.proofs.Picks.{pick-ind}
 use Rattle.profile.specs.Profile.{servicesMost}
 use Rattle.profile.specs.declared.profile.Profile.{Profile}
-use Rattle.store.specs.Row.{cellAt, active, instanceAt}
+use Rattle.store.specs.Row.{cellAt, active, heldAt}
 use Rattle.store.specs.Grid.{procedures, rowAt}
-use Rattle.store.specs.declared.row.Instance.{Instance}
+use Rattle.store.specs.declared.row.Held.{Held}
 use Rattle.store.specs.declared.row.Row.{Row}
 use Rattle.store.specs.declared.grid.Grid.{Grid}
 use Rattle.store.proofs.Instances.{instance-ok, instance-address}
@@ -53,18 +53,18 @@ module _ (p : Profile) (grid : Grid) (c : Call) where
 
 -- the same as the code looks for it
 module _
-    (p : Profile) (grid : Grid) (c : Call) (used : p .inuse ≡ 0 → ⊥) (slot procedure : ℕ) (found : Instance)
+    (p : Profile) (grid : Grid) (c : Call) (used : p .inuse ≡ 0 → ⊥) (slot procedure : ℕ) (found : Held)
     (place : slot ≡ slotOf p c) (below : slot < p .servicecount) (event : procedure ≡ procedureOf (c .event))
-    (is : found ≡ instanceAt (rowAt grid procedure) (servicesMost * c .number + slot))
+    (is : found ≡ heldAt (rowAt grid procedure) (servicesMost * c .number + slot))
   where
-    abbrev here : Instance
-    here = instanceAt (row p grid c) (placeOfCall p c)
+    abbrev here : Held
+    here = heldAt (row p grid c) (placeOfCall p c)
 
     found-here : found ≡ here
     found-here = is ∙ rw (event, place)
 
     found-active : found .ok ≡ active (row p grid c) (placeOfCall p c)
-    found-active = ap (λ (x : Instance). x .ok) found-here ∙ instance-ok (row p grid c) (placeOfCall p c)
+    found-active = ap (λ (x : Held). x .ok) found-here ∙ instance-ok (row p grid c) (placeOfCall p c)
 
     subscribed : slotOf p c < p .servicecount
     subscribed = omega (arith, place, below)
@@ -76,4 +76,4 @@ module _
     found-some h =
         let on = sym found-active ∙ h in
         applying-some p grid c used subscribed on
-        ∙ ap some (sym (ap (λ (x : Instance). x .address) found-here ∙ instance-address (row p grid c) (placeOfCall p c) on))
+        ∙ ap some (sym (ap (λ (x : Held). x .address) found-here ∙ instance-address (row p grid c) (placeOfCall p c) on))

@@ -1,4 +1,4 @@
--- How far a call is diverted: its counter and the diversion limit (document 01, "Calls"). Assumes nothing.
+-- How far a call is diverted: its counter and the diversion instancesMost (document 01, "Calls"). Assumes nothing.
 use Prim.Native.Nat.{ℕ, _≤_, _<_}
 use mathlib.Core.Path.{_≡_, ap}
 use mathlib.Core.List.{List}
@@ -10,33 +10,33 @@ use Rattle.laws.proofs.Picks.{pick-ind}
 use Rattle.numbers.specs.declared.address.Address.{Address}
 use Rattle.profile.specs.Access.{accessRead}
 use Rattle.profile.specs.declared.profile.Profile.{Profile}
-use Rattle.lists.specs.Entries.{limit}
+use Rattle.lists.specs.Entries.{instancesMost}
 use Rattle.exchange.specs.Table.{tableGood}
 use Rattle.exchange.specs.declared.table.Table.{Table}
 use Rattle.calls.specs.declared.call.Call.{Call}
 use Rattle.calls.specs.Call.{callFrom, callGood}
-use Rattle.calls.specs.Divert.{Told, refuses, passes, diverts, applying, onward, Comes, nowhere, byInstance, byCall, comes}
+use Rattle.calls.specs.Divert.{Told, refuses, passes, diverts, applying, onward, Comes, noOnward, byInstance, byCall, comes}
 
--- ---- the counter: "one more", and "An instance and counter not below the limit: refusal 6"
+-- ---- the counter: "one more", and "An instance and counter not below the instancesMost: refusal 6"
 
 instance-counter :
     (p : Profile) (c : Call) (o : Option Address) → byInstance p c o .call .counter ≤ p .limit
-unfolding onward nowhere
+unfolding onward noOnward
 instance-counter p c none = omega arith
 instance-counter p c (some called) =
     pick-ind (λ (x : Comes). x .call .counter ≤ p .limit) (ltb (c .counter) (p .limit))
     (λ below. omega (arith, ltb-true (c .counter) (p .limit) below))
     (λ _. omega arith)
 
--- the counter that goes on never passes the profile's limit
+-- the counter that goes on never passes the profile's instancesMost
 pub counter-most :
     (access : List ℕ) (t : Table) (s : List ℕ) → comes access t s .call .counter ≤ accessRead access .profile .limit
-unfolding comes nowhere
+unfolding comes noOnward
 counter-most access t s =
     let p : Profile = accessRead access .profile in
     let P : Comes → Type 0 = λ x. x .call .counter ≤ p .limit in
     pick-ind P (accessRead access .ok)
-    (λ _. pick-ind P (tableGood limit p t)
+    (λ _. pick-ind P (tableGood instancesMost p t)
     (λ _. pick-ind P (callGood p s)
     (λ _. instance-counter p (callFrom s) (applying p (t .grid) (callFrom s)))
     (λ _. omega arith))
@@ -49,10 +49,10 @@ pub none-passes : (p : Profile) (t : Table) (c : Call) → applying p (t .grid) 
 none-passes p t c h = rw h
 
 -- the number of a refusal, 0 where there is none
-abbrev pub refusalIn : Told → ℕ
-refusalIn (refuses number) = number
-refusalIn passes = 0
-refusalIn (diverts reasonNumber noticeNumber) = 0
+abbrev pub refusalTold : Told → ℕ
+refusalTold (refuses number) = number
+refusalTold passes = 0
+refusalTold (diverts reasonNumber noticeNumber) = 0
 
 -- such a call is never refused 6
 pub none-unrefused :
@@ -63,13 +63,13 @@ pub none-unrefused :
 unfolding comes
 none-unrefused access t s h e =
     let p : Profile = accessRead access .profile in
-    let P : Comes → Type 0 = λ x. refusalIn (x .told) < 6 in
-    let low : refusalIn (comes access t s .told) < 6 =
+    let P : Comes → Type 0 = λ x. refusalTold (x .told) < 6 in
+    let low : refusalTold (comes access t s .told) < 6 =
     pick-ind P (accessRead access .ok)
-    (λ _. pick-ind P (tableGood limit p t)
+    (λ _. pick-ind P (tableGood instancesMost p t)
     (λ _. pick-ind P (callGood p s)
     (λ _. rw (none-passes p t (callFrom s) h) (omega arith))
     (λ _. omega arith))
     (λ _. omega arith))
     (λ _. omega arith) in
-    omega (arith, low, ap refusalIn e)
+    omega (arith, low, ap refusalTold e)

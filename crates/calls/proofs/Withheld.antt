@@ -13,7 +13,7 @@ use Rattle.numbers.specs.Number.{numberOf}
 use Rattle.numbers.specs.declared.address.Address.{Address}
 use Rattle.profile.specs.Access.{accessRead}
 use Rattle.profile.specs.declared.profile.Profile.{Profile}
-use Rattle.lists.specs.Entries.{limit}
+use Rattle.lists.specs.Entries.{instancesMost}
 use Rattle.exchange.specs.Table.{tableGood}
 use Rattle.exchange.specs.declared.table.Table.{Table}
 use Rattle.calls.specs.Onward.{optionAfter}
@@ -22,13 +22,13 @@ use Rattle.calls.specs.Call.{callFrom, callGood}
 use Rattle.calls.specs.Divert.{applying, noticed, onward, Comes, goes, byCall, comes}
 
 -- what comes of two calls is told alike: the reason and the notice, the counter, and the number of the notice
-pub record Alike (x y : Comes) : Type 0 where
+pub record SameButDigits (x y : Comes) : Type 0 where
   pub told : x .told ≡ y .told
   pub counter : x .call .counter ≡ y .call .counter
   pub noticed : x .call .noticed ≡ y .call .noticed
 
 -- the same test of both
-alike-both : (b : Bool) (x y z : Comes) → Alike x y → Alike (pick b x z) (pick b y z)
+alike-both : (b : Bool) (x y z : Comes) → SameButDigits x y → SameButDigits (pick b x z) (pick b y z)
 alike-both true x y z so = so
 alike-both false x y z so = record { told = refl; counter = refl; noticed = refl }
 
@@ -38,7 +38,7 @@ unfolding noticed
 noticed-none option called low = rw (ne-eqb option 2 (λ e. omega (arith, e)))
 
 module _ (p : Profile) (c : Call) (low : optionAfter p c < 2) where
-  goes-alike : (a b : Address) → Alike (goes p c a) (goes p c b)
+  goes-alike : (a b : Address) → SameButDigits (goes p c a) (goes p c b)
   unfolding onward
   goes-alike a b = record {
     told = refl;
@@ -49,18 +49,18 @@ module _ (p : Profile) (c : Call) (low : optionAfter p c < 2) where
   -- whatever the two addresses are
   pub instances-alike :
       (t u : Table) (a b : Address) → applying p (t .grid) c ≡ some a → applying p (u .grid) c ≡ some b →
-      Alike (byCall p t c) (byCall p u c)
+      SameButDigits (byCall p t c) (byCall p u c)
   instances-alike t u a b first second = rw (first, second) (alike-both (ltb (c .counter) (p .limit)) _ _ _ (goes-alike a b))
 
 -- the same of a call as it comes, for two tables that break no rule
 pub digits-withheld :
     (access s : List ℕ) (t u : Table) (a b : Address) →
     optionAfter (accessRead access .profile) (callFrom s) < 2 →
-    tableGood limit (accessRead access .profile) t ≡ true →
-    tableGood limit (accessRead access .profile) u ≡ true →
+    tableGood instancesMost (accessRead access .profile) t ≡ true →
+    tableGood instancesMost (accessRead access .profile) u ≡ true →
     applying (accessRead access .profile) (t .grid) (callFrom s) ≡ some a →
     applying (accessRead access .profile) (u .grid) (callFrom s) ≡ some b →
-    Alike (comes access t s) (comes access u s)
+    SameButDigits (comes access t s) (comes access u s)
 unfolding comes
 digits-withheld access s t u a b low one two first second =
     let p : Profile = accessRead access .profile in

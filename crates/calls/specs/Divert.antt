@@ -11,9 +11,9 @@ use Rattle.numbers.specs.Number.{numberOf}
 use Rattle.numbers.specs.declared.number.Number.{Number}
 use Rattle.numbers.specs.declared.address.Address.{Address}
 use Rattle.profile.specs.Access.{accessRead}
-use Rattle.profile.specs.Profile.{servicesMost, offered as subscribedServices, noNumber}
+use Rattle.profile.specs.Profile.{servicesMost, subscribedServices as subscribedServices, noNumber}
 use Rattle.profile.specs.declared.profile.Profile.{Profile}
-use Rattle.lists.specs.Entries.{limit}
+use Rattle.lists.specs.Entries.{instancesMost}
 use Rattle.store.specs.Row.{cellAt, active}
 use Rattle.store.specs.Grid.{rowAt}
 use Rattle.store.specs.declared.grid.Grid.{Grid}
@@ -110,8 +110,8 @@ pub record Comes : Type 0 where
   pub told : Told
   pub call : Onward
 
-unfoldable pub nowhere : Onward
-nowhere = record {
+unfoldable pub noOnward : Onward
+noOnward = record {
   counter = 0;
   called = record { number = numberOf 0 0 []; subcount = 0; sub = replicate 20 0 };
   redirecting = numberOf 0 0 [];
@@ -122,19 +122,19 @@ nowhere = record {
   noticed = numberOf 0 0 [];
 }
 
-abbrev pub stays : Outcome → Comes
-stays outcome = record { told = toldBy outcome; call = nowhere }
+abbrev pub staysHere : Outcome → Comes
+staysHere outcome = record { told = toldBy outcome; call = noOnward }
 
 abbrev pub refused : Refusal → Comes
-refused r = stays (Refuses r)
+refused r = staysHere (Refuses r)
 
 -- the reason, and the notice whose number is the resulting option
 abbrev pub goes : Profile → Call → Address → Comes
 goes p c called = record { told = diverts (reasonOf (c .event)) (optionAfter p c); call = onward p c called }
 
--- "No instance .. : not diverted, whatever the counter. An instance and counter not below the limit: refusal 6."
+-- "No instance .. : not diverted, whatever the counter. An instance and counter not below the instancesMost: refusal 6."
 abbrev pub byInstance : Profile → Call → Option Address → Comes
-byInstance p c none = stays Passes
+byInstance p c none = staysHere Passes
 byInstance p c (some called) = pick (ltb (c .counter) (p .limit)) (goes p c called) (refused refusal.LimitReached)
 
 abbrev pub byCall : Profile → Table → Call → Comes
@@ -144,7 +144,7 @@ byCall p t c = byInstance p c (applying p (t .grid) c)
 unfoldable pub comes : List ℕ → Table → List ℕ → Comes
 comes access t s =
     pick (accessRead access .ok)
-    (pick (tableGood limit (accessRead access .profile) t)
+    (pick (tableGood instancesMost (accessRead access .profile) t)
     (pick (callGood (accessRead access .profile) s) (byCall (accessRead access .profile) t (callFrom s)) (refused refusal.BadCall))
     (refused refusal.BadTable))
     (refused refusal.BadProfile)

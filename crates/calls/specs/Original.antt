@@ -14,14 +14,14 @@ use Rattle.calls.specs.Call.{originalAt, callFrom}
 use Rattle.calls.specs.Divert.{Told, refuses, passes, diverts, servedOf, comes}
 
 -- where the digits of a number stand in the access record: after its form, type and count
-abbrev pub servedAt : ℕ → ℕ
-servedAt number = numbersAt + numberSize * number + 3
+abbrev pub servedDigitsAt : ℕ → ℕ
+servedDigitsAt number = numbersAt + numberSize * number + 3
 
 -- "on the first diversion (counter 0) the served number .. later as received"
 unfoldable pub handedOn : List ℕ → List ℕ → Profile → Call → List ℕ
 handedOn access s p c =
     pick (eqb (c .counter) 0)
-    (slice (servedAt (c .number)) (servedAt (c .number) + servedOf p c .count) access)
+    (slice (servedDigitsAt (c .number)) (servedDigitsAt (c .number) + servedOf p c .count) access)
     (slice originalAt (originalAt + c .count) s)
 
 abbrev pub goesOn : Told → Bool

@@ -22,7 +22,7 @@ ghost use mathlib.Core.List.{[]};
 ghost use Prim.Native.Nat.{_<_, _≤_};
 ghost use Rattle.numbers.specs.Number.{numberOf};
 ghost use Rattle.profile.specs.Profile.{numbersMost};
-ghost use Rattle.calls.specs.Divert.{noticeNo, procedureOf, noticed, stays, refused, goes, applying, byInstance, Becomes, DivertsTo};
+ghost use Rattle.calls.specs.Divert.{noticeNo, procedureOf, noticed, staysHere, refused, goes, applying, byInstance, Becomes, DivertsTo};
 
 // What the caller is told: nothing, that the call is diverting, or to which number too.
 pub enum Notice {
@@ -78,7 +78,7 @@ fn no_number() -> Number
 
 // No call goes on.
 fn stays_here(outcome: Outcome) -> Diversion
-    ensures { λ d. ⌜ Becomes (stays outcome) d ⌝ }
+    ensures { λ d. ⌜ Becomes (staysHere outcome) d ⌝ }
 {
     let none = no_number();
     Diversion {
@@ -181,14 +181,14 @@ fn divert_by(p: Profile, grid: Grid, c: Call) -> Diversion
         return stays_here(Outcome::Passes);
     }
     let row = grid.rows[procedure_of(c.event)];
-    let instance = row.instance_at(SERVICES * c.number as usize + slot);
-    if !instance.ok {
+    let held = row.held_at(SERVICES * c.number as usize + slot);
+    if !held.ok {
         return stays_here(Outcome::Passes);
     }
     if p.limit <= c.counter {
         return refuses(Refusal::LimitReached);
     }
-    let address = instance.address;
+    let address = held.address;
     go_on(p, c, address)
 }
 

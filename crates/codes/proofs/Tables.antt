@@ -170,9 +170,9 @@ unfolding apart placeOf
 reasons-apart = refl
 
 -- two of our reasons with the same code are the same reason
-pub reason-same :
+pub trunk-reason-same :
     (i j : ℕ) → i < 4 → j < 4 → getD trunkReasons i 0 ≡ getD trunkReasons j 0 → i ≡ j
-reason-same i j k m e = apart-same trunkReasons reasons-apart i j k m e
+trunk-reason-same i j k m e = apart-same trunkReasons reasons-apart i j k m e
 
 -- the procedure of a request, as a test
 pub procedure-code : (code : ℕ) → procedureCode code ≡ ltb code 3

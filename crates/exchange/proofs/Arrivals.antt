@@ -20,7 +20,7 @@ use Rattle.profile.specs.declared.profile.Profile.{Profile}
 use Rattle.profile.proofs.Profiles.{good-profile}
 use Rattle.requests.specs.Request.{interrogation}
 use Rattle.requests.specs.declared.request.Request.{Request}
-use Rattle.lists.specs.Entries.{limit, listed, entriesOf, allGood}
+use Rattle.lists.specs.Entries.{instancesMost, listed, entriesOf, allGood}
 use Rattle.lists.specs.declared.entry.Entry.{Entry}
 use Rattle.lists.proofs.Goods.{all-none}
 use Rattle.store.specs.Grid.{rowAt}
@@ -33,7 +33,7 @@ use Rattle.rules.specs.declared.verdict.Verdict.the-variants.{Passes, Fails}
 use Rattle.rules.proofs.Judges.{judge-errors}
 use Rattle.answers.specs.Answer.{answerOctets, PutAnswer}
 use Rattle.answers.specs.declared.answer.Answer.{Answer}
-use Rattle.answers.proofs.Fits.{Fits, answer-most}
+use Rattle.answers.proofs.Fits.{EntriesFit, answer-most}
 use Rattle.exchange.specs.Table.{tableGood, withRow, withLast}
 use Rattle.exchange.specs.Question.{question}
 use Rattle.exchange.specs.Step.{Step, resultOf, verdictOf, handled, stepOf, step, Stepping}
@@ -67,12 +67,12 @@ module _ (access : List ℕ) (t : Table) (s : List ℕ) (size : ℕ) where
 
       module _ (ok : accessRead access .ok ≡ true) where
         pub done-table :
-            tableGood limit (accessRead access .profile) t ≡ false → done access t s size ≡ refused t BadTable
+            tableGood instancesMost (accessRead access .profile) t ≡ false → done access t s size ≡ refused t BadTable
         unfolding done
         done-table bad = rw (le-ltb size outputLeast room, le-ltb componentMost (length s) fair, ok, bad)
 
         pub done-answers :
-            tableGood limit (accessRead access .profile) t ≡ true →
+            tableGood instancesMost (accessRead access .profile) t ≡ true →
             done access t s size ≡ answered (step (accessRead access .profile) t s)
         unfolding done
         done-answers good = rw (le-ltb size outputLeast room, le-ltb componentMost (length s) fair, ok, good)
@@ -93,40 +93,40 @@ refused-arrives access t s xs refusal r is e = record {
 
 -- a step whose answer fits, with good entries, at most 8
 pub record StepFits (x : Step) : Type 0 where
-  pub answer : Fits (x .answer)
+  pub answer : EntriesFit (x .answer)
   pub good : allGood (x .entries) ≡ true
-  pub few : length (x .entries) ≤ limit
+  pub few : length (x .entries) ≤ instancesMost
 
-module _ (p : Profile) (t : Table) (profile : profileGood p ≡ true) (table : tableGood limit p t ≡ true) where
+module _ (p : Profile) (t : Table) (profile : profileGood p ≡ true) (table : tableGood instancesMost p t ≡ true) where
   module _ (identifier : ℤ) (operation : ℕ) (r : Request) (range : mag identifier < 32768) (code : r .procedure < 3) where
     result-fits : StepFits (resultOf p t identifier operation r)
     unfolding resultOf
     result-fits =
         let row = rowAt (t .grid) (r .procedure) in
-        let good = grid-row limit p (t .grid) (r .procedure) code (table-good limit p t table .1) in
+        let good = grid-row instancesMost p (t .grid) (r .procedure) code (table-good instancesMost p t table .1) in
         pick-ind StepFits (eqb operation interrogation)
         (λ _. record {
           answer = range;
-          good = entries-good limit p (r .procedure) (placesOf p r) row good (good-profile p profile .numbers);
+          good = entries-good instancesMost p (r .procedure) (placesOf p r) row good (good-profile p profile .numbers);
           few =
               omega
-              (arith, entries-few p (r .procedure) (placesOf p r) row, good-few limit p (r .procedure) row good);
+              (arith, entries-few p (r .procedure) (placesOf p r) row, good-few instancesMost p (r .procedure) row good);
         })
         (λ _. record { answer = range; good = all-none; few = omega arith })
 
     verdict-fits :
-        (v : Verdict) → judge limit p operation r (placesOf p r) (rowAt (t .grid) (r .procedure)) ≡ v →
+        (v : Verdict) → judge instancesMost p operation r (placesOf p r) (rowAt (t .grid) (r .procedure)) ≡ v →
         StepFits (verdictOf p t identifier operation r v)
     verdict-fits Passes h = result-fits
     verdict-fits (Fails e) h = record {
-      answer = (range, judge-errors limit p operation r (placesOf p r) (rowAt (t .grid) (r .procedure)) e h);
+      answer = (range, judge-errors instancesMost p operation r (placesOf p r) (rowAt (t .grid) (r .procedure)) e h);
       good = all-none;
       few = omega arith;
     }
 
     handled-fits : StepFits (handled p t identifier operation r)
     unfolding handled
-    handled-fits = verdict-fits (judge limit p operation r (placesOf p r) (rowAt (t .grid) (r .procedure))) refl
+    handled-fits = verdict-fits (judge instancesMost p operation r (placesOf p r) (rowAt (t .grid) (r .procedure))) refl
 
   pub step-fits : (s : List ℕ) → StepFits (step p t s)
   unfolding step stepOf
@@ -138,8 +138,8 @@ module _ (p : Profile) (t : Table) (profile : profileGood p ≡ true) (table : t
       (λ _. record { answer = question-fits p (t .last) s; good = all-none; few = omega arith })
 
 -- the entries of a record of at most 8 are those it was made of
-listed-all : (es : List Entry) → length es ≤ limit → listed (entriesOf (take limit es)) ≡ es
-listed-all es few = rw (take-all limit es few) (take-append-seam es _)
+listed-all : (es : List Entry) → length es ≤ instancesMost → listed (entriesOf (take instancesMost es)) ≡ es
+listed-all es few = rw (take-all instancesMost es few) (take-append-seam es _)
 
 -- what is answered is written whole
 pub answered-arrives :

@@ -19,8 +19,8 @@ use Rattle.profile.specs.declared.profile.Profile.{Profile}
 use Rattle.profile.proofs.Profiles.{good-profile}
 use Rattle.requests.specs.Request.{activation, interrogation}
 use Rattle.requests.specs.declared.request.Request.{Request}
-use Rattle.lists.specs.Entries.{limit}
-use Rattle.store.specs.Row.{places, cellOf, codeAt, selected, cellGood, rowGood}
+use Rattle.lists.specs.Entries.{instancesMost}
+use Rattle.store.specs.Row.{places, cellOf, codeOfPlace, selected, cellGood, rowGood}
 use Rattle.store.specs.Grid.{procedures, rowAt, gridGood}
 use Rattle.store.specs.declared.row.Row.{Row}
 use Rattle.store.proofs.Turns.{not-selected}
@@ -37,7 +37,7 @@ use Rattle.exchange.specs.Step.{Step, moved, resultOf, verdictOf, handle
 use Rattle.exchange.specs.declared.table.Table.{Table}
 use Rattle.exchange.proofs.Shapes.{Shaped, row-set}
 
--- ---- tables that break no rule, over any limit of instances
+-- ---- tables that break no rule, over any instancesMost of instances
 
 module _ (most : ℕ) (p : Profile) where
   pub good-last : (t : Table) → tableGood most p t ≡ true → t .last ≤ lastMost
@@ -94,11 +94,11 @@ module _ (most : ℕ) (p : Profile) (operation : ℕ) (r : Request) (row : Row) 
       profileGood p ≡ true → length (p .services) ≡ servicesMost → r .procedure < procedures → Judged Passes →
       addressGood (r .to .address) ≡ true →
       (j : ℕ) → j < places → selected (placesOf p r) j ≡ true →
-      cellGood p (r .procedure) j (cellOf (codeAt (placesOf p r) j) (r .to .address)) ≡ true
+      cellGood p (r .procedure) j (cellOf (codeOfPlace (placesOf p r) j) (r .to .address)) ≡ true
   place-good profile long known passes address j h chosen =
-      let some : codeAt (placesOf p r) j ≡ 0 → ⊥ = λ none. false≢true (sym (not-selected (placesOf p r) j none) ∙ chosen) in
+      let some : codeOfPlace (placesOf p r) j ≡ 0 → ⊥ = λ none. false≢true (sym (not-selected (placesOf p r) j none) ∙ chosen) in
       let at = places-good p r (good-profile p profile .rises) long j h (places-only p r j h some) in
-      cell-good p (r .procedure) j (codeAt (placesOf p r) j) (r .to .address) (subscribed profile known passes)
+      cell-good p (r .procedure) j (codeOfPlace (placesOf p r) j) (r .to .address) (subscribed profile known passes)
       (at .number) (at .service) (at .code) address
 
   applied-good :
@@ -145,7 +145,7 @@ module _ (p : Profile) (t : Table) (identifier : ℤ) where
         pick-ind (λ (x : Step). P (x .next)) (eqb operation interrogation) (λ _. same) (λ _. other refl)
     verdict-next P (Fails e) same other = same
 
-    -- over any limit of instances
+    -- over any instancesMost of instances
     pub verdict-good :
         (most : ℕ) (v : Verdict) → judge most p operation r (placesOf p r) row ≡ v → profileGood p ≡ true →
         length (p .services) ≡ servicesMost → Shaped t → tableGood most p t ≡ true → r .procedure < procedures →
@@ -162,16 +162,16 @@ module _ (p : Profile) (t : Table) (identifier : ℤ) where
 
     -- a table that breaks no rule breaks none after a request was handled
     pub handled-good :
-        profileGood p ≡ true → length (p .services) ≡ servicesMost → Shaped t → tableGood limit p t ≡ true →
+        profileGood p ≡ true → length (p .services) ≡ servicesMost → Shaped t → tableGood instancesMost p t ≡ true →
         r .procedure < procedures → mag identifier < 32768 →
         (operation ≡ activation → ToUnless (r .to)) →
-        tableGood limit p (handled p t identifier operation r .next) ≡ true
+        tableGood instancesMost p (handled p t identifier operation r .next) ≡ true
     unfolding handled
-    handled-good = verdict-good limit (judge limit p operation r (placesOf p r) row) refl
+    handled-good = verdict-good instancesMost (judge instancesMost p operation r (placesOf p r) row) refl
 
     -- a request that earns an error alters no registration
     pub handled-error :
-        (e : ℕ) → judge limit p operation r (placesOf p r) row ≡ Fails e →
+        (e : ℕ) → judge instancesMost p operation r (placesOf p r) row ≡ Fails e →
         handled p t identifier operation r .next .grid ≡ t .grid
     unfolding handled
     handled-error e h = rw h (moved-grid t)
@@ -182,7 +182,7 @@ module _ (p : Profile) (t : Table) (identifier : ℤ) where
     unfolding handled
     handled-last =
         verdict-next (λ u. u .last ≡ pick (eqb (p .counted) 1) (mag identifier) (t .last))
-        (judge limit p operation r (placesOf p r) row)
+        (judge instancesMost p operation r (placesOf p r) row)
         (moved-last t)
         (λ _. moved-last changed)
 
@@ -195,4 +195,4 @@ module _ (p : Profile) (t : Table) (identifier : ℤ) where
   pub handled-list : (r : Request) → handled p t identifier interrogation r .next .grid ≡ t .grid
   unfolding handled
   handled-list r =
-      rw (list-next r (judge limit p interrogation r (placesOf p r) (rowAt (t .grid) (r .procedure)))) (moved-grid t)
+      rw (list-next r (judge instancesMost p interrogation r (placesOf p r) (rowAt (t .grid) (r .procedure)))) (moved-grid t)

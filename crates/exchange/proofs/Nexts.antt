@@ -17,7 +17,7 @@ use Rattle.profile.specs.declared.profile.Profile.{Profile}
 use Rattle.profile.proofs.Records.{access-good, access-services}
 use Rattle.requests.specs.Request.{interrogation}
 use Rattle.requests.specs.declared.request.Request.{Request}
-use Rattle.lists.specs.Entries.{limit}
+use Rattle.lists.specs.Entries.{instancesMost}
 use Rattle.lists.specs.declared.entry.Entry.{Entry}
 use Rattle.store.specs.Grid.{procedures, rowAt}
 use Rattle.rules.specs.Selection.{placesOf}
@@ -38,11 +38,11 @@ use Rattle.exchange.specs.Arrive.{Told, refuses, answers, outputLeast, c
 use Rattle.exchange.specs.declared.table.Table.{Table}
 use Rattle.exchange.specs.declared.arrive.Refusal.{Refusal}
 use Rattle.exchange.specs.declared.arrive.Refusal.the-variants.{ShortOutput, LongComponent, BadProfile, BadTable}
-use Rattle.exchange.proofs.Questions.{Asked, AtOnce, silence, reject, question-asks, question-range, question-says}
+use Rattle.exchange.proofs.Questions.{RequestAsked, AtOnce, silence, reject, question-asks, question-range, question-says}
 use Rattle.exchange.proofs.Arrivals.{step-fits}
 use Rattle.exchange.proofs.Shapes.{Shaped, shaped-row, shaped-moved, cells-applied}
 use Rattle.exchange.proofs.Kept.{changed, handled-good, moved-grid, moved-last}
-use Rattle.exchange.proofs.Outcomes.{kindOf, numberOf, whoseOf}
+use Rattle.exchange.proofs.Outcomes.{kindOf, numberTold, whoseOf}
 
 -- the answers that move the last handled identifier
 pub data Moves (n : ℕ) : Type 0 where
@@ -84,7 +84,7 @@ module _ (p : Profile) (t : Table) (identifier : ℤ) (operation : ℕ) (r : Req
       (P : Step → Type 0) → ((es : List Entry) → P (lists es)) → P changes → ((e : ℕ) → P (fails e)) →
       P (handled p t identifier operation r)
   unfolding handled
-  handled-ind P = verdict-ind P (judge limit p operation r (placesOf p r) (rowAt (t .grid) (r .procedure)))
+  handled-ind P = verdict-ind P (judge instancesMost p operation r (placesOf p r) (rowAt (t .grid) (r .procedure)))
 
   pub handled-shaped : r .procedure < procedures → Shaped t → Shaped (handled p t identifier operation r .next)
   handled-shaped known so =
@@ -105,7 +105,7 @@ module _ (p : Profile) (t : Table) (s : List ℕ) where
   -- what holds of an answer at once, and of a request that is handled, holds of a step
   pub step-ind :
       (P : Step → Type 0) → ((a : Answer) → AtOnce a → P (stays t a)) →
-      (Asked p (t .last) asked → P (handled p t (asked .identifier) (asked .operation) (asked .request))) →
+      (RequestAsked p (t .last) asked → P (handled p t (asked .identifier) (asked .operation) (asked .request))) →
       P (step p t s)
   unfolding step stepOf
   step-ind P at-once judged =
@@ -120,10 +120,10 @@ module _ (p : Profile) (t : Table) (s : List ℕ) where
 
   -- the next table breaks no rule
   pub step-good :
-      profileGood p ≡ true → length (p .services) ≡ servicesMost → Shaped t → tableGood limit p t ≡ true →
-      tableGood limit p (step p t s .next) ≡ true
+      profileGood p ≡ true → length (p .services) ≡ servicesMost → Shaped t → tableGood instancesMost p t ≡ true →
+      tableGood instancesMost p (step p t s .next) ≡ true
   step-good profile long so good =
-      step-ind (λ x. tableGood limit p (x .next) ≡ true) (λ _ _. good) (λ asks.
+      step-ind (λ x. tableGood instancesMost p (x .next) ≡ true) (λ _ _. good) (λ asks.
       handled-good p t (asked .identifier) (asked .operation) (asked .request) profile long so good (asks .procedure)
       (question-range p (t .last) s) (asks .to))
 
@@ -172,21 +172,21 @@ module _ (access : List ℕ) (t : Table) (s : List ℕ) (size : ℕ) where
   -- what holds of every refusal, and of the step where the profile and the table break no rule, holds of what is done
   pub done-ind :
       (P : Done → Type 0) → ((refusal : Refusal) → P (refused t refusal)) →
-      (accessRead access .ok ≡ true → tableGood limit profile t ≡ true → P (answered (step profile t s))) →
+      (accessRead access .ok ≡ true → tableGood instancesMost profile t ≡ true → P (answered (step profile t s))) →
       P (done access t s size)
   unfolding done
   done-ind P refuse answer =
       pick-ind P (ltb size outputLeast) (λ _. refuse ShortOutput) (λ _.
       pick-ind P (ltb componentMost (length s)) (λ _. refuse LongComponent) (λ _.
       pick-ind P (accessRead access .ok)
-      (λ ok. pick-ind P (tableGood limit profile t) (answer ok) (λ _. refuse BadTable))
+      (λ ok. pick-ind P (tableGood instancesMost profile t) (answer ok) (λ _. refuse BadTable))
       (λ _. refuse BadProfile)))
 
   -- a table that breaks no rule breaks none afterwards
   pub done-good :
-      Shaped t → tableGood limit profile t ≡ true → tableGood limit profile (done access t s size .table) ≡ true
+      Shaped t → tableGood instancesMost profile t ≡ true → tableGood instancesMost profile (done access t s size .table) ≡ true
   done-good so good =
-      done-ind (λ d. tableGood limit profile (d .table) ≡ true) (λ _. good) (λ ok _.
+      done-ind (λ d. tableGood instancesMost profile (d .table) ≡ true) (λ _. good) (λ ok _.
       step-good profile t s (access-good access ok) (access-services access) so good)
 
   pub done-shaped : Shaped t → Shaped (done access t s size .table)
@@ -208,7 +208,7 @@ module _ (access : List ℕ) (t : Table) (s : List ℕ) (size : ℕ) where
   reject-nothing n values whose =
       done-ind (λ d. d .told ≡ answers n values whose → (n ≡ 0xA2 → ⊥) → (n ≡ 0xA3 → ⊥) → d .table ≡ t)
       (λ _ _ _ _. refl)
-      (λ _ _ h result error. step-same profile t s (λ e. result (sym (ap numberOf h) ∙ e)) (λ e. error (sym (ap numberOf h) ∙ e)))
+      (λ _ _ h result error. step-same profile t s (λ e. result (sym (ap numberTold h) ∙ e)) (λ e. error (sym (ap numberTold h) ∙ e)))
 
   -- "A refused request alters no registration": no answer but a result does
   pub error-nothing :
@@ -217,7 +217,7 @@ module _ (access : List ℕ) (t : Table) (s : List ℕ) (size : ℕ) where
   error-nothing n values whose =
       done-ind (λ d. d .told ≡ answers n values whose → (n ≡ 0xA2 → ⊥) → d .table .grid ≡ t .grid)
       (λ _ _ _. refl)
-      (λ _ _ h result. step-grid profile t s (λ e. result (sym (ap numberOf h) ∙ e)))
+      (λ _ _ h result. step-grid profile t s (λ e. result (sym (ap numberTold h) ∙ e)))
 
   -- a result or an error moves the last handled identifier on a counted end, and no other answer does
   pub last-moves :
@@ -230,7 +230,7 @@ module _ (access : List ℕ) (t : Table) (s : List ℕ) (size : ℕ) where
       d .table .last ≡ pick (eqb (profile .counted) 1) (ownLast whose) (t .last))
       (λ _ h. absurd (omega (arith, ap kindOf h)))
       (λ _ _ h moves.
-      rw (ap whoseOf h) at (step-last profile t s (rw (sym (ap numberOf h)) at moves)))
+      rw (ap whoseOf h) at (step-last profile t s (rw (sym (ap numberTold h)) at moves)))
 
   -- every reply fits the least output there may be
   pub reply-fits : length (done access t s size .octets) ≤ outputLeast

@@ -36,9 +36,9 @@ abbrev pub kindOf : Told → ℕ
 kindOf (refuses n) = 0
 kindOf (answers n values whose) = 1
 
-abbrev pub numberOf : Told → ℕ
-numberOf (refuses n) = n
-numberOf (answers n values whose) = n
+abbrev pub numberTold : Told → ℕ
+numberTold (refuses n) = n
+numberTold (answers n values whose) = n
 
 abbrev pub valuesOf : Told → List ℕ
 valuesOf (refuses n) = []
@@ -50,8 +50,8 @@ whoseOf (answers n values whose) = whose
 
 -- two outcomes of the same numbers are the same
 pub told-same : (a b : Outcome) → toldBy a ≡ toldBy b → a ≡ b
-told-same (Refuses x) (Refuses y) h = ap Refuses (refusal-same x y (ap numberOf h))
+told-same (Refuses x) (Refuses y) h = ap Refuses (refusal-same x y (ap numberTold h))
 told-same (Refuses x) (Answers b) h = absurd (omega (arith, ap kindOf h))
 told-same (Answers a) (Refuses y) h = absurd (omega (arith, ap kindOf h))
 told-same (Answers a) (Answers b) h =
-    ap Answers (answer-same a b (ap numberOf h) (ap valuesOf h) (ap whoseOf h))
+    ap Answers (answer-same a b (ap numberTold h) (ap valuesOf h) (ap whoseOf h))

@@ -165,7 +165,7 @@ duplicate-false p last z e counted = not-above-false z last (rw (eq-eqb (p .coun
 
 -- a request that must be judged: its codes are those of the tables, its operation is known, an activation's address is one that a
 -- table holds unless its number is of another kind, and for a counted end the identifier is new
-pub record Asked (p : Profile) (last : ℕ) (q : Question) : Type 0 where
+pub record RequestAsked (p : Profile) (last : ℕ) (q : Question) : Type 0 where
   pub procedure : q .request .procedure < 3
   pub service : serviceCode (q .request .service) ≡ true
   pub operation : Known (q .operation)
@@ -201,7 +201,7 @@ argued-asks :
     (p : Profile) (last : ℕ) (identifier : ℤ) (operation : Operation) (s : List ℕ) (at end : ℕ) →
     duplicate p last identifier ≡ false → known (operation .value) ≡ true →
     (g : Got Request) → argumentAt operation s at end ≡ g → argued identifier operation g .asked ≡ true →
-    Asked p last (argued identifier operation g)
+    RequestAsked p last (argued identifier operation g)
 argued-asks p last identifier operation s at end new is-known (got r next) read e =
     let known = known-code (operation .value) is-known in
     let is = argument-read operation s at end r next read in
@@ -216,7 +216,7 @@ argued-asks p last identifier operation s at end new is-known wrong read e = abs
 
 asks-of :
     (p : Profile) (last : ℕ) (s : List ℕ) (h : Heard) → questionOf p last s h .asked ≡ true →
-    Asked p last (questionOf p last s h)
+    RequestAsked p last (questionOf p last s h)
 unfolding invoked
 asks-of p last s heard.NotOne e = absurd (false≢true e)
 asks-of p last s heard.Silent e = absurd (false≢true e)
@@ -224,7 +224,7 @@ asks-of p last s heard.OtherTag e = absurd (false≢true e)
 asks-of p last s heard.NoIdentifier e = absurd (false≢true e)
 asks-of p last s (heard.NoOperation identifier) e = absurd (false≢true e)
 asks-of p last s (heard.Asks identifier operation at end) e =
-    let P : Question → Type 0 = λ q. q .asked ≡ true → Asked p last q in
+    let P : Question → Type 0 = λ q. q .asked ≡ true → RequestAsked p last q in
     pick-ind P (duplicate p last identifier) (λ _ f. absurd (false≢true f))
     (λ new. pick-ind P (known (operation .value))
     (λ is-known.
@@ -233,7 +233,7 @@ asks-of p last s (heard.Asks identifier operation at end) e =
     e
 
 pub question-asks :
-    (p : Profile) (last : ℕ) (s : List ℕ) → question p last s .asked ≡ true → Asked p last (question p last s)
+    (p : Profile) (last : ℕ) (s : List ℕ) → question p last s .asked ≡ true → RequestAsked p last (question p last s)
 unfolding question
 question-asks p last s = asks-of p last s (heard s)
 

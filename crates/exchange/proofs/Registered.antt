@@ -21,7 +21,7 @@ use Rattle.profile.specs.declared.profile.Profile.{Profile}
 use Rattle.profile.proofs.Profiles.{good-profile}
 use Rattle.requests.specs.Request.{activation, deactivation, interrogation}
 use Rattle.requests.specs.declared.request.Request.{Request}
-use Rattle.lists.specs.Entries.{limit}
+use Rattle.lists.specs.Entries.{instancesMost}
 use Rattle.store.specs.Row.{places, active, held, selected, entryOfPlace}
 use Rattle.store.specs.Grid.{procedures, rowAt}
 use Rattle.store.specs.declared.grid.Grid.{Grid}
@@ -107,7 +107,7 @@ module _ (p : Profile) (t : Table) (identifier : ℤ) (r : Request) where
         (λ j h.
         rw (applied-activation r (placesOf p r) row)
         (held-put (placesOf p r) (r .to .address) row j (omega (arith, so .cells (r .procedure) known))))
-        (judge limit p activation r (placesOf p r) row)
+        (judge instancesMost p activation r (placesOf p r) row)
 
     -- "removes every active selected instance"
     pub deactivation-all : AllOrNothing none (handled p t identifier deactivation r)
@@ -115,7 +115,7 @@ module _ (p : Profile) (t : Table) (identifier : ℤ) (r : Request) where
     deactivation-all =
         verdict-all deactivation none (λ e. omega arith)
         (λ j h. rw (applied-deactivation r (placesOf p r) row) (held-clear (placesOf p r) row j))
-        (judge limit p deactivation r (placesOf p r) row)
+        (judge instancesMost p deactivation r (placesOf p r) row)
 
     -- "error 46 exactly if there's none": no selected instance was active
     abbrev pub NoneActive : Type 0
@@ -128,15 +128,15 @@ module _ (p : Profile) (t : Table) (identifier : ℤ) (r : Request) where
       pub none-46 : NoneActive → handled p t identifier deactivation r .answer ≡ Error identifier 46
       unfolding handled
       none-46 silent =
-          rw (none-fails limit p r (placesOf p r) row every
+          rw (none-fails instancesMost p r (placesOf p r) row every
           (active-none (placesOf p r) row (λ j h chosen. silent j h (sym (marked j h) ∙ chosen))))
 
       pub only-46 : handled p t identifier deactivation r .answer ≡ Error identifier 46 → NoneActive
       unfolding handled
       only-46 failed j h chosen =
           none-active (placesOf p r) row
-          (fails-none limit p r (placesOf p r) row every
-          (verdict-46 (judge limit p deactivation r (placesOf p r) row) failed))
+          (fails-none instancesMost p r (placesOf p r) row every
+          (verdict-46 (judge instancesMost p deactivation r (placesOf p r) row) failed))
           j h (marked j h ∙ chosen)
 
     -- "every active selected instance, by profile number, then service code. Each carries the profile's own number."
@@ -147,7 +147,7 @@ module _ (p : Profile) (t : Table) (identifier : ℤ) (r : Request) where
           ≡ map (entryOfPlace p (r .procedure) row) (placesWhere (λ j. pick (selects p r j) (active row j) false) places)
 
     pub interrogation-lists :
-        judge limit p interrogation r (placesOf p r) row ≡ Passes → Lists (handled p t identifier interrogation r)
+        judge instancesMost p interrogation r (placesOf p r) row ≡ Passes → Lists (handled p t identifier interrogation r)
     unfolding handled resultOf
     interrogation-lists passes =
         rw passes (record {

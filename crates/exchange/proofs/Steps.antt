@@ -13,7 +13,7 @@ use Rattle.laws.specs.Pick.{pick}
 use Rattle.profile.specs.declared.profile.Profile.{Profile}
 use Rattle.requests.specs.Request.{interrogation}
 use Rattle.requests.specs.declared.request.Request.{Request}
-use Rattle.lists.specs.Entries.{limit, entriesOf}
+use Rattle.lists.specs.Entries.{instancesMost, entriesOf}
 use Rattle.lists.specs.declared.entries.Entries.{Entries}
 use Rattle.store.specs.Row.{entriesIn}
 use Rattle.store.specs.Grid.{rowAt}
@@ -79,7 +79,7 @@ module _ (p : Profile) (identifier : ℤ) (operation : ℕ) (r : Request) (befor
           ∙ moved-last p identifier t
 
       pub handled-fails :
-          (error : ℕ) → judge limit p operation r w row ≡ Fails error → (list : Entries) → list ≡ entriesOf [] →
+          (error : ℕ) → judge instancesMost p operation r w row ≡ Fails error → (list : Entries) → list ≡ entriesOf [] →
           Handles p before row identifier operation r
           (record { last = last; row = row; answer = Error identifier error; list = list })
       unfolding handled
@@ -87,9 +87,9 @@ module _ (p : Profile) (identifier : ℤ) (operation : ℕ) (r : Request) (befor
           rw (← selects, held, fails)
           (record { next = same-row t begins held known; answer = refl; list = lists })
 
-      module _ (passes : judge limit p operation r w row ≡ Passes) where
+      module _ (passes : judge instancesMost p operation r w row ≡ Passes) where
         pub handled-listed :
-            operation ≡ interrogation → (list : Entries) → list ≡ entriesOf (take limit (entriesIn p (r .procedure) w row)) →
+            operation ≡ interrogation → (list : Entries) → list ≡ entriesOf (take instancesMost (entriesIn p (r .procedure) w row)) →
             Handles p before row identifier operation r
             (record { last = last; row = row; answer = Listing identifier; list = list })
         unfolding handled resultOf

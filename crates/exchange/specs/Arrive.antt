@@ -7,7 +7,7 @@ use lib.Dec.{ltb}
 use Rattle.laws.specs.Pick.{pick}
 use Rattle.laws.specs.Over.{over}
 use Rattle.profile.specs.Access.{accessRead}
-use Rattle.lists.specs.Entries.{limit}
+use Rattle.lists.specs.Entries.{instancesMost}
 use Rattle.answers.specs.Answer.{answerNo, answerValues, answerWhose, answerOctets}
 use Rattle.answers.specs.declared.answer.Whose.{Whose}
 use Rattle.exchange.specs.Table.{tableGood}
@@ -64,7 +64,7 @@ done access t s size =
     pick (ltb size outputLeast) (refused t ShortOutput)
     (pick (ltb componentMost (length s)) (refused t LongComponent)
     (pick (accessRead access .ok)
-    (pick (tableGood limit (accessRead access .profile) t) (answered (step (accessRead access .profile) t s)) (refused t BadTable))
+    (pick (tableGood instancesMost (accessRead access .profile) t) (answered (step (accessRead access .profile) t s)) (refused t BadTable))
     (refused t BadProfile)))
 
 -- what is handed back where a component is refused

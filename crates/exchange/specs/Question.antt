@@ -11,7 +11,7 @@ use Rattle.laws.specs.Got.{Got, got, wrong}
 use Rattle.numbers.specs.Number.{numberOf}
 use Rattle.profile.specs.declared.profile.Profile.{Profile}
 use Rattle.requests.specs.Heard.{heard}
-use Rattle.requests.specs.Request.{activation, deactivation, interrogation, nowhere, individual, requestOf, argumentAt}
+use Rattle.requests.specs.Request.{activation, deactivation, interrogation, noForwarded, individual, requestOf, argumentAt}
 use Rattle.requests.specs.declared.heard.Heard.{Heard}
 use Rattle.requests.specs.declared.heard.Heard.the-variants as heard
 use Rattle.requests.specs.declared.heard.Operation.{Operation}
@@ -41,7 +41,7 @@ says a = record {
   answer = a;
   identifier = pos 0;
   operation = 0;
-  request = requestOf 0 0 nowhere (individual (numberOf 0 0 []));
+  request = requestOf 0 0 noForwarded (individual (numberOf 0 0 []));
 }
 
 abbrev pub rejects : Whose → Problem → Question

@@ -10,7 +10,7 @@ use Rattle.laws.specs.Pick.{pick}
 use Rattle.profile.specs.declared.profile.Profile.{Profile}
 use Rattle.requests.specs.Request.{interrogation}
 use Rattle.requests.specs.declared.request.Request.{Request}
-use Rattle.lists.specs.Entries.{limit, entriesOf}
+use Rattle.lists.specs.Entries.{instancesMost, entriesOf}
 use Rattle.lists.specs.declared.entry.Entry.{Entry}
 use Rattle.store.specs.Row.{entriesIn}
 use Rattle.store.specs.Grid.{rowAt}
@@ -59,7 +59,7 @@ verdictOf p t identifier operation r (Fails error) = stays (moved p identifier t
 
 unfoldable pub handled : Profile → Table → ℤ → ℕ → Request → Step
 handled p t identifier operation r =
-    verdictOf p t identifier operation r (judge limit p operation r (placesOf p r) (rowAt (t .grid) (r .procedure)))
+    verdictOf p t identifier operation r (judge instancesMost p operation r (placesOf p r) (rowAt (t .grid) (r .procedure)))
 
 -- the step of a question: what is not asked for gets its answer, and nothing changes
 unfoldable pub stepOf : Profile → Table → Question → Step
@@ -76,7 +76,7 @@ step p t s = stepOf p t (question p (t .last) s)
 pub record Stepping (t : Table) (procedure : ℕ) (x : Step) (r : Stepped) : Type 0 where
   pub next : withLast (r .last) (withRow procedure (r .row) t) ≡ x .next
   pub answer : r .answer ≡ x .answer
-  pub list : r .list ≡ entriesOf (take limit (x .entries))
+  pub list : r .list ≡ entriesOf (take instancesMost (x .entries))
 
 -- of every table that has this last handled identifier, and this row of the procedure
 abbrev pub Having : ℕ → Row → ℕ → (Table → Type 0) → Type 0

@@ -6,7 +6,7 @@ use lib.ListN.{set}
 use lib.Dec.{leb}
 use Rattle.laws.specs.Pick.{pick}
 use Rattle.profile.specs.declared.profile.Profile.{Profile}
-use Rattle.lists.specs.Entries.{limit}
+use Rattle.lists.specs.Entries.{instancesMost}
 use Rattle.store.specs.Grid.{noGrid, gridGood}
 use Rattle.store.specs.declared.row.Row.{Row}
 use Rattle.exchange.specs.declared.table.Table.{Table}
@@ -18,7 +18,7 @@ lastMost = 32767
 abbrev pub freshTable : Table
 freshTable = record { last = 0; grid = noGrid }
 
--- whether a table breaks no rule, over the limit of instances for each procedure
+-- whether a table breaks no rule, over the instancesMost of instances for each procedure
 unfoldable pub tableGood : ℕ → Profile → Table → Bool
 tableGood most p t = pick (leb (t .last) lastMost) (gridGood most p (t .grid)) false
 
@@ -36,4 +36,4 @@ FreshTable r = r ≡ freshTable
 
 -- what `good` promises
 abbrev pub TableGood : Profile → Table → Bool → Type 0
-TableGood p t r = r ≡ tableGood limit p t
+TableGood p t r = r ≡ tableGood instancesMost p t

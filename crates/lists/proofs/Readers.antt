@@ -10,7 +10,7 @@ use borrow.Author.Tests.{eq-eqb, ne-eqb}
 use Rattle.laws.specs.Got.{Got, got, wrong, andThen}
 use Rattle.laws.proofs.Walks.{store-next}
 use Rattle.lists.specs.Entry.{noEntry, entryAt, entryRead}
-use Rattle.lists.specs.Entries.{limit, before, entriesFrom, entriesRead}
+use Rattle.lists.specs.Entries.{instancesMost, withFirst, entriesFrom, entriesRead}
 use Rattle.lists.specs.declared.entry.Entry.{Entry}
 use Rattle.lists.specs.declared.entry.EntryRead.{EntryRead}
 use Rattle.lists.specs.declared.entries.EntriesRead.{EntriesRead}
@@ -28,7 +28,7 @@ pub entry-none : (g : Got Entry) (r : EntryRead) → r ≡ entryRead g → r .ok
 entry-none (got entry next) r e h = absurd (false≢true (sym h ∙ ap (λ (x : EntryRead). x .ok) e))
 entry-none wrong r e h = refl
 
--- ---- entries that were read, before what is found after them
+-- ---- entries that were read, withFirst what is found after them
 
 abbrev pub beforeAll : List Entry → Got (List Entry) → Got (List Entry)
 beforeAll es (got fs next) = got (es ++ fs) next
@@ -39,7 +39,7 @@ before-none (got fs next) = refl
 before-none wrong = refl
 
 before-one :
-    (es : List Entry) (e : Entry) (g : Got (List Entry)) → beforeAll es (before e g) ≡ beforeAll (es ++ (e ∷ [])) g
+    (es : List Entry) (e : Entry) (g : Got (List Entry)) → beforeAll es (withFirst e g) ≡ beforeAll (es ++ (e ∷ [])) g
 before-one es e (got fs next) = rw (append-assoc es (e ∷ []) fs)
 before-one es e wrong = refl
 
@@ -58,7 +58,7 @@ module _ (s : List ℕ) (end : ℕ) where
   entries-step :
       (left at : ℕ) → (at ≡ end → ⊥) →
       entriesFrom (suc left) s at end
-      ≡ andThen (entryAt s at end) (λ e next. before e (entriesFrom left s next end))
+      ≡ andThen (entryAt s at end) (λ e next. withFirst e (entriesFrom left s next end))
   unfolding entriesFrom
   entries-step left at h = rw (ne-eqb at end h)
 
@@ -98,7 +98,7 @@ module _ (size : ℕ) (s : List ℕ) (at end : ℕ) where
       reached-step :
           entriesFrom size s at end
           ≡ beforeAll (so .read)
-          (andThen (entryAt s here end) (λ e next. before e (entriesFrom (size - (count + 1)) s next end)))
+          (andThen (entryAt s here end) (λ e next. withFirst e (entriesFrom (size - (count + 1)) s next end)))
       reached-step = so .decides ∙ rw (left-one, entries-step s end (size - (count + 1)) here h)
 
       -- no entry stands there
@@ -119,9 +119,9 @@ module _ (size : ℕ) (s : List ℕ) (at end : ℕ) where
 
 -- a reader of at most 8 that has come to the end answers what it has read
 pub reached-answer :
-    (s : List ℕ) (at end count here : ℕ) (entries : List Entry) → Reached limit s at end count here entries → here ≡ end →
+    (s : List ℕ) (at end count here : ℕ) (entries : List Entry) → Reached instancesMost s at end count here entries → here ≡ end →
     _≡_ {A = EntriesRead}
     record { ok = true; list = record { count = count; entries = entries } }
-    (entriesRead (entriesFrom limit s at end))
+    (entriesRead (entriesFrom instancesMost s at end))
 reached-answer s at end count here entries so h =
-    rw (reached-end limit s at end count here entries so h, so .stored, so .counted)
+    rw (reached-end instancesMost s at end count here entries so h, so .stored, so .counted)

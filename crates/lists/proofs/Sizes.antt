@@ -1,4 +1,4 @@
--- How many octets entries and lists take, at most: over the number of entries, and for the limit of document 01.
+-- How many octets entries and lists take, at most: over the number of entries, and for the instancesMost of document 01.
 -- Assumes nothing.
 use Prim.Native.Nat.{ℕ, _+_, _*_, _≤_, _<_}
 use mathlib.Core.Path.{_≡_, refl}
@@ -20,7 +20,7 @@ use Rattle.numbers.specs.Address.{addressGood, addressOctets}
 use Rattle.numbers.proofs.Sizes.{every-number-most, number-most, every-address-most, address-most}
 use Rattle.requests.specs.Request.{interrogation}
 use Rattle.lists.specs.Entry.{fieldsOctets, entryOctets, entryGood}
-use Rattle.lists.specs.Entries.{limit, entrySize, entriesOctets, allGood}
+use Rattle.lists.specs.Entries.{instancesMost, entrySize, entriesOctets, allGood}
 use Rattle.lists.specs.Listed.{sequenceOctets, listOctets}
 use Rattle.lists.specs.declared.entry.Entry.{Entry}
 
@@ -146,9 +146,9 @@ list-most L identifier es range good few =
 
 -- "lent output under 707 octets": every list fits there
 pub list-fits :
-    (identifier : ℤ) (es : List Entry) → mag identifier < 32768 → allGood es ≡ true → length es ≤ limit →
+    (identifier : ℤ) (es : List Entry) → mag identifier < 32768 → allGood es ≡ true → length es ≤ instancesMost →
     length (listOctets identifier es) ≤ 707
-list-fits identifier es range good few = list-most limit identifier es range good few
+list-fits identifier es range good few = list-most instancesMost identifier es range good few
 
 -- a list's component: identifier, and a sequence of operation and entries
 pub list-octets :

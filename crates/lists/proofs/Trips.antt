@@ -12,7 +12,7 @@ use Rattle.laws.specs.Stands.{Stands}
 use Rattle.laws.proofs.Stands.{stands-left, stands-right}
 use Rattle.octets.specs.Element.{element}
 use Rattle.values.specs.Enumerated.{enumeratedOctets}
-use Rattle.octets.proofs.Elements.{Inside, inside}
+use Rattle.octets.proofs.Elements.{Inside, inside-element}
 use Rattle.values.proofs.Enumerateds.{enumerated-back, length-enumerated}
 use Rattle.numbers.specs.Number.{other, tidyNumber, numberOctets}
 use Rattle.numbers.specs.Address.{tidyAddress, addressOctets}
@@ -104,7 +104,7 @@ entry-back e s at end good st fit in-s =
     let number = number-most (e .served) (g .0) in
     let address = address-most (e .address) (g .1) in
     entry-in e s at end good
-    (inside entryDepth s at end 0x30 (fieldsOctets e) (λ z. omega arith) (λ z. omega arith) (omega (arith, fields-size e)) st
+    (inside-element entryDepth s at end 0x30 (fieldsOctets e) (λ z. omega arith) (λ z. omega arith) (omega (arith, fields-size e)) st
     fit in-s)
 
 -- ---- entries

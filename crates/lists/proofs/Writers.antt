@@ -18,7 +18,7 @@ use Rattle.numbers.specs.Number.{PutNumber}
 use Rattle.numbers.specs.Address.{PutAddress}
 use Rattle.requests.specs.Request.{interrogation}
 use Rattle.lists.specs.Entry.{fieldsOctets, entryOctets}
-use Rattle.lists.specs.Entries.{limit, entrySize, entriesOctets}
+use Rattle.lists.specs.Entries.{instancesMost, entrySize, entriesOctets}
 use Rattle.lists.specs.Listed.{sequenceOctets, listOctets}
 use Rattle.lists.specs.declared.entry.Entry.{Entry}
 use Rattle.lists.proofs.Sizes.{octets-none, octets-more}
@@ -57,7 +57,7 @@ octets-last (f ∷ es) e =
 -- A writer of the first `count` of `entries`, at the start of xs, has come to the i-th of them and to the place `at`.
 pub record Written (entries : List Entry) (count : ℕ) (xs : List ℕ) (i at : ℕ) (ys : List ℕ) : Type 0 where
   pub counted : i ≤ count
-  pub few : i ≤ limit
+  pub few : i ≤ instancesMost
   pub within : at ≤ entrySize * i
   pub holds : Wrote xs 0 (entriesOctets (take i entries)) at ys
 
@@ -67,13 +67,13 @@ module _ (entries : List Entry) (count : ℕ) (xs : List ℕ) where
 
   module _ {i at : ℕ} {ys : List ℕ} (so : Written entries count xs i at ys) where
     -- there is room for one more
-    pub written-room : i < limit → entrySize * limit ≤ length xs → at + entrySize ≤ length ys
+    pub written-room : i < instancesMost → entrySize * instancesMost ≤ length xs → at + entrySize ≤ length ys
     written-room more fits =
         omega (arith, so .within, ap length (so .holds .holds), length-over xs 0 (entriesOctets (take i entries)))
 
     -- it is written after them
     pub written-next :
-        (d : Entry) {next : ℕ} {zs : List ℕ} → length entries ≡ limit → i < limit → i < count →
+        (d : Entry) {next : ℕ} {zs : List ℕ} → length entries ≡ instancesMost → i < instancesMost → i < count →
         Wrote ys at (entryOctets (getD entries i d)) next zs →
         next ≤ at + entrySize →
         Written entries count xs (i + 1) next zs
@@ -95,13 +95,13 @@ module _ (entries : List Entry) (count : ℕ) (xs : List ℕ) where
     written-counted h = let same : i ≡ count = omega (arith, so .counted) in rw same at (so .holds)
 
     -- or all that there are
-    pub written-all : length entries ≡ limit → limit ≤ i → Wrote xs 0 (entriesOctets (take count entries)) at ys
+    pub written-all : length entries ≡ instancesMost → instancesMost ≤ i → Wrote xs 0 (entriesOctets (take count entries)) at ys
     written-all long h =
         let same : take i entries ≡ take count entries =
         take-all i entries (omega arith) ∙ sym (take-all count entries (omega (arith, so .counted))) in
         rw same at (so .holds)
 
-    pub written-most : at ≤ entrySize * limit
+    pub written-most : at ≤ entrySize * instancesMost
     written-most = omega (arith, so .within, so .few)
 
 -- ---- the component

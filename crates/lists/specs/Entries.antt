@@ -13,8 +13,8 @@ use Rattle.lists.specs.declared.entries.Entries.{Entries}
 use Rattle.lists.specs.declared.entries.EntriesRead.{EntriesRead}
 
 -- the most instances of a procedure, and so the most entries of a list
-abbrev pub limit : ℕ
-limit = 8
+abbrev pub instancesMost : ℕ
+instancesMost = 8
 
 -- the most octets of an entry
 abbrev pub entrySize : ℕ
@@ -26,7 +26,7 @@ listed list = take (list .count) (list .entries)
 
 -- the record of at most 8 entries
 abbrev pub entriesOf : List Entry → Entries
-entriesOf es = record { count = length es; entries = es ++ replicate (limit - length es) noEntry }
+entriesOf es = record { count = length es; entries = es ++ replicate (instancesMost - length es) noEntry }
 
 -- one after the other
 unfoldable pub entriesOctets : List Entry → List ℕ
@@ -42,16 +42,16 @@ tidyEntries [] = []
 tidyEntries (e ∷ es) = tidyEntry e ∷ tidyEntries es
 
 -- one entry, and then others
-abbrev pub before : Entry → Got (List Entry) → Got (List Entry)
-before e (got es next) = got (e ∷ es) next
-before e wrong = wrong
+abbrev pub withFirst : Entry → Got (List Entry) → Got (List Entry)
+withFirst e (got es next) = got (e ∷ es) next
+withFirst e wrong = wrong
 
 -- at most `left` entries from `at` on, up to `end` and nothing else: one more is seen, and then it is no list
 unfoldable pub entriesFrom : ℕ → List ℕ → ℕ → ℕ → Got (List Entry)
 entriesFrom zero s at end = pick (eqb at end) (got [] end) wrong
 entriesFrom (suc left) s at end =
     pick (eqb at end) (got [] end)
-    (andThen (entryAt s at end) (λ e next. before e (entriesFrom left s next end)))
+    (andThen (entryAt s at end) (λ e next. withFirst e (entriesFrom left s next end)))
 
 -- what a reader answers
 abbrev pub entriesRead : Got (List Entry) → EntriesRead
@@ -60,7 +60,7 @@ entriesRead wrong = record { ok = false; list = entriesOf [] }
 
 -- what `entries_at` promises
 abbrev pub EntriesAt : List ℕ → ℕ → ℕ → EntriesRead → Type 0
-EntriesAt s at end r = r ≡ entriesRead (entriesFrom limit s at end)
+EntriesAt s at end r = r ≡ entriesRead (entriesFrom instancesMost s at end)
 
 -- what `no_entries` promises
 abbrev pub NoEntries : Entries → Type 0

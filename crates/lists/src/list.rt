@@ -17,7 +17,7 @@ ghost use Prim.Native.Nat.{_+_, _*_, _≤_};
 ghost use lib.ListN.{length};
 ghost use Rattle.laws.specs.Over.{Wrote};
 ghost use Rattle.lists.specs.Entry.{entryOctets};
-ghost use Rattle.lists.specs.Entries.{limit, entrySize, listed, entriesOctets};
+ghost use Rattle.lists.specs.Entries.{instancesMost, entrySize, listed, entriesOctets};
 ghost use Rattle.lists.specs.Listed.{PutList};
 
 // The most octets of an entry, and of the entries of a list.
@@ -43,8 +43,8 @@ fn write_entry(out: &mut [u8], at: usize, e: Entry) -> usize
 }
 
 fn write_entries(out: &mut [u8], list: Entries) -> usize
-    requires { ⌜ entrySize * limit ≤ length (now out) ⌝ }
-    ensures { λ r. ⌜ Wrote (now (out .entry)) 0 (entriesOctets (listed list)) r (now (out .exit)) × (r ≤ entrySize * limit) ⌝ }
+    requires { ⌜ entrySize * instancesMost ≤ length (now out) ⌝ }
+    ensures { λ r. ⌜ Wrote (now (out .entry)) 0 (entriesOctets (listed list)) r (now (out .exit)) × (r ≤ entrySize * instancesMost) ⌝ }
 {
     let count = list.count as usize;
     let entries = list.entries;

@@ -11,7 +11,7 @@ use borrow.Author.Tests.{eq-eqb, lt-ltb, eqb-true, eqb-false, ltb-true}
 use Rattle.laws.specs.Pick.{pick}
 use Rattle.laws.proofs.Picks.{pick-then}
 use Rattle.codes.specs.Codes.{placeOf}
-use Rattle.profile.specs.Profile.{servicesMost, offered, profileGood}
+use Rattle.profile.specs.Profile.{servicesMost, subscribedServices, profileGood}
 use Rattle.profile.specs.declared.profile.Profile.{Profile}
 use Rattle.profile.proofs.Profiles.{good-profile}
 use Rattle.store.specs.Row.{places, numberOfPlace, serviceOfPlace, cellOf, noCell, outside, cellAt, active}
@@ -21,7 +21,7 @@ use Rattle.store.specs.declared.grid.Grid.{Grid}
 use Rattle.store.proofs.Turns.{not-active}
 use Rattle.forms.specs.declared.instance.Instance.{Instance}
 use Rattle.sheet.proofs.Parts.{by-test}
-use Rattle.nightly.specs.Record.{inProfile, allIn, placeIn, placed}
+use Rattle.nightly.specs.Record.{inProfile, allIn, placeOfInstance, placed}
 
 -- ---- instances of a profile
 
@@ -30,20 +30,20 @@ pub record Fitting (p : Profile) (i : Instance) : Type 0 where
   pub procedure : i .procedure < procedures
   pub subscribed : getD (p .subscribed) (i .procedure) 0 ≡ 1
   pub number : i .number < p .numbercount
-  pub slot : placeOf (i .service) (offered p) < p .servicecount
+  pub slot : placeOf (i .service) (subscribedServices p) < p .servicecount
 
 module _ (p : Profile) (i : Instance) where
   pub fitting : i .procedure < procedures → inProfile p i ≡ true → Fitting p i
   unfolding inProfile
   fitting inside h =
-      let slot : Bool = ltb (placeOf (i .service) (offered p)) (p .servicecount) in
+      let slot : Bool = ltb (placeOf (i .service) (subscribedServices p)) (p .servicecount) in
       let a = pick-then (eqb (getD (p .subscribed) (i .procedure) 0) 1) (pick (ltb (i .number) (p .numbercount)) slot false) h in
       let b = pick-then (ltb (i .number) (p .numbercount)) slot (a .1) in
       record {
         procedure = inside;
         subscribed = eqb-true (getD (p .subscribed) (i .procedure) 0) 1 (a .0);
         number = ltb-true (i .number) (p .numbercount) (b .0);
-        slot = ltb-true (placeOf (i .service) (offered p)) (p .servicecount) (b .1);
+        slot = ltb-true (placeOf (i .service) (subscribedServices p)) (p .servicecount) (b .1);
       }
 
   pub fitting-in : Fitting p i → inProfile p i ≡ true
@@ -58,20 +58,20 @@ all-parts p i is h = pick-then (inProfile p i) (allIn p is) h
 
 -- a good profile has few numbers and services
 module _ (p : Profile) (profile : profileGood p ≡ true) (i : Instance) (fits : Fitting p i) where
-  pub few-services : placeOf (i .service) (offered p) < servicesMost
+  pub few-services : placeOf (i .service) (subscribedServices p) < servicesMost
   few-services = omega (arith, fits .slot, good-profile p profile .services-few)
 
   pub few-numbers : i .number < 4
   few-numbers = omega (arith, fits .number, good-profile p profile .few)
 
   -- the number and the service of its place are its own
-  pub place-inside : placeIn p i < places
+  pub place-inside : placeOfInstance p i < places
   place-inside = omega (arith, few-services, few-numbers)
 
-  pub place-number : numberOfPlace (placeIn p i) ≡ i .number
+  pub place-number : numberOfPlace (placeOfInstance p i) ≡ i .number
   place-number = omega (arith, few-services)
 
-  pub place-slot : serviceOfPlace (placeIn p i) ≡ placeOf (i .service) (offered p)
+  pub place-slot : serviceOfPlace (placeOfInstance p i) ≡ placeOf (i .service) (subscribedServices p)
   place-slot = omega (arith, few-services)
 
 -- ---- grids
@@ -95,12 +95,12 @@ none-active k j h lt =
 
 -- one instance more
 module _ (p : Profile) (grid : Grid) (shaped : Shaped grid) (i : Instance) (inside : i .procedure < procedures)
-    (room : placeIn p i < places) where
+    (room : placeOfInstance p i < places) where
   abbrev row : Row
   row = rowAt grid (i .procedure)
 
   abbrev changed : Row
-  changed = record { cells = set (row .cells) (placeIn p i) (cellOf (i .service) (i .address)) }
+  changed = record { cells = set (row .cells) (placeOfInstance p i) (cellOf (i .service) (i .address)) }
 
   row-here : rowAt (placed p grid i) (i .procedure) ≡ changed
   unfolding placed
@@ -119,26 +119,26 @@ module _ (p : Profile) (grid : Grid) (shaped : Shaped grid) (i : Instance) (insi
         let here = eqb-true k (i .procedure) e in
         ap (λ (n : ℕ). length (rowAt (placed p grid i) n .cells)) here
         ∙ ap (λ (r : Row). length (r .cells)) row-here
-        ∙ length-set (row .cells) (placeIn p i) (cellOf (i .service) (i .address))
+        ∙ length-set (row .cells) (placeOfInstance p i) (cellOf (i .service) (i .address))
         ∙ shaped .cells (i .procedure) inside)
         (λ e. ap (λ (r : Row). length (r .cells)) (row-else k (eqb-false k (i .procedure) e)) ∙ shaped .cells k h);
   }
 
   -- its cell, and the others
-  pub cell-here : cellAt (rowAt (placed p grid i) (i .procedure)) (placeIn p i) ≡ cellOf (i .service) (i .address)
+  pub cell-here : cellAt (rowAt (placed p grid i) (i .procedure)) (placeOfInstance p i) ≡ cellOf (i .service) (i .address)
   cell-here =
-      ap (λ (r : Row). cellAt r (placeIn p i)) row-here
-      ∙ getD-set-same (row .cells) (placeIn p i) (cellOf (i .service) (i .address)) outside
+      ap (λ (r : Row). cellAt r (placeOfInstance p i)) row-here
+      ∙ getD-set-same (row .cells) (placeOfInstance p i) (cellOf (i .service) (i .address)) outside
       (omega (arith, room, shaped .cells (i .procedure) inside))
 
   pub cell-else :
-      (k j : ℕ) → (k ≡ i .procedure → j ≡ placeIn p i → ⊥) → cellAt (rowAt (placed p grid i) k) j ≡ cellAt (rowAt grid k) j
+      (k j : ℕ) → (k ≡ i .procedure → j ≡ placeOfInstance p i → ⊥) → cellAt (rowAt (placed p grid i) k) j ≡ cellAt (rowAt grid k) j
   cell-else k j other =
       by-test (eqb k (i .procedure))
       (λ e.
       let here = eqb-true k (i .procedure) e in
       ap (λ (n : ℕ). cellAt (rowAt (placed p grid i) n) j) here
       ∙ ap (λ (r : Row). cellAt r j) row-here
-      ∙ getD-set-other (row .cells) (placeIn p i) j (cellOf (i .service) (i .address)) outside (other here)
+      ∙ getD-set-other (row .cells) (placeOfInstance p i) j (cellOf (i .service) (i .address)) outside (other here)
       ∙ ap (λ (n : ℕ). cellAt (rowAt grid n) j) (sym here))
       (λ e. ap (λ (r : Row). cellAt r j) (row-else k (eqb-false k (i .procedure) e)))

@@ -13,7 +13,7 @@ use Rattle.laws.specs.Places.{gathered}
 use Rattle.laws.proofs.Picks.{pick-ind, pick-else}
 use Rattle.laws.proofs.Walks.{gathered-more, gathered-ind}
 use Rattle.laws.proofs.Chosen.{gathered-same}
-use Rattle.profile.specs.Profile.{servicesMost, offered, profileGood}
+use Rattle.profile.specs.Profile.{servicesMost, subscribedServices, profileGood}
 use Rattle.profile.specs.declared.profile.Profile.{Profile}
 use Rattle.profile.proofs.Profiles.{good-profile}
 use Rattle.profile.proofs.Rising.{rising-order}
@@ -25,10 +25,10 @@ use Rattle.forms.specs.Order.{before}
 use Rattle.forms.specs.declared.instance.Instance.{Instance}
 use Rattle.forms.proofs.Orders.{before-earlier}
 use Rattle.sheet.proofs.Parts.{by-test}
-use Rattle.sheet.proofs.Trips.{Fits}
+use Rattle.sheet.proofs.Trips.{FieldsFit}
 use Rattle.sheet.proofs.SheetTrips.{Ascends, AllFit}
 use Rattle.nightly.specs.Instances.{instancesOf}
-use Rattle.nightly.specs.Record.{allIn, placeIn, placed, allPlaced}
+use Rattle.nightly.specs.Record.{allIn, placeOfInstance, placed, allPlaced}
 use Rattle.nightly.specs.Write.{cellInstances, placeInstances}
 use Rattle.nightly.proofs.InstanceWriters.{place-same}
 use Rattle.nightly.proofs.WrittenTables.{rowOf, rows-all}
@@ -73,7 +73,7 @@ gathered-nothing f n h = gathered-ind (λ xs. xs ≡ []) refl (λ xs ys a b. rw 
 -- ---- places in the order of procedures
 
 abbrev rank : Profile → Instance → ℕ
-rank p i = places * i .procedure + placeIn p i
+rank p i = places * i .procedure + placeOfInstance p i
 
 -- every instance that is active stands before a place
 abbrev Behind : Grid → ℕ → Type 0
@@ -101,7 +101,7 @@ module _ (p : Profile) (profile : profileGood p ≡ true) (grid : Grid) (shaped 
   k = i .procedure
 
   abbrev m : ℕ
-  m = placeIn p i
+  m = placeOfInstance p i
 
   abbrev more : Grid
   more = placed p grid i
@@ -186,7 +186,7 @@ module _ (p : Profile) (profile : profileGood p ≡ true) where
     rank-order : (i k : Instance) → Fitting p i → Fitting p k → before i k ≡ true → rank p i < rank p k
     rank-order i k a b first =
         let so = good-profile p profile in
-        let count : length (offered p) ≡ p .servicecount =
+        let count : length (subscribedServices p) ≡ p .servicecount =
         omega (arith, long, so .services-few, length-take (p .servicecount) (p .services)) in
         let one = few-services p profile i a in
         let two = few-services p profile k b in
@@ -198,13 +198,13 @@ module _ (p : Profile) (profile : profileGood p ≡ true) where
         (λ (lt : i .number < k .number). omega (arith, one, same .0, lt))
         (λ rest.
         let slots =
-        rising-order 0 (offered p) (i .service) (k .service) (so .rises) (omega (arith, count, a .slot))
+        rising-order 0 (subscribedServices p) (i .service) (k .service) (so .rises) (omega (arith, count, a .slot))
         (omega (arith, count, b .slot)) (rest .1) in
         omega (arith, same .0, rest .0, slots))
         (same .1))
         (before-earlier i k first)
 
-    service-some : (i : Instance) → Fits i → i .service ≡ 0 → ⊥
+    service-some : (i : Instance) → FieldsFit i → i .service ≡ 0 → ⊥
     service-some i fits e =
         eqb-false (i .service) 0 (pick-else (eqb (i .service) 0) _ (fits .service) .0) e
 

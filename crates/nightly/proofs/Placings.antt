@@ -11,7 +11,7 @@ use borrow.Author.Tests.{ltb-true}
 use Rattle.laws.specs.Pick.{pick}
 use Rattle.laws.proofs.Picks.{pick-then}
 use Rattle.codes.specs.Codes.{placeOf}
-use Rattle.profile.specs.Profile.{offered}
+use Rattle.profile.specs.Profile.{subscribedServices}
 use Rattle.profile.specs.declared.profile.Profile.{Profile}
 use Rattle.store.specs.Grid.{noGrid}
 use Rattle.store.specs.declared.grid.Grid.{Grid}
@@ -29,12 +29,12 @@ use Rattle.sheet.proofs.Walks.{Left, left-first, left-none, left-bounded, left-
 -- ---- instances in a profile
 
 -- all that is asked of one: its service has a slot
-pub in-slot : (p : Profile) (i : Instance) → inProfile p i ≡ true → placeOf (i .service) (offered p) < p .servicecount
+pub in-slot : (p : Profile) (i : Instance) → inProfile p i ≡ true → placeOf (i .service) (subscribedServices p) < p .servicecount
 unfolding inProfile
 in-slot p i h =
-    let slot : Bool = ltb (placeOf (i .service) (offered p)) (p .servicecount) in
+    let slot : Bool = ltb (placeOf (i .service) (subscribedServices p)) (p .servicecount) in
     let q = pick-then (eqb (getD (p .subscribed) (i .procedure) 0) 1) (pick (ltb (i .number) (p .numbercount)) slot false) h in
-    ltb-true (placeOf (i .service) (offered p)) (p .servicecount)
+    ltb-true (placeOf (i .service) (subscribedServices p)) (p .servicecount)
     (pick-then (ltb (i .number) (p .numbercount)) slot (q .1) .1)
 
 module _ (p : Profile) where

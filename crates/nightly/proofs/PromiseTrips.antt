@@ -11,7 +11,7 @@ use Rattle.laws.specs.Over.{over}
 use Rattle.laws.proofs.Over.{take-over}
 use Rattle.profile.specs.Access.{accessRead}
 use Rattle.profile.proofs.Records.{access-good, access-services}
-use Rattle.lists.specs.Entries.{limit}
+use Rattle.lists.specs.Entries.{instancesMost}
 use Rattle.exchange.specs.Table.{tableGood}
 use Rattle.exchange.specs.declared.table.Table.{Table}
 use Rattle.forms.specs.Form.{form1}
@@ -23,34 +23,34 @@ use Rattle.sheet.specs.declared.record.Written.{Written}
 use Rattle.sheet.proofs.Parts.{by-test}
 use Rattle.sheet.proofs.Outcomes.{outcome-same}
 use Rattle.nightly.specs.Instances.{instancesOf}
-use Rattle.nightly.specs.Record.{Wrote, wroteSheet, WritesSheet, readSheet, ReadsSheet}
+use Rattle.nightly.specs.Record.{SheetMade, wroteSheet, WritesSheet, readSheet, ReadsSheet}
 use Rattle.nightly.specs.declared.table.SheetRead.{SheetRead}
 use Rattle.nightly.proofs.WrittenTables.{sheet-fits}
 use Rattle.nightly.proofs.WrittenSheets.{writes-short, writes-profile, writes-table, writes-sheet}
 use Rattle.nightly.proofs.WrittenInstances.{Arrays}
 use Rattle.nightly.proofs.ReadTables.{read-ok, accepted-table, read-good}
-use Rattle.nightly.proofs.TableTrips.{Alike, ReadsAs, table-back}
+use Rattle.nightly.proofs.TableTrips.{SameInstances, ReadsAs, table-back}
 
 -- a table that is written: there was room, and neither the profile nor the table was refused
 module _ (access : List ℕ) (t : Table) (size : ℕ) (done : wroteSheet access t size .number ≡ 0) where
   written-room : sheetMost form1 ≤ size
   written-room =
       by-test (ltb size (sheetMost form1))
-      (λ e. absurd (omega (arith, done, ap (λ (w : Wrote). w .number) (writes-short access t size (ltb-true size (sheetMost form1) e)))))
+      (λ e. absurd (omega (arith, done, ap (λ (w : SheetMade). w .number) (writes-short access t size (ltb-true size (sheetMost form1) e)))))
       (λ e. ltb-false size (sheetMost form1) e)
 
   written-ok : accessRead access .ok ≡ true
   written-ok =
       by-test (accessRead access .ok) (λ e. e)
-      (λ e. absurd (omega (arith, done, ap (λ (w : Wrote). w .number) (writes-profile access t size written-room e))))
+      (λ e. absurd (omega (arith, done, ap (λ (w : SheetMade). w .number) (writes-profile access t size written-room e))))
 
-  written-good : tableGood limit (accessRead access .profile) t ≡ true
+  written-good : tableGood instancesMost (accessRead access .profile) t ≡ true
   written-good =
-      by-test (tableGood limit (accessRead access .profile) t) (λ e. e)
-      (λ e. absurd (omega (arith, done, ap (λ (w : Wrote). w .number) (writes-table access t size written-room written-ok e))))
+      by-test (tableGood instancesMost (accessRead access .profile) t) (λ e. e)
+      (λ e. absurd (omega (arith, done, ap (λ (w : SheetMade). w .number) (writes-table access t size written-room written-ok e))))
 
   written-octets : wroteSheet access t size .octets ≡ sheetOctets form1 (t .last) (instancesOf (t .grid))
-  written-octets = ap (λ (w : Wrote). w .octets) (writes-sheet access t size written-room written-ok written-good)
+  written-octets = ap (λ (w : SheetMade). w .octets) (writes-sheet access t size written-room written-ok written-good)
 
 -- what `write_sheet` wrote, `read_sheet` reads back as a table that holds the same
 module _ (access : List ℕ) (t : Table) (arrays : Arrays t) (xs : List ℕ) (w : Written) (ys : List ℕ)
@@ -81,7 +81,7 @@ module _ (access : List ℕ) (t : Table) (arrays : Arrays t) (xs : List ℕ) (w 
   back =
       table-back access t (written-ok access t (length xs) number) (written-good access t (length xs) number) arrays
 
-  pub written-back : (r : SheetRead) → ReadsSheet access (take (w .count) ys) r → (r .outcome ≡ Done) × Alike t (r .table)
+  pub written-back : (r : SheetRead) → ReadsSheet access (take (w .count) ys) r → (r .outcome ≡ Done) × SameInstances t (r .table)
   written-back r read =
       let same : readSheet access (take (w .count) ys) ≡ readSheet access s = ap (readSheet access) sheet-is in (
         outcome-same (r .outcome) Done (read .outcome ∙ ap (λ q. q .number) same ∙ back .accepted),
@@ -97,8 +97,8 @@ accepted-again access s small r read done xs room w ys wrote =
     let number : readSheet access s .number ≡ 0 = sym (read .outcome) ∙ ap outcomeNo done in
     let is = writes-sheet access (r .table) (length xs) room (read-ok access s number) (rw (read .table) (read-good access s number)) in
     let octets : wroteSheet access (r .table) (length xs) .octets ≡ s =
-    ap (λ (x : Wrote). x .octets) is ∙ rw (read .table) (sym (accepted-table access s number small)) in (
-      outcome-same (w .outcome) Done (wrote .outcome ∙ ap (λ (x : Wrote). x .number) is),
+    ap (λ (x : SheetMade). x .octets) is ∙ rw (read .table) (sym (accepted-table access s number small)) in (
+      outcome-same (w .outcome) Done (wrote .outcome ∙ ap (λ (x : SheetMade). x .number) is),
       wrote .count ∙ ap length octets,
       wrote .lent ∙ ap (over xs 0) octets,
     )

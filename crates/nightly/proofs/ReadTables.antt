@@ -14,11 +14,11 @@ use Rattle.codes.specs.Codes.{placeOf}
 use Rattle.numbers.specs.Address.{addressGood}
 use Rattle.codes.proofs.Tables.{place-stands}
 use Rattle.profile.specs.Access.{accessRead}
-use Rattle.profile.specs.Profile.{servicesMost, offered, profileGood}
+use Rattle.profile.specs.Profile.{servicesMost, subscribedServices, profileGood}
 use Rattle.profile.specs.declared.profile.Profile.{Profile}
 use Rattle.profile.proofs.Profiles.{good-profile}
 use Rattle.profile.proofs.Records.{access-good, access-services}
-use Rattle.lists.specs.Entries.{limit}
+use Rattle.lists.specs.Entries.{instancesMost}
 use Rattle.store.specs.Row.{places, cellOf, cellAt, cellGood}
 use Rattle.store.specs.Grid.{procedures, noGrid, rowAt}
 use Rattle.store.specs.declared.grid.Grid.{Grid}
@@ -36,7 +36,7 @@ use Rattle.sheet.proofs.SheetTrips.{AllFit, countOf}
 use Rattle.sheet.proofs.Accepted.{sheet-only}
 use Rattle.sheet.proofs.AcceptedSheets.{Allowed, sheet-allowed}
 use Rattle.nightly.specs.Instances.{instancesOf}
-use Rattle.nightly.specs.Record.{allIn, placeIn, placed, allPlaced, tableFrom, readSheet}
+use Rattle.nightly.specs.Record.{allIn, placeOfInstance, placed, allPlaced, tableFrom, readSheet}
 use Rattle.nightly.proofs.InstanceCounts.{procedure-count}
 use Rattle.nightly.proofs.PlacedCells.{Fitting, fitting, all-parts, place-inside, place-number, place-slot, Shaped, shaped-none, none-active, placed-shaped, cell-here, cell-else}
 use Rattle.nightly.proofs.PlacedOrder.{placed-instances}
@@ -50,16 +50,16 @@ module _ (p : Profile) (profile : profileGood p ≡ true) (long : length (p .ser
   -- an instance of the profile in the cell of its place
   cell-fits :
       (i : Instance) → Fitting p i → addressGood (i .address) ≡ true →
-      cellGood p (i .procedure) (placeIn p i) (cellOf (i .service) (i .address)) ≡ true
+      cellGood p (i .procedure) (placeOfInstance p i) (cellOf (i .service) (i .address)) ≡ true
   cell-fits i fits good =
-      let slot : ℕ = placeOf (i .service) (offered p) in
-      let count : length (offered p) ≡ p .servicecount =
+      let slot : ℕ = placeOf (i .service) (subscribedServices p) in
+      let count : length (subscribedServices p) ≡ p .servicecount =
       omega (arith, long, good-profile p profile .services-few, length-take (p .servicecount) (p .services)) in
       let here = place-slot p profile i fits in
-      cell-good p (i .procedure) (placeIn p i) (i .service) (i .address) (fits .subscribed)
+      cell-good p (i .procedure) (placeOfInstance p i) (i .service) (i .address) (fits .subscribed)
       (omega (arith, place-number p profile i fits, fits .number))
       (omega (arith, here, fits .slot))
-      (sym (place-stands (i .service) (offered p) (omega (arith, count, fits .slot)))
+      (sym (place-stands (i .service) (subscribedServices p) (omega (arith, count, fits .slot)))
       ∙ getD-take (p .servicecount) (p .services) slot 0 (fits .slot)
       ∙ ap (λ (n : ℕ). getD (p .services) n 0) (sym here))
       good
@@ -70,15 +70,15 @@ module _ (p : Profile) (profile : profileGood p ≡ true) (long : length (p .ser
   cells-more grid shaped cells i fits good k j h lt =
       let inside = fits .procedure in
       let room = place-inside p profile i fits in
-      let kept : (k ≡ i .procedure → j ≡ placeIn p i → ⊥) → cellGood p k j (cellAt (rowAt (placed p grid i) k) j) ≡ true =
+      let kept : (k ≡ i .procedure → j ≡ placeOfInstance p i → ⊥) → cellGood p k j (cellAt (rowAt (placed p grid i) k) j) ≡ true =
       λ other. ap (cellGood p k j) (cell-else p grid shaped i inside room k j other) ∙ cells k j h lt in
       by-test (eqb k (i .procedure))
       (λ e.
-      by-test (eqb j (placeIn p i))
+      by-test (eqb j (placeOfInstance p i))
       (λ f.
-      rw (eqb-true k (i .procedure) e, eqb-true j (placeIn p i) f)
-      (ap (cellGood p (i .procedure) (placeIn p i)) (cell-here p grid shaped i inside room) ∙ cell-fits i fits good))
-      (λ f. kept (λ _. eqb-false j (placeIn p i) f)))
+      rw (eqb-true k (i .procedure) e, eqb-true j (placeOfInstance p i) f)
+      (ap (cellGood p (i .procedure) (placeOfInstance p i)) (cell-here p grid shaped i inside room) ∙ cell-fits i fits good))
+      (λ f. kept (λ _. eqb-false j (placeOfInstance p i) f)))
       (λ e. kept (λ same _. eqb-false k (i .procedure) e same))
 
   cells-all :
@@ -151,16 +151,16 @@ module _ (access s : List ℕ) (accepted : readSheet access s .number ≡ 0) whe
       ∙ ap (sheetOctets form1 (readSheet access s .table .last)) (sym instances-are)
 
   -- and the table breaks no rule
-  pub read-good : tableGood limit (accessRead access .profile) (readSheet access s .table) ≡ true
+  pub read-good : tableGood instancesMost (accessRead access .profile) (readSheet access s .table) ≡ true
   read-good =
       let t : Table = readSheet access s .table in
       let cells : GoodCells p (t .grid) =
       rw table-is
       (cells-all p (access-good access read-ok) (access-services access) (was .sheet .instances) noGrid shaped-none
       (λ k j h lt. good-none p k (rowAt noGrid k) j (none-active k j h lt)) (allowed .1 .each) (was .all)) in
-      table-grid limit p t (rw table-is (allowed .0))
-      ∙ grid-rows limit p (t .grid) (λ k h.
-      good-row limit p k (rowAt (t .grid) k) (λ j lt. cells k j h lt)
+      table-grid instancesMost p t (rw table-is (allowed .0))
+      ∙ grid-rows instancesMost p (t .grid) (λ k h.
+      good-row instancesMost p k (rowAt (t .grid) k) (λ j lt. cells k j h lt)
       (omega (arith, procedure-count (t .grid) k h, ap (countOf k) instances-are, allowed .1 .few k)))
 
 -- two accepted sheets of one access that give the same table are the same octets

@@ -20,7 +20,7 @@ use Rattle.profile.specs.Access.{accessRead}
 use Rattle.profile.specs.Profile.{servicesMost, profileGood}
 use Rattle.profile.specs.declared.profile.Profile.{Profile}
 use Rattle.profile.proofs.Records.{access-good, access-services}
-use Rattle.lists.specs.Entries.{limit}
+use Rattle.lists.specs.Entries.{instancesMost}
 use Rattle.store.specs.Row.{places, cellAt, active, held}
 use Rattle.store.specs.Grid.{procedures, noGrid, rowAt}
 use Rattle.store.specs.declared.row.Cell.{Cell}
@@ -38,7 +38,7 @@ use Rattle.sheet.proofs.Parts.{by-test}
 use Rattle.sheet.proofs.Trips.{tidyInstance, tidy-twice}
 use Rattle.sheet.proofs.SheetTrips.{sheet-back}
 use Rattle.nightly.specs.Instances.{instanceOf, instancesOf}
-use Rattle.nightly.specs.Record.{Read, placeIn, placed, allPlaced, readSheet}
+use Rattle.nightly.specs.Record.{TableRead, placeOfInstance, placed, allPlaced, readSheet}
 use Rattle.nightly.specs.Write.{placeInstances}
 use Rattle.nightly.proofs.WrittenTables.{rowOf, rows-all}
 use Rattle.nightly.proofs.WrittenInstances.{Arrays, one-place, table-sheeted, table-all}
@@ -110,7 +110,7 @@ copied-step t k j h lt grid more so shaped here others = record {
       ∙ ap (λ b. pick b (held (rowAt (t .grid) l) m) none) (below-next (places * l + m) (places * k + j) apart));
 }
 
-module _ (p : Profile) (t : Table) (good : tableGood limit p t ≡ true) (profile : profileGood p ≡ true)
+module _ (p : Profile) (t : Table) (good : tableGood instancesMost p t ≡ true) (profile : profileGood p ≡ true)
     (long : length (p .services) ≡ servicesMost) where
   -- an instance of the table is placed where it is there
   module _ (k j : ℕ) (h : k < procedures) (lt : j < places) (grid : Grid) (so : Copied t (places * k + j) grid) where
@@ -124,10 +124,10 @@ module _ (p : Profile) (t : Table) (good : tableGood limit p t ≡ true) (profil
       abbrev more : Grid
       more = placed p grid one
 
-      its : placeIn p one ≡ j
+      its : placeOfInstance p one ≡ j
       its = one-place p t good profile long k j h lt there
 
-      room : placeIn p one < places
+      room : placeOfInstance p one < places
       room = omega (arith, its, lt)
 
       its-cell : cellAt (rowAt more k) j ≡ record { service = one .service; address = one .address }
@@ -188,18 +188,18 @@ module _ (p : Profile) (t : Table) (good : tableGood limit p t ≡ true) (profil
 -- ---- tables that hold the same
 
 -- at every place of every procedure, with the same last handled identifier
-pub record Alike (t u : Table) : Type 0 where
+pub record SameInstances (t u : Table) : Type 0 where
   pub last : u .last ≡ t .last
   pub holds : (k j : ℕ) → k < procedures → j < places → held (rowAt (u .grid) k) j ≡ held (rowAt (t .grid) k) j
 
 -- a sheet that is read as a table like t
 pub record ReadsAs (access s : List ℕ) (t : Table) : Type 0 where
   pub accepted : readSheet access s .number ≡ 0
-  pub alike : Alike t (readSheet access s .table)
+  pub alike : SameInstances t (readSheet access s .table)
 
 -- the octets of a table that breaks no rule are read as that table
 pub table-back :
-    (access : List ℕ) (t : Table) → accessRead access .ok ≡ true → tableGood limit (accessRead access .profile) t ≡ true →
+    (access : List ℕ) (t : Table) → accessRead access .ok ≡ true → tableGood instancesMost (accessRead access .profile) t ≡ true →
     Arrays t →
     ReadsAs access (sheetOctets form1 (t .last) (instancesOf (t .grid))) t
 unfolding readSheet
@@ -209,14 +209,14 @@ table-back access t ok good arrays =
     let long = access-services access in
     let s : List ℕ = sheetOctets form1 (t .last) (instancesOf (t .grid)) in
     let found =
-    sheet-back (t .last) (instancesOf (t .grid)) s (table-good limit p t good .0) (table-sheeted p t good profile long arrays)
+    sheet-back (t .last) (instancesOf (t .grid)) s (table-good instancesMost p t good .0) (table-sheeted p t good profile long arrays)
     (stands-whole s) refl in
     let again : Table = record { last = t .last; grid = allPlaced p noGrid (map tidyInstance (instancesOf (t .grid))) } in
     let is : readSheet access s ≡ record { number = 0; table = again } = rw (ok, found, table-all p t good profile long) in
     record {
-      accepted = ap (λ (r : Read). r .number) is;
+      accepted = ap (λ (r : TableRead). r .number) is;
       alike = record {
-        last = ap (λ (r : Read). r .table .last) is;
-        holds = λ k j h lt. ap (λ (r : Read). held (rowAt (r .table .grid) k) j) is ∙ all-held p t good profile long k j h lt;
+        last = ap (λ (r : TableRead). r .table .last) is;
+        holds = λ k j h lt. ap (λ (r : TableRead). held (rowAt (r .table .grid) k) j) is ∙ all-held p t good profile long k j h lt;
       };
     }

@@ -13,11 +13,11 @@ use Rattle.laws.proofs.Walks.{gathered-ind}
 use Rattle.codes.specs.Codes.{placeOf, serviceCode}
 use Rattle.numbers.specs.Number.{most}
 use Rattle.codes.proofs.Tables.{service-most}
-use Rattle.profile.specs.Profile.{servicesMost, offered, profileGood}
+use Rattle.profile.specs.Profile.{servicesMost, subscribedServices, profileGood}
 use Rattle.profile.specs.declared.profile.Profile.{Profile}
 use Rattle.profile.proofs.Profiles.{good-profile}
 use Rattle.profile.proofs.Rising.{rising-code, rising-place}
-use Rattle.lists.specs.Entries.{limit}
+use Rattle.lists.specs.Entries.{instancesMost}
 use Rattle.store.specs.Row.{places, serviceOfPlace, cellAt, active}
 use Rattle.store.specs.Grid.{procedures, rowAt}
 use Rattle.store.proofs.Rows.{Ruled, active-rules, good-few}
@@ -29,10 +29,10 @@ use Rattle.forms.specs.declared.instance.Instance.{Instance}
 use Rattle.sheet.specs.Instance.{serviceOf}
 use Rattle.sheet.proofs.Parts.{by-test}
 use Rattle.sheet.proofs.Fields.{AllPass}
-use Rattle.sheet.proofs.Trips.{Fits, tidyInstance}
+use Rattle.sheet.proofs.Trips.{FieldsFit, tidyInstance}
 use Rattle.sheet.proofs.SheetTrips.{Ascends, countOf, AllFit, Sheeted}
 use Rattle.nightly.specs.Instances.{instanceOf, instancesOf}
-use Rattle.nightly.specs.Record.{inProfile, allIn, placeIn}
+use Rattle.nightly.specs.Record.{inProfile, allIn, placeOfInstance}
 use Rattle.nightly.specs.Write.{placeInstances}
 use Rattle.nightly.proofs.WrittenTables.{SubOctets, row-good, rowOf, rows-all}
 use Rattle.nightly.proofs.WrittenOrder.{Ahead, Ascending, instances-ascend}
@@ -69,7 +69,7 @@ all-both p (x ∷ xs) ys a b =
     let parts = pick-then (inProfile p x) (allIn p xs) a in
     rw (parts .0) (all-both p xs ys (parts .1) b)
 
-module _ (p : Profile) (t : Table) (good : tableGood limit p t ≡ true) (profile : profileGood p ≡ true)
+module _ (p : Profile) (t : Table) (good : tableGood instancesMost p t ≡ true) (profile : profileGood p ≡ true)
     (long : length (p .services) ≡ servicesMost) where
   -- ---- the instance of a place
 
@@ -78,20 +78,20 @@ module _ (p : Profile) (t : Table) (good : tableGood limit p t ≡ true) (profil
     one = instanceOf (t .grid) k j
 
     rules : Ruled p k j (cellAt (rowAt (t .grid) k) j)
-    rules = active-rules limit p k (rowAt (t .grid) k) (row-good p t good k h) j lt there
+    rules = active-rules instancesMost p k (rowAt (t .grid) k) (row-good p t good k h) j lt there
 
-    slot-inside : serviceOfPlace j < length (offered p)
+    slot-inside : serviceOfPlace j < length (subscribedServices p)
     slot-inside = omega (arith, long, rules .slot, good-profile p profile .services-few, length-take (p .servicecount) (p .services))
 
-    code-is : getD (offered p) (serviceOfPlace j) 0 ≡ one .service
+    code-is : getD (subscribedServices p) (serviceOfPlace j) 0 ≡ one .service
     code-is = getD-take (p .servicecount) (p .services) (serviceOfPlace j) 0 (rules .slot) ∙ sym (rules .service)
 
-    slot-is : placeOf (one .service) (offered p) ≡ serviceOfPlace j
+    slot-is : placeOf (one .service) (subscribedServices p) ≡ serviceOfPlace j
     slot-is =
-        ap (λ (c : ℕ). placeOf c (offered p)) (sym code-is)
-        ∙ rising-place 0 (offered p) (serviceOfPlace j) (good-profile p profile .rises) slot-inside
+        ap (λ (c : ℕ). placeOf c (subscribedServices p)) (sym code-is)
+        ∙ rising-place 0 (subscribedServices p) (serviceOfPlace j) (good-profile p profile .rises) slot-inside
 
-    pub one-place : placeIn p one ≡ j
+    pub one-place : placeOfInstance p one ≡ j
     one-place = omega (arith, slot-is)
 
     one-fitting : Fitting p one
@@ -105,14 +105,14 @@ module _ (p : Profile) (t : Table) (good : tableGood limit p t ≡ true) (profil
     one-service : serviceOf (one .service) ≡ true
     one-service =
         let code : serviceCode (one .service) ≡ true =
-        rw code-is at (rising-code 0 (offered p) (serviceOfPlace j) (good-profile p profile .rises) slot-inside) in
+        rw code-is at (rising-code 0 (subscribedServices p) (serviceOfPlace j) (good-profile p profile .rises) slot-inside) in
         rw (
           ne-eqb (one .service) 0 (active-some (rowAt (t .grid) k) j there),
           lt-ltb (one .service) 256 (omega (arith, service-most (one .service) code)),
         )
         code
 
-    one-fits : Arrays t → Fits one
+    one-fits : Arrays t → FieldsFit one
     one-fits arrays = record {
       procedure = h;
       number = omega (arith, lt);
@@ -140,7 +140,7 @@ module _ (p : Profile) (t : Table) (good : tableGood limit p t ≡ true) (profil
       (λ e. omega (arith, procedure-none (t .grid) q (leb-true procedures q e)))
       (λ e.
       let lt : q < procedures = omega (arith, leb-false procedures q e) in
-      omega (arith, procedure-count (t .grid) q lt, good-few limit p q (rowAt (t .grid) q) (row-good p t good q lt)))
+      omega (arith, procedure-count (t .grid) q lt, good-few instancesMost p q (rowAt (t .grid) q) (row-good p t good q lt)))
 
   -- they are such as a sheet may hold
   pub table-sheeted : Arrays t → Sheeted (instancesOf (t .grid))

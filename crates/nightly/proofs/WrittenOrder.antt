@@ -11,11 +11,11 @@ use lib.Seq.{getD-take}
 use Rattle.laws.specs.Places.{gathered}
 use Rattle.laws.proofs.Picks.{pick-ind}
 use Rattle.laws.proofs.Walks.{gathered-none, gathered-more, gathered-ind}
-use Rattle.profile.specs.Profile.{servicesMost, offered, profileGood}
+use Rattle.profile.specs.Profile.{servicesMost, subscribedServices, profileGood}
 use Rattle.profile.specs.declared.profile.Profile.{Profile}
 use Rattle.profile.proofs.Profiles.{good-profile}
 use Rattle.profile.proofs.Rising.{rising-later}
-use Rattle.lists.specs.Entries.{limit}
+use Rattle.lists.specs.Entries.{instancesMost}
 use Rattle.store.specs.Row.{places, numberOfPlace, serviceOfPlace, active}
 use Rattle.store.specs.Grid.{procedures, rowAt}
 use Rattle.store.specs.declared.row.Row.{Row}
@@ -98,16 +98,16 @@ module _ (k m : ℕ) (row later : Row) (less : k < m) where
 
 -- ---- a table that breaks no rule
 
-module _ (p : Profile) (t : Table) (good : tableGood limit p t ≡ true) (profile : profileGood p ≡ true)
+module _ (p : Profile) (t : Table) (good : tableGood instancesMost p t ≡ true) (profile : profileGood p ≡ true)
     (long : length (p .services) ≡ servicesMost) where
   -- a later service of the profile has a higher code
   later-service : (a b : ℕ) → a < b → b < p .servicecount → getD (p .services) a 0 < getD (p .services) b 0
   later-service a b less lt =
       let so = good-profile p profile in
-      let inside : b < length (offered p) = omega (arith, so .services-few, length-take (p .servicecount) (p .services)) in
+      let inside : b < length (subscribedServices p) = omega (arith, so .services-few, length-take (p .servicecount) (p .services)) in
       omega (
         arith,
-        rising-later 0 (offered p) a b (so .rises) less inside,
+        rising-later 0 (subscribedServices p) a b (so .rises) less inside,
         getD-take (p .servicecount) (p .services) a 0 (omega arith),
         getD-take (p .servicecount) (p .services) b 0 lt,
       )
@@ -119,7 +119,7 @@ module _ (p : Profile) (t : Table) (good : tableGood limit p t ≡ true) (profil
     places-ahead : (i j : ℕ) → i < j → j < places → AllAhead (placeInstances k row i) (placeInstances k row j)
     unfolding AllAhead Ahead
     places-ahead i j less lt =
-        let rules = active-rules limit p k row (row-good p t good k h) in
+        let rules = active-rules instancesMost p k row (row-good p t good k h) in
         pick-ind (λ is. AllAhead is (placeInstances k row j)) (active row i)
         (λ here. (
           pick-ind (Ahead _) (active row j)

@@ -11,7 +11,7 @@ use Rattle.laws.specs.Over.{Wrote}
 use Rattle.laws.proofs.Over.{over-nil}
 use Rattle.profile.specs.Access.{accessRead}
 use Rattle.profile.proofs.Records.{access-good, access-services}
-use Rattle.lists.specs.Entries.{limit}
+use Rattle.lists.specs.Entries.{instancesMost}
 use Rattle.exchange.specs.Table.{lastMost, tableGood}
 use Rattle.exchange.specs.declared.table.Table.{Table}
 use Rattle.exchange.proofs.Tables.{table-good}
@@ -30,10 +30,10 @@ use Rattle.sheet.specs.declared.record.Written.{Written}
 use Rattle.nightly.proofs.WrittenTables.{instances-few, grid-writable}
 
 -- what a refusal and a sheet leave
-abbrev refused : Refusal → record-specs.Wrote
+abbrev refused : Refusal → record-specs.SheetMade
 refused refusal = record { number = refusalNo refusal; octets = [] }
 
-abbrev sheet : Table → record-specs.Wrote
+abbrev sheet : Table → record-specs.SheetMade
 sheet t = record { number = 0; octets = sheetOctets form1 (t .last) (instancesOf (t .grid)) }
 
 module _ (access : List ℕ) (t : Table) (size : ℕ) where
@@ -48,11 +48,11 @@ module _ (access : List ℕ) (t : Table) (size : ℕ) where
 
     module _ (ok : accessRead access .ok ≡ true) where
       pub writes-table :
-          tableGood limit (accessRead access .profile) t ≡ false → wroteSheet access t size ≡ refused BadTable
+          tableGood instancesMost (accessRead access .profile) t ≡ false → wroteSheet access t size ≡ refused BadTable
       unfolding wroteSheet
       writes-table bad = rw (le-ltb size (sheetMost form1) room, ok, bad)
 
-      pub writes-sheet : tableGood limit (accessRead access .profile) t ≡ true → wroteSheet access t size ≡ sheet t
+      pub writes-sheet : tableGood instancesMost (accessRead access .profile) t ≡ true → wroteSheet access t size ≡ sheet t
       unfolding wroteSheet
       writes-sheet good = rw (le-ltb size (sheetMost form1) room, ok, good)
 
@@ -89,13 +89,13 @@ pub record Ready (t : Table) (xs : List ℕ) : Type 0 where
 
 pub ready :
     (access : List ℕ) (t : Table) (xs : List ℕ) → sheetMost form1 ≤ length xs → accessRead access .ok ≡ true →
-    tableGood limit (accessRead access .profile) t ≡ true →
+    tableGood instancesMost (accessRead access .profile) t ≡ true →
     Ready t xs
 ready access t xs room ok good =
     let p = accessRead access .profile in
     let few = instances-few p t good in
     record {
-      last = table-good limit p t good .0;
+      last = table-good instancesMost p t good .0;
       few = omega (arith, few);
       space = omega (arith, few, room);
       writable = grid-writable p t good (access-good access ok) (access-services access);

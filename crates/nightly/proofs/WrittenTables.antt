@@ -13,11 +13,11 @@ use Rattle.laws.specs.Places.{countTo, gathered}
 use Rattle.laws.proofs.Picks.{pick-ind, pick-map}
 use Rattle.laws.proofs.Walks.{count-none, count-more, gathered-none, gathered-more, gathered-ind}
 use Rattle.codes.proofs.Tables.{service-most}
-use Rattle.profile.specs.Profile.{servicesMost, offered, profileGood}
+use Rattle.profile.specs.Profile.{servicesMost, subscribedServices, profileGood}
 use Rattle.profile.specs.declared.profile.Profile.{Profile}
 use Rattle.profile.proofs.Profiles.{good-profile}
 use Rattle.profile.proofs.Rising.{rising-code}
-use Rattle.lists.specs.Entries.{limit}
+use Rattle.lists.specs.Entries.{instancesMost}
 use Rattle.store.specs.Row.{places, serviceOfPlace, cellAt, active, rowGood}
 use Rattle.store.specs.Grid.{procedures, rowAt}
 use Rattle.store.specs.declared.row.Cell.{Cell}
@@ -93,16 +93,16 @@ gathered-each c f (suc n) h =
 abbrev pub SubOctets : Table → Type 0
 SubOctets t = (k j i : ℕ) → getD (cellAt (rowAt (t .grid) k) j .address .sub) i 0 < 256
 
-module _ (p : Profile) (t : Table) (good : tableGood limit p t ≡ true) where
-  pub row-good : (k : ℕ) → k < procedures → rowGood limit p k (rowAt (t .grid) k) ≡ true
-  row-good k h = grid-row limit p (t .grid) k h (table-good limit p t good .1)
+module _ (p : Profile) (t : Table) (good : tableGood instancesMost p t ≡ true) where
+  pub row-good : (k : ℕ) → k < procedures → rowGood instancesMost p k (rowAt (t .grid) k) ≡ true
+  row-good k h = grid-row instancesMost p (t .grid) k h (table-good instancesMost p t good .1)
 
   -- "at most 8 for each procedure": at most 24
-  pub instances-few : length (instancesOf (t .grid)) ≤ limit * procedures
+  pub instances-few : length (instancesOf (t .grid)) ≤ instancesMost * procedures
   instances-few =
       rw (rows-all (t .grid))
-      (gathered-each limit (rowOf (t .grid)) procedures (λ k h.
-      omega (arith, row-count k (rowAt (t .grid) k), good-few limit p k (rowAt (t .grid) k) (row-good k h))))
+      (gathered-each instancesMost (rowOf (t .grid)) procedures (λ k h.
+      omega (arith, row-count k (rowAt (t .grid) k), good-few instancesMost p k (rowAt (t .grid) k) (row-good k h))))
 
   module _ (profile : profileGood p ≡ true) (long : length (p .services) ≡ servicesMost) where
     -- the service of an instance is one of the sixteen
@@ -110,15 +110,15 @@ module _ (p : Profile) (t : Table) (good : tableGood limit p t ≡ true) where
     service-small k j x ruled =
         let so = good-profile p profile in
         let slot : ℕ = serviceOfPlace j in
-        let here : getD (offered p) slot 0 ≡ getD (p .services) slot 0 = getD-take (p .servicecount) (p .services) slot 0 (ruled .slot) in
-        let inside : slot < length (offered p) =
+        let here : getD (subscribedServices p) slot 0 ≡ getD (p .services) slot 0 = getD-take (p .servicecount) (p .services) slot 0 (ruled .slot) in
+        let inside : slot < length (subscribedServices p) =
         omega (arith, ruled .slot, so .services-few, length-take (p .servicecount) (p .services)) in
-        omega (arith, here, ruled .service, service-most (getD (offered p) slot 0) (rising-code 0 (offered p) slot (so .rises) inside))
+        omega (arith, here, ruled .service, service-most (getD (subscribedServices p) slot 0) (rising-code 0 (subscribedServices p) slot (so .rises) inside))
 
     pub grid-writable : GridWritable (t .grid)
     grid-writable k h j lt =
         let row : Row = rowAt (t .grid) k in
-        let rules = active-rules limit p k row (row-good k h) j lt in
+        let rules = active-rules instancesMost p k row (row-good k h) j lt in
         record {
           service = λ some. service-small k j (cellAt row j) (rules (is-active row j some));
           address = λ some. rules (is-active row j some) .address;
@@ -131,7 +131,7 @@ module _ (p : Profile) (t : Table) (good : tableGood limit p t ≡ true) where
           let row : Row = rowAt (t .grid) k in
           pick-ind AllFit (active row j)
           (λ there.
-          let rules = active-rules limit p k row (row-good k h) j lt there in
+          let rules = active-rules instancesMost p k row (row-good k h) j lt there in
           all-fit-one _ (record {
             procedure = omega arith;
             number = omega arith;
@@ -152,5 +152,5 @@ module _ (p : Profile) (t : Table) (good : tableGood limit p t ≡ true) where
           omega (
             arith,
             instances-few,
-            sheet-most form1 (t .last) (instancesOf (t .grid)) (omega arith) (table-good limit p t good .0) (omega (arith, instances-few)) all-fit,
+            sheet-most form1 (t .last) (instancesOf (t .grid)) (omega arith) (table-good instancesMost p t good .0) (omega (arith, instances-few)) all-fit,
           )

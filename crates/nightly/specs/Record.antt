@@ -10,9 +10,9 @@ use Rattle.laws.specs.Got.{Got, got, wrong}
 use Rattle.laws.specs.Over.{over}
 use Rattle.codes.specs.Codes.{placeOf}
 use Rattle.profile.specs.Access.{accessRead}
-use Rattle.profile.specs.Profile.{servicesMost, offered}
+use Rattle.profile.specs.Profile.{servicesMost, subscribedServices}
 use Rattle.profile.specs.declared.profile.Profile.{Profile}
-use Rattle.lists.specs.Entries.{limit}
+use Rattle.lists.specs.Entries.{instancesMost}
 use Rattle.store.specs.Row.{cellOf}
 use Rattle.store.specs.Grid.{rowAt, noGrid}
 use Rattle.store.specs.declared.grid.Grid.{Grid}
@@ -31,16 +31,16 @@ use Rattle.nightly.specs.declared.table.SheetRead.{SheetRead}
 
 -- ---- a table is written
 
-pub record Wrote : Type 0 where
+pub record SheetMade : Type 0 where
   pub number : ℕ
   pub octets : List ℕ
 
 -- "Lowest number first"; "writes nothing"
-unfoldable pub wroteSheet : List ℕ → Table → ℕ → Wrote
+unfoldable pub wroteSheet : List ℕ → Table → ℕ → SheetMade
 wroteSheet access t size =
     pick (ltb size (sheetMost form1)) (record { number = refusalNo ShortOutput; octets = [] })
     (pick (accessRead access .ok)
-    (pick (tableGood limit (accessRead access .profile) t)
+    (pick (tableGood instancesMost (accessRead access .profile) t)
     (record { number = 0; octets = sheetOctets form1 (t .last) (instancesOf (t .grid)) })
     (record { number = refusalNo BadTable; octets = [] }))
     (record { number = refusalNo BadProfile; octets = [] }))
@@ -57,7 +57,7 @@ pub record WritesSheet (access : List ℕ) (t : Table) (xs : List ℕ) (r : Writ
 unfoldable pub inProfile : Profile → Instance → Bool
 inProfile p i =
     pick (eqb (getD (p .subscribed) (i .procedure) 0) 1)
-    (pick (ltb (i .number) (p .numbercount)) (ltb (placeOf (i .service) (offered p)) (p .servicecount)) false)
+    (pick (ltb (i .number) (p .numbercount)) (ltb (placeOf (i .service) (subscribedServices p)) (p .servicecount)) false)
     false
 
 unfoldable pub allIn : Profile → List Instance → Bool
@@ -65,38 +65,38 @@ allIn p [] = true
 allIn p (i ∷ is) = pick (inProfile p i) (allIn p is) false
 
 -- the grid with one instance more, and with all
-abbrev pub placeIn : Profile → Instance → ℕ
-placeIn p i = servicesMost * i .number + placeOf (i .service) (offered p)
+abbrev pub placeOfInstance : Profile → Instance → ℕ
+placeOfInstance p i = servicesMost * i .number + placeOf (i .service) (subscribedServices p)
 
 unfoldable pub placed : Profile → Grid → Instance → Grid
 placed p grid i = record {
   rows = set (grid .rows) (i .procedure)
-      (record { cells = set (rowAt grid (i .procedure) .cells) (placeIn p i) (cellOf (i .service) (i .address)) });
+      (record { cells = set (rowAt grid (i .procedure) .cells) (placeOfInstance p i) (cellOf (i .service) (i .address)) });
 }
 
 unfoldable pub allPlaced : Profile → Grid → List Instance → Grid
 allPlaced p grid [] = grid
 allPlaced p grid (i ∷ is) = allPlaced p (placed p grid i) is
 
-pub record Read : Type 0 where
+pub record TableRead : Type 0 where
   pub number : ℕ
   pub table : Table
 
-abbrev pub refused : Refusal → Read
-refused r = record { number = refusalNo r; table = freshTable }
+abbrev pub notRead : Refusal → TableRead
+notRead r = record { number = refusalNo r; table = freshTable }
 
-abbrev pub tableFrom : Profile → Got Sheet → Read
+abbrev pub tableFrom : Profile → Got Sheet → TableRead
 tableFrom p (got sheet next) =
     pick (allIn p (sheet .instances))
     (record { number = 0; table = record { last = sheet .last; grid = allPlaced p noGrid (sheet .instances) } })
-    (refused BadSheet)
-tableFrom p wrong = refused BadSheet
+    (notRead BadSheet)
+tableFrom p wrong = notRead BadSheet
 
-unfoldable pub readSheet : List ℕ → List ℕ → Read
+unfoldable pub readSheet : List ℕ → List ℕ → TableRead
 readSheet access s =
-    pick (accessRead access .ok) (tableFrom (accessRead access .profile) (sheetIn form1 s)) (refused BadProfile)
+    pick (accessRead access .ok) (tableFrom (accessRead access .profile) (sheetIn form1 s)) (notRead BadProfile)
 
--- what `read_sheet` promises: the refusal and the table, a fresh one where it is refused
+-- what `read_sheet` promises: the refusal and the table, a fresh one where it is notRead
 pub record ReadsSheet (access s : List ℕ) (r : SheetRead) : Type 0 where
   pub outcome : outcomeNo (r .outcome) ≡ readSheet access s .number
   pub table : r .table ≡ readSheet access s .table

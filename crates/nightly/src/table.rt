@@ -18,11 +18,11 @@ use store::fresh_grid;
 ghost use mathlib.Core.Path.{_≡_};
 ghost use Prim.Native.Nat.{_≤_, _<_};
 ghost use Rattle.codes.specs.Codes.{placeOf};
-ghost use Rattle.profile.specs.Profile.{servicesMost, offered};
+ghost use Rattle.profile.specs.Profile.{servicesMost, subscribedServices};
 ghost use Rattle.forms.specs.Form.{form1};
 ghost use Rattle.sheet.specs.Sheet.{instancesFrom, noInstance};
 ghost use Rattle.sheet.specs.Formed.{Holds};
-ghost use Rattle.nightly.specs.Record.{inProfile, placeIn, ReadsSheet};
+ghost use Rattle.nightly.specs.Record.{inProfile, placeOfInstance, ReadsSheet};
 ghost use Rattle.nightly.specs.Reading.{gridRead, notPlaced, refusedBy};
 
 // The table that was read; a fresh one where the sheet is refused.
@@ -55,8 +55,8 @@ fn in_profile(p: Profile, i: Instance) -> bool
 
 // The place of an instance in the row of its procedure.
 fn place_in(p: Profile, i: Instance) -> usize
-    requires { ⌜ (i .number < 4) × (placeOf (i .service) (offered p) < servicesMost) ⌝ }
-    ensures { λ r. ⌜ r ≡ placeIn p i ⌝ }
+    requires { ⌜ (i .number < 4) × (placeOf (i .service) (subscribedServices p) < servicesMost) ⌝ }
+    ensures { λ r. ⌜ r ≡ placeOfInstance p i ⌝ }
 {
     let number = i.number as usize;
     SERVICES * number + service_slot(p, i.service)

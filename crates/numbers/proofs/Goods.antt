@@ -12,7 +12,7 @@ use lib.Dec.{ltb, leb, eqb}
 use borrow.Author.Tests.{le-ltb, le-leb, eq-eqb, ltb-false, leb-true, eqb-true}
 use Rattle.laws.specs.Pick.{pick}
 use Rattle.laws.specs.Got.{Got, got}
-use Rattle.laws.proofs.Gots.{Found, found-then, found-is}
+use Rattle.laws.proofs.Gots.{Something, found-then, found-is}
 use Rattle.laws.proofs.Picks.{pick-ind, pick-then, pick-else}
 use Rattle.codes.proofs.Characters.{all-each}
 use Rattle.octets.specs.declared.head.Head.the-variants as head
@@ -118,32 +118,32 @@ digits-number form kind cs good shape =
 
 digits-read :
     (form kind : ℕ) (s : List ℕ) (start stop next : ℕ) → ((cs : List ℕ) → Shape (numberOf form kind cs)) →
-    Found GoodUnless (digitsIn form kind s start stop next)
+    Something GoodUnless (digitsIn form kind s start stop next)
 unfolding digitsIn
 digits-read form kind s start stop next shape =
     let cs : List ℕ = slice start stop s in
-    pick-ind (Found GoodUnless) (digitsGood cs) (λ good _. digits-number form kind cs good (shape cs)) (λ _. tt)
+    pick-ind (Something GoodUnless) (digitsGood cs) (λ good _. digits-number form kind cs good (shape cs)) (λ _. tt)
 
 string-read :
     (kind : ℕ) (s : List ℕ) (end after : ℕ) (h : Head) → typeGood kind ≡ true →
-    Found GoodUnless (stringOf kind s end after h)
+    Something GoodUnless (stringOf kind s end after h)
 string-read kind s end after (head.Is tag start stop next) good =
-    let P : Got Number → Type 0 = Found GoodUnless in
+    let P : Got Number → Type 0 = Something GoodUnless in
     pick-ind P (eqb tag 0x12)
     (λ _. pick-ind P (eqb next end) (λ _. digits-read public kind s start stop after (λ _. inr (refl, good))) (λ _. tt))
     (λ _. tt)
 string-read kind s end after head.Bad good = tt
 
 public-read :
-    (depth : ℕ) (s : List ℕ) (start stop after : ℕ) → Found GoodUnless (publicIn depth s start stop after)
+    (depth : ℕ) (s : List ℕ) (start stop after : ℕ) → Something GoodUnless (publicIn depth s start stop after)
 unfolding publicIn stringAt
 public-read depth s start stop after =
     found-then GoodUnless (valueOf (enumeratedAt depth s start stop)) _ (λ kind place _.
-    pick-ind (Found GoodUnless) (typeGood kind) (string-read kind s stop after (headAt depth s place stop)) (λ _. tt))
+    pick-ind (Something GoodUnless) (typeGood kind) (string-read kind s stop after (headAt depth s place stop)) (λ _. tt))
 
-number-in : (depth : ℕ) (s : List ℕ) (h : Head) → Found GoodUnless (numberIn depth s h)
+number-in : (depth : ℕ) (s : List ℕ) (h : Head) → Something GoodUnless (numberIn depth s h)
 number-in depth s (head.Is tag start stop next) =
-    let P : Got Number → Type 0 = Found GoodUnless in
+    let P : Got Number → Type 0 = Something GoodUnless in
     pick-ind P (eqb tag 0x80) (λ _. digits-read unknown 0 s start stop next (λ _. inl (refl, refl))) (λ _.
     pick-ind P (eqb tag 0xA1) (λ _. public-read (depth - 1) s start stop next) (λ _.
     pick-ind P (otherTag tag) (λ _ kind. absurd (kind refl)) (λ _. tt)))
@@ -162,10 +162,10 @@ number-read depth s at end n next e = found-is GoodUnless e (number-in depth s (
 abbrev Few : Sub → Type 0
 Few sub = sub .count ≤ most
 
-octets-read : (s : List ℕ) (start stop : ℕ) → Found Few (octetsIn s start stop)
+octets-read : (s : List ℕ) (start stop : ℕ) → Something Few (octetsIn s start stop)
 unfolding octetsIn
 octets-read s start stop =
-    pick-ind (Found Few) (fair (stop - start))
+    pick-ind (Something Few) (fair (stop - start))
     (λ e.
     omega (
       arith,
@@ -175,9 +175,9 @@ octets-read s start stop =
     ))
     (λ _. tt)
 
-sub-in : (s : List ℕ) (end : ℕ) (h : Head) → Found Few (subIn s end h)
+sub-in : (s : List ℕ) (end : ℕ) (h : Head) → Something Few (subIn s end h)
 sub-in s end (head.Is tag start stop next) =
-    let P : Got Sub → Type 0 = Found Few in
+    let P : Got Sub → Type 0 = Something Few in
     pick-ind P (eqb next end)
     (λ _.
     pick-ind P (eqb tag 0x30) (λ _. omega arith) (λ _.
@@ -190,7 +190,7 @@ sub-read :
 unfolding subAt
 sub-read depth s at end sub last e =
     found-is Few e
-    (pick-ind (Found Few) (eqb at end) (λ _. omega arith) (λ _. sub-in s end (headAt depth s at end)))
+    (pick-ind (Something Few) (eqb at end) (λ _. omega arith) (λ _. sub-in s end (headAt depth s at end)))
 
 -- an address is as a table holds it, unless its number is of another kind
 abbrev pub ToUnless : Forwarded → Type 0
@@ -200,10 +200,10 @@ pub parts-good : (n : Number) (sub : Sub) → sub .count ≤ most → GoodUnless
 unfolding addressGood
 parts-good n sub few good kind = rw (le-ltb most (sub .count) few) (good kind)
 
-address-in : (depth : ℕ) (s : List ℕ) (h : Head) → Found ToUnless (addressIn depth s h)
+address-in : (depth : ℕ) (s : List ℕ) (h : Head) → Something ToUnless (addressIn depth s h)
 address-in depth s (head.Is tag start stop next) =
     let inner : ℕ = depth - 1 in
-    pick-ind (Found ToUnless) (eqb tag 0x30)
+    pick-ind (Something ToUnless) (eqb tag 0x30)
     (λ _.
     found-then ToUnless (numberAt inner s start stop) _ (λ n place e.
     found-then ToUnless (subAt inner s place stop) _ (λ sub last f.

@@ -16,7 +16,7 @@ use Rattle.octets.specs.Element.{element}
 use Rattle.values.specs.Enumerated.{enumeratedOctets}
 use Rattle.octets.specs.declared.head.Head.{Head}
 use Rattle.octets.specs.declared.head.Head.the-variants as head
-use Rattle.octets.proofs.Elements.{length-small, Inside, inside}
+use Rattle.octets.proofs.Elements.{length-small, Inside, inside-element}
 use Rattle.values.proofs.Enumerateds.{enumerated-back}
 use Rattle.numbers.specs.Number.{most, unknown, public, digitsGood, numberOf, digitsIn, stringAt, publicIn, otherTag, numberIn, numberAt, digitsOf, tidyNumber, numberGood, numberOctets}
 use Rattle.codes.specs.Digits.{typeGood}
@@ -68,7 +68,7 @@ public-back depth kind s at end after ws deep type good st fit in-s =
     let place : ℕ = at + length (enumeratedOctets kind) in
     rw (enumerated-back depth kind s at end deep (stands-left s at (enumeratedOctets kind) (element 0x12 ws) st) (omega arith) in-s, type)
     (string-in depth kind s place end after ws good (omega arith)
-    (inside depth s place end 0x12 ws deep (λ e. omega arith) (omega arith)
+    (inside-element depth s place end 0x12 ws deep (λ e. omega arith) (omega arith)
     (stands-right s at (enumeratedOctets kind) (element 0x12 ws) st) (omega arith) in-s))
 
 -- an element of public form
@@ -99,12 +99,12 @@ number-back depth n s at end deep h st fit in-s =
     let o = unknown-octets n (u .0) in
     rw (o, u .0, u .1)
     (unknown-in depth s at end ws (g .digits)
-    (inside depth s at end 0x80 ws some (λ e. omega arith) (omega arith) (rw o at st) (rw o at fit) in-s)))
+    (inside-element depth s at end 0x80 ws some (λ e. omega arith) (omega arith) (rw o at st) (rw o at fit) in-s)))
     (λ u.
     let o = public-octets n (λ e. omega (arith, u .0)) in
     rw (o, u .0)
     (public-in depth (n .kind) s at end ws deep (u .1) (g .digits)
-    (inside depth s at end 0xA1 vs some (λ e. omega arith) (omega (arith, public-inside (n .kind) ws few))
+    (inside-element depth s at end 0xA1 vs some (λ e. omega arith) (omega (arith, public-inside (n .kind) ws few))
     (rw o at st) (rw o at fit) in-s)))
     (g .shape)
 
@@ -159,7 +159,7 @@ sub-back depth s at end (w ∷ ws) deep few st fit in-s =
     let some : length (w ∷ ws) ≡ 0 → ⊥ = λ e. omega arith in
     let o = sub-some (w ∷ ws) some in
     sub-in depth s at end (w ∷ ws) some few (rw o at fit)
-    (inside depth s at end 0x04 (w ∷ ws) deep (λ e. omega arith) (omega arith) (rw o at st) (omega (arith, rw o at fit)) in-s)
+    (inside-element depth s at end 0x04 (w ∷ ws) deep (λ e. omega arith) (omega arith) (rw o at st) (omega (arith, rw o at fit)) in-s)
 
 -- an element that holds a good address
 address-in :
@@ -193,5 +193,5 @@ unfolding addressOctets
 address-back depth a s at end deep h st fit in-s =
     let few = contents-most a h in
     address-in depth a s at end deep h
-    (inside depth s at end 0x30 (numberOctets (a .number) ++ subOctets (subOctetsOf a)) (λ e. omega arith) (λ e. omega arith)
+    (inside-element depth s at end 0x30 (numberOctets (a .number) ++ subOctets (subOctetsOf a)) (λ e. omega arith) (λ e. omega arith)
     (omega arith) st fit in-s)

@@ -126,11 +126,11 @@ pub record Inside (depth : ℕ) (s : List ℕ) (at end tag : ℕ) (ws : List ℕ
   pub room : start + length ws ≤ length s
 
 -- every element that stands before `end` is one
-pub inside :
+pub inside-element :
     (depth : ℕ) (s : List ℕ) (at end tag : ℕ) (ws : List ℕ) → (depth ≡ 0 → ⊥) → (tag % 32 ≡ 31 → ⊥) →
     length ws < 65536 → Stands s at (element tag ws) → at + length (element tag ws) ≤ end → end ≤ length s →
     Inside depth s at end tag ws
-inside depth s at end tag ws deep low small st fit in-s =
+inside-element depth s at end tag ws deep low small st fit in-s =
     let start : ℕ = at + length (headOctets tag (length ws)) in
     let stop : start + length ws ≡ at + length (element tag ws) =
     omega (arith, length-append (headOctets tag (length ws)) ws) in

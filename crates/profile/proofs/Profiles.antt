@@ -16,7 +16,7 @@ use Rattle.laws.proofs.Walks.{every-at}
 use Rattle.codes.specs.Codes.{serviceCode}
 use Rattle.numbers.specs.Number.{most, digitsOf, numberGood, tidyNumber}
 use Rattle.numbers.specs.declared.number.Number.{Number}
-use Rattle.profile.specs.Profile.{numbersMost, servicesMost, prefixesMost, servedNumbers, offered, sameDigits, sameNumber, same, placeIn, noNumber, numbersGood, noPrefix, prefixGood, rising, servicesGood, flag, subscriptionsGood, usesGood, diversionGood, prefixesGood, profileGood}
+use Rattle.profile.specs.Profile.{numbersMost, servicesMost, prefixesMost, servedNumbers, subscribedServices, sameDigits, sameNumber, same, placeIn, noNumber, numbersGood, noPrefix, prefixGood, rising, servicesGood, flag, subscriptionsGood, usesGood, diversionGood, prefixesGood, profileGood}
 use Rattle.profile.specs.declared.profile.Prefix.{Prefix}
 use Rattle.profile.specs.declared.profile.Profile.{Profile}
 
@@ -176,7 +176,7 @@ numbers-fair p some few = rw (le-ltb (p .numbercount) 1 some, le-ltb numbersMost
 
 pub services-fair :
     (p : Profile) → 1 ≤ p .servicecount → p .servicecount ≤ servicesMost →
-    servicesGood p ≡ rising 0 (offered p)
+    servicesGood p ≡ rising 0 (subscribedServices p)
 unfolding servicesGood
 services-fair p some few = rw (le-ltb (p .servicecount) 1 some, le-ltb servicesMost (p .servicecount) few)
 
@@ -230,11 +230,11 @@ numbers-each p h =
 
 services-rise :
     (p : Profile) → servicesGood p ≡ true →
-    (1 ≤ p .servicecount) × (p .servicecount ≤ servicesMost) × (rising 0 (offered p) ≡ true)
+    (1 ≤ p .servicecount) × (p .servicecount ≤ servicesMost) × (rising 0 (subscribedServices p) ≡ true)
 unfolding servicesGood
 services-rise p h =
     let n : ℕ = p .servicecount in
-    let rises : Bool = rising 0 (offered p) in
+    let rises : Bool = rising 0 (subscribedServices p) in
     let a = pick-else (ltb n 1) (pick (ltb servicesMost n) false rises) h in
     let b = pick-else (ltb servicesMost n) rises (a .1) in
     (ltb-false n 1 (a .0), ltb-false servicesMost n (b .0), b .1)
@@ -264,7 +264,7 @@ pub record GoodProfile (p : Profile) : Type 0 where
   pub numbers : (k : ℕ) → k < p .numbercount → numberGood (getD (p .numbers) k noNumber) ≡ true
   pub services-some : 1 ≤ p .servicecount
   pub services-few : p .servicecount ≤ servicesMost
-  pub rises : rising 0 (offered p) ≡ true
+  pub rises : rising 0 (subscribedServices p) ≡ true
   pub flags : (k : ℕ) → k < 3 → getD (p .subscribed) k 0 < 2
 
 pub good-profile : (p : Profile) → profileGood p ≡ true → GoodProfile p

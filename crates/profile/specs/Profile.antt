@@ -27,8 +27,8 @@ prefixesMost = 16
 abbrev pub servedNumbers : Profile → List Number
 servedNumbers p = take (p .numbercount) (p .numbers)
 
-abbrev pub offered : Profile → List ℕ
-offered p = take (p .servicecount) (p .services)
+abbrev pub subscribedServices : Profile → List ℕ
+subscribedServices p = take (p .servicecount) (p .services)
 
 abbrev pub barred : Profile → List Prefix
 barred p = take (p .prefixcount) (p .prefixes)
@@ -83,7 +83,7 @@ rising below (code ∷ codes) = pick (ltb below code) (pick (serviceCode code) (
 
 unfoldable pub servicesGood : Profile → Bool
 servicesGood p =
-    pick (ltb (p .servicecount) 1) false (pick (ltb servicesMost (p .servicecount)) false (rising 0 (offered p)))
+    pick (ltb (p .servicecount) 1) false (pick (ltb servicesMost (p .servicecount)) false (rising 0 (subscribedServices p)))
 
 -- ---- prefixes
 
@@ -147,4 +147,4 @@ NumberPlace p n r = r ≡ placeIn p n (servedNumbers p)
 
 -- what `service_slot` promises: the place of the service among those subscribed; how many there are where it is none of them
 abbrev pub ServiceSlot : Profile → ℕ → ℕ → Type 0
-ServiceSlot p service r = r ≡ placeOf service (offered p)
+ServiceSlot p service r = r ≡ placeOf service (subscribedServices p)

@@ -6,9 +6,9 @@ use Rattle.laws.proofs.Picks.{both}
 use Rattle.numbers.specs.declared.address.Address.{Address}
 use Rattle.profile.specs.declared.profile.Profile.{Profile}
 use Rattle.lists.specs.declared.entries.Entries.{Entries}
-use Rattle.store.specs.Row.{Instances, CountWith, ActiveOf, PutIn, ClearIn, InstanceAt}
+use Rattle.store.specs.Row.{Instances, CountWith, ActiveOf, PutIn, ClearIn, HeldAt}
 use Rattle.store.specs.Grid.{FreshGrid, RowsGood, EntriesIn}
-use Rattle.store.specs.declared.row.Instance.{Instance}
+use Rattle.store.specs.declared.row.Held.{Held}
 use Rattle.store.specs.declared.row.Places.{Places}
 use Rattle.store.specs.declared.row.Row.{Row}
 use Rattle.store.specs.declared.grid.Grid.{Grid}
@@ -26,8 +26,8 @@ only-put w address row = both
 pub only-clear : (w : Places) (row : Row) {a b : Row} → ClearIn w row a → ClearIn w row b → a ≡ b
 only-clear w row = both
 
-pub only-instance-at : (row : Row) (j : ℕ) {a b : Instance} → InstanceAt row j a → InstanceAt row j b → a ≡ b
-only-instance-at row j = both
+pub only-held-at : (row : Row) (j : ℕ) {a b : Held} → HeldAt row j a → HeldAt row j b → a ≡ b
+only-held-at row j = both
 
 pub only-entries :
     (p : Profile) (procedure : ℕ) (w : Places) (row : Row) {a b : Entries} → EntriesIn p procedure w row a →

@@ -15,7 +15,7 @@ use Rattle.groups.specs.declared.groups.Groups.{Groups}
 use Rattle.groups.specs.declared.groups.Groups.the-variants as groups
 use Rattle.numbers.specs.Number.{unknown, numberOf}
 use Rattle.numbers.specs.Address.{subOf, forwardedOf}
-use Rattle.lists.specs.Entries.{limit, entriesFrom}
+use Rattle.lists.specs.Entries.{instancesMost, entriesFrom}
 use Rattle.lists.specs.declared.entry.Entry.{Entry}
 use Rattle.answers.specs.Answer.{answerOctets}
 use Rattle.answers.specs.Reply.{reply}
@@ -32,7 +32,7 @@ use Rattle.listings.specs.Listing.{listingMost, listedSheet, printedSheet}
 use Rattle.nightly.specs.Record.{wroteSheet}
 use Rattle.calls.specs.Divert.{Told, refuses, passes, diverts, comes}
 use Rattle.requests.specs.Heard.{local, heard}
-use Rattle.requests.specs.Request.{activation, interrogation, allNumbers, nowhere, requestOf, argumentAt}
+use Rattle.requests.specs.Request.{activation, interrogation, allNumbers, noForwarded, requestOf, argumentAt}
 use Rattle.requests.specs.Sent.{requestOctets}
 use Rattle.answers.specs.declared.answer.Answer.{Answer}
 use Rattle.answers.specs.declared.answer.Answer.the-variants as answer
@@ -70,7 +70,7 @@ Says (asks operation s at r) = argumentAt (local (pos operation)) s at (length s
 Says (sends identifier operation r s) = requestOctets identifier operation r ≡ s
 Says (answers a es s) = answerOctets a es ≡ s
 Says (told identifier operation s r) = reply identifier operation s ≡ r
-Says (lists-entries s at end es) = entriesFrom limit s at end ≡ got es end
+Says (lists-entries s at end es) = entriesFrom instancesMost s at end ≡ got es end
 Says (arrives access t s reply next) =
     (done access t s outputLeast .octets ≡ reply) × (done access t s outputLeast .table ≡ next)
 Says (diverts-to access t s is counter option) =
@@ -98,7 +98,7 @@ freshOctets =
     0xA2 ∷ 0x0A ∷ 0x02 ∷ 0x01 ∷ 0x01 ∷ 0x30 ∷ 0x05 ∷ 0x02 ∷ 0x01 ∷ 0x0B ∷ 0x31 ∷ 0x00 ∷ []
 
 abbrev pub interrogationOfCfb : Request
-interrogationOfCfb = requestOf 1 0 nowhere allNumbers
+interrogationOfCfb = requestOf 1 0 noForwarded allNumbers
 
 abbrev pub activationOfCfb : Request
 activationOfCfb =
@@ -197,7 +197,7 @@ samples =
     ∷ arrives sampleAccess freshTable otherOctets
     (0xA3 ∷ 0x06 ∷ 0x02 ∷ 0x01 ∷ 0x01 ∷ 0x02 ∷ 0x01 ∷ 0x00 ∷ []) (withLast 1 freshTable)
     ∷ arrives sampleAccess freshTable [] (0xA4 ∷ 0x05 ∷ 0x05 ∷ 0x00 ∷ 0x80 ∷ 0x01 ∷ 0x02 ∷ []) freshTable
-    -- "counter 4, limit 5: diverted, counter 5"; "counter 5: refusal 6; no instance: not diverted"
+    -- "counter 4, instancesMost 5: diverted, counter 5"; "counter 5: refusal 6; no instance: not diverted"
     ∷ diverts-to sampleAccess activatedTable (callWith 4 0) (diverts 2 0) 5 0
     ∷ diverts-to sampleAccess activatedTable (callWith 5 0) (refuses 6) 0 0
     ∷ diverts-to sampleAccess freshTable (callWith 5 0) passes 0 0

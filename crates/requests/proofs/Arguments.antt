@@ -17,7 +17,7 @@ use Rattle.octets.specs.Element.{element}
 use Rattle.values.specs.Enumerated.{enumeratedTag, enumeratedOctets}
 use Rattle.octets.specs.declared.head.Head.{Head}
 use Rattle.octets.specs.declared.head.Head.the-variants as head
-use Rattle.octets.proofs.Elements.{element-first, Inside, inside}
+use Rattle.octets.proofs.Elements.{element-first, Inside, inside-element}
 use Rattle.values.proofs.Enumerateds.{enumerated-back, length-enumerated}
 use Rattle.skip.proofs.Skips.{fills-past}
 use Rattle.codes.specs.Codes.{procedureCode, serviceCode}
@@ -26,7 +26,7 @@ use Rattle.numbers.specs.declared.number.Number.{Number}
 use Rattle.numbers.specs.declared.address.Forwarded.{Forwarded}
 use Rattle.numbers.proofs.Trips.{NotNull, number-not-null, number-back, address-back}
 use Rattle.requests.specs.Heard.{argumentDepth, insideDepth, local}
-use Rattle.requests.specs.Request.{activation, deactivation, interrogation, codeAt, serviceAt, individual, allNumbers, servedIn, servedAt, privateAt, privates, nowhere, requestOf, lastIn, activationIn, deactivationIn, interrogationIn, contentsIn, argumentAt}
+use Rattle.requests.specs.Request.{activation, deactivation, interrogation, codeAt, serviceAt, individual, allNumbers, servedIn, servedAt, privateAt, privates, noForwarded, requestOf, lastIn, activationIn, deactivationIn, interrogationIn, contentsIn, argumentAt}
 use Rattle.requests.specs.Sent.{servedGood, sendable, servedOctets, toOctets, contentsOctets, tidyServed, tidyRequest}
 use Rattle.requests.specs.declared.request.Served.{Served}
 use Rattle.requests.specs.declared.request.Request.{Request}
@@ -84,7 +84,7 @@ served-back depth v s at end deep h st fit in-s =
     let o = all-octets v e in
     rw (o, e)
     (null-in depth s at end
-    (inside depth s at end 0x05 [] (λ z. omega arith) (λ z. omega arith) (omega arith) (rw o at st) (rw o at fit) in-s)))
+    (inside-element depth s at end 0x05 [] (λ z. omega arith) (λ z. omega arith) (omega arith) (rw o at st) (rw o at fit) in-s)))
     (λ p.
     let o = one-octets v (λ e. omega (arith, p .0)) in
     rw (o, p .0)
@@ -154,12 +154,12 @@ laid operation r s at end g st fit in-s =
 -- where no address is written, the served number follows the codes
 last-here :
     (operation : ℕ) (r : Request) (s : List ℕ) (at end : ℕ) → (operation ≡ activation → ⊥) → Laid operation r s at end →
-    lastIn (r .procedure) (r .service) nowhere s (at + 6) end
-    ≡ got (requestOf (r .procedure) (r .service) nowhere (tidyServed (r .served))) end
+    lastIn (r .procedure) (r .service) noForwarded s (at + 6) end
+    ≡ got (requestOf (r .procedure) (r .service) noForwarded (tidyServed (r .served))) end
 last-here operation r s at end other l =
     let here : at + 6 + length (toOctets operation (r .to)) ≡ at + 6 =
     omega (arith, ap length (to-none operation (r .to) other)) in
-    rw here at (l .last nowhere)
+    rw here at (l .last noForwarded)
 
 -- the contents of each operation's argument
 contents-laid :
@@ -226,5 +226,5 @@ pub argument-back :
 argument-back operation r s at end h st fit in-s =
     let most = contents-most operation r h in
     argument-in operation r s at end h fit in-s
-    (inside insideDepth s at end 0x30 (contentsOctets operation r) (λ e. omega arith) (λ e. omega arith) (omega arith) st
+    (inside-element insideDepth s at end 0x30 (contentsOctets operation r) (λ e. omega arith) (λ e. omega arith) (omega arith) st
     (omega arith) in-s)

@@ -15,7 +15,7 @@ use borrow.Author.Tests.{ltb-true}
 use Rattle.laws.specs.Got.{Got, got, wrong}
 use Rattle.laws.proofs.Picks.{pick-ind}
 use Rattle.octets.specs.Head.{headAt}
-use Rattle.skip.specs.Skip.{onward, skipDepth}
+use Rattle.skip.specs.Skip.{afterSkip, skipDepth}
 use Rattle.values.specs.declared.enumerated.Enumerated.{Enumerated}
 use Rattle.values.specs.declared.enumerated.Enumerated.the-variants as enumerated
 use Rattle.values.proofs.Signs.{positive}
@@ -65,7 +65,7 @@ privates-past s at end le = fills-past (λ a. privateAt s a end) at end le
 -- where something is left, there is one private element, and then what is left after it
 pub privates-step :
     (s : List ℕ) (at end : ℕ) → at < end →
-    privates s at end ≡ onward (λ next. privates s next end) (privateAt s at end)
+    privates s at end ≡ afterSkip (λ next. privates s next end) (privateAt s at end)
 unfolding privates
 privates-step s at end lt = fills-step (λ a. privateAt s a end) end (λ a. private-further s a end) at lt
 

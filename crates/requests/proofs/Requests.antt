@@ -9,7 +9,7 @@ use lib.Signed.{mag}
 use lib.Dec.{leb, eqb}
 use borrow.Author.Tests.{eqb-false, ltb-true}
 use Rattle.laws.specs.Got.{Got, got}
-use Rattle.laws.proofs.Gots.{Found, found-then, found-is}
+use Rattle.laws.proofs.Gots.{Something, found-then, found-is}
 use Rattle.laws.proofs.Picks.{pick-ind}
 use Rattle.values.specs.Enumerated.{enumeratedTag, enumeratedAt}
 use Rattle.octets.specs.Head.{headAt}
@@ -22,7 +22,7 @@ use Rattle.numbers.specs.declared.address.Forwarded.{Forwarded}
 use Rattle.numbers.proofs.Goods.{ToUnless, address-read}
 use Rattle.codes.proofs.Tables.{procedure-code, service-all}
 use Rattle.requests.specs.Heard.{argumentDepth, insideDepth}
-use Rattle.requests.specs.Request.{activation, deactivation, interrogation, codeAt, serviceAt, servedAt, nowhere, privates, lastIn, activationIn, deactivationIn, interrogationIn, contentsIn, argumentOf, localAt, argumentAt}
+use Rattle.requests.specs.Request.{activation, deactivation, interrogation, codeAt, serviceAt, servedAt, noForwarded, privates, lastIn, activationIn, deactivationIn, interrogationIn, contentsIn, argumentOf, localAt, argumentAt}
 use Rattle.requests.specs.declared.heard.Operation.{Operation}
 use Rattle.requests.specs.declared.request.Request.{Request}
 
@@ -38,16 +38,16 @@ abbrev In : (ℕ → Bool) → ℕ → Type 0
 In good code = good code ≡ true
 
 code-read :
-    (good : ℕ → Bool) (depth : ℕ) (s : List ℕ) (at end : ℕ) → Found (In good) (codeAt good depth s at end)
+    (good : ℕ → Bool) (depth : ℕ) (s : List ℕ) (at end : ℕ) → Something (In good) (codeAt good depth s at end)
 unfolding codeAt
 code-read good depth s at end =
     found-then (In good) (valueOf (enumeratedAt depth s at end)) _ (λ code place _.
-    pick-ind (Found (In good)) (good code) (λ e. e) (λ _. tt))
+    pick-ind (Something (In good)) (good code) (λ e. e) (λ _. tt))
 
-service-read : (depth : ℕ) (s : List ℕ) (at end : ℕ) → Found (In serviceCode) (serviceAt depth s at end)
+service-read : (depth : ℕ) (s : List ℕ) (at end : ℕ) → Something (In serviceCode) (serviceAt depth s at end)
 unfolding serviceAt
 service-read depth s at end =
-    let P : Got ℕ → Type 0 = Found (In serviceCode) in
+    let P : Got ℕ → Type 0 = Something (In serviceCode) in
     pick-ind P (leb end at) (λ _. service-all) (λ _.
     pick-ind P (eqb (getD s at 0) enumeratedTag) (λ _. code-read serviceCode depth s at end) (λ _. service-all))
 
@@ -55,7 +55,7 @@ service-read depth s at end =
 
 module _ (operation : ℤ) (s : List ℕ) where
   abbrev Read : Got Request → Type 0
-  Read g = Found (ReadRequest operation) g
+  Read g = Something (ReadRequest operation) g
 
   last-read :
       (procedure service : ℕ) (to : Forwarded) (at end : ℕ) → procedureCode procedure ≡ true → serviceCode service ≡ true →
@@ -90,7 +90,7 @@ module _ (operation : ℤ) (s : List ℕ) where
     deactivation-read at end =
         found-then (ReadRequest operation) (codeAt procedureCode argumentDepth s at end) _ (λ procedure p e.
         found-then (ReadRequest operation) (codeAt serviceCode argumentDepth s p end) _ (λ service q f.
-        last-read procedure service nowhere q end
+        last-read procedure service noForwarded q end
         (found-is (In procedureCode) e (code-read procedureCode argumentDepth s at end))
         (found-is (In serviceCode) f (code-read serviceCode argumentDepth s p end))
         (λ h. absurd (not h))))
@@ -100,31 +100,31 @@ module _ (operation : ℤ) (s : List ℕ) where
     interrogation-read at end =
         found-then (ReadRequest operation) (codeAt procedureCode argumentDepth s at end) _ (λ procedure p e.
         found-then (ReadRequest operation) (serviceAt argumentDepth s p end) _ (λ service q f.
-        last-read procedure service nowhere q end
+        last-read procedure service noForwarded q end
         (found-is (In procedureCode) e (code-read procedureCode argumentDepth s at end))
         (found-is (In serviceCode) f (service-read argumentDepth s p end))
         (λ h. absurd (not h))))
 
 contents-read :
-    (operation : ℕ) (s : List ℕ) (at end : ℕ) → Found (ReadRequest (pos operation)) (contentsIn operation s at end)
+    (operation : ℕ) (s : List ℕ) (at end : ℕ) → Something (ReadRequest (pos operation)) (contentsIn operation s at end)
 unfolding contentsIn
 contents-read operation s at end =
-    let P : Got Request → Type 0 = Found (ReadRequest (pos operation)) in
+    let P : Got Request → Type 0 = Something (ReadRequest (pos operation)) in
     pick-ind P (eqb operation activation) (λ _. activation-read (pos operation) s at end) (λ other.
     let not : pos operation ≡ pos activation → ⊥ = λ e. eqb-false operation activation other (ap mag e) in
     pick-ind P (eqb operation deactivation) (λ _. deactivation-read (pos operation) s not at end) (λ _.
     pick-ind P (eqb operation interrogation) (λ _. interrogation-read (pos operation) s not at end) (λ _. tt)))
 
 argument-of-read :
-    (operation : ℕ) (s : List ℕ) (end : ℕ) (h : Head) → Found (ReadRequest (pos operation)) (argumentOf operation s end h)
+    (operation : ℕ) (s : List ℕ) (end : ℕ) (h : Head) → Something (ReadRequest (pos operation)) (argumentOf operation s end h)
 argument-of-read operation s end (head.Is tag start stop next) =
-    let P : Got Request → Type 0 = Found (ReadRequest (pos operation)) in
+    let P : Got Request → Type 0 = Something (ReadRequest (pos operation)) in
     pick-ind P (eqb tag 0x30)
     (λ _. pick-ind P (eqb next end) (λ _. contents-read operation s start stop) (λ _. tt))
     (λ _. tt)
 argument-of-read operation s end head.Bad = tt
 
-local-read : (s : List ℕ) (at end : ℕ) (operation : ℤ) → Found (ReadRequest operation) (localAt s at end operation)
+local-read : (s : List ℕ) (at end : ℕ) (operation : ℤ) → Something (ReadRequest operation) (localAt s at end operation)
 local-read s at end (pos operation) = argument-of-read operation s end (headAt insideDepth s at end)
 local-read s at end (negsuc n) = tt
 

@@ -16,7 +16,7 @@ use Rattle.octets.proofs.Elements.{headed, room-headed}
 use Rattle.requests.specs.Sent.{sendable, servedOctets, toOctets, contentsOctets, requestOctets}
 use Rattle.requests.specs.declared.request.Request.{Request}
 use Rattle.requests.proofs.Sizes.{componentOctets, request-octets}
-use Rattle.requests.specs.Sending.{sends, PutRequest}
+use Rattle.requests.specs.Sending.{isSent, PutRequest}
 
 -- ---- the argument's contents
 
@@ -66,14 +66,14 @@ module _ (identifier : ℤ) (operation : ℕ) (r : Request) {xs : List ℕ} {ins
 module _ (xs : List ℕ) (identifier : ℤ) (operation : ℕ) (r : Request) where
   -- the end may not send it
   pub not-sendable : sendable operation r ≡ false → PutRequest xs identifier operation r 0 xs
-  unfolding sends
+  unfolding isSent
   not-sendable no-request = record { counted = rw no-request; holds = rw no-request }
 
   -- there is no room
   pub not-room :
       sendable operation r ≡ true → length xs < length (requestOctets identifier operation r) →
       PutRequest xs identifier operation r 0 xs
-  unfolding sends
+  unfolding isSent
   not-room good short =
       let none = room-false xs 0 (requestOctets identifier operation r) (omega arith) in
       record { counted = rw (good, none); holds = rw (good, none) }
@@ -84,7 +84,7 @@ module _ (xs : List ℕ) (identifier : ℤ) (operation : ℕ) (r : Request) wher
       length (requestOctets identifier operation r) ≤ length xs →
       Wrote xs 0 (requestOctets identifier operation r) n ys →
       PutRequest xs identifier operation r n ys
-  unfolding sends
+  unfolding isSent
   is-sent good fits w =
       let all = room-true xs 0 (requestOctets identifier operation r) (omega arith) in
       record { counted = rw (good, all) (w .moved ∙ zero-add _); holds = rw (good, all) (w .holds) }

@@ -12,25 +12,25 @@ use Rattle.laws.proofs.Picks.{pick-then, pick-first}
 use Rattle.laws.proofs.Over.{take-over, room-fits}
 use Rattle.requests.specs.Sent.{sendable, requestOctets}
 use Rattle.requests.specs.declared.request.Request.{Request}
-use Rattle.requests.specs.Sending.{sends, PutRequest}
+use Rattle.requests.specs.Sending.{isSent, PutRequest}
 
 -- where octets were put into the output, the request may be sent and there was room for it
 pub sent-some :
     {xs ys : List ℕ} {identifier : ℤ} {operation count : ℕ} {r : Request} →
     PutRequest xs identifier operation r count ys → (count ≡ 0 → ⊥) →
     (sendable operation r ≡ true) × (room xs 0 (requestOctets identifier operation r) ≡ true)
-unfolding sends
+unfolding isSent
 sent-some {xs} {ys} {identifier} {operation} {count} {r} put some =
     let ws : List ℕ = requestOctets identifier operation r in
     pick-then (sendable operation r) (room xs 0 ws)
-    (pick-first (sends xs identifier operation r) (length ws) 0 (λ e. some (put .counted ∙ e)))
+    (pick-first (isSent xs identifier operation r) (length ws) 0 (λ e. some (put .counted ∙ e)))
 
 -- and the octets that were put there are those of the request
 pub sent-back :
     {xs ys : List ℕ} {identifier : ℤ} {operation count : ℕ} {r : Request} →
     PutRequest xs identifier operation r count ys → (count ≡ 0 → ⊥) →
     take count ys ≡ requestOctets identifier operation r
-unfolding sends
+unfolding isSent
 sent-back {xs} {ys} {identifier} {operation} {count} {r} put some =
     let ws : List ℕ = requestOctets identifier operation r in
     let sent = sent-some put some in

@@ -14,7 +14,7 @@ use Rattle.laws.specs.Stands.{Stands}
 use Rattle.laws.proofs.Stands.{stands-whole, stands-left, stands-right}
 use Rattle.octets.specs.Element.{element}
 use Rattle.values.specs.Ident.{identOctets}
-use Rattle.octets.proofs.Elements.{Inside, inside}
+use Rattle.octets.proofs.Elements.{Inside, inside-element}
 use Rattle.values.proofs.Idents.{ident-back}
 use Rattle.requests.specs.Heard.{insideDepth, componentDepth, replyTag, local, operationAt, identifierAt, heard}
 use Rattle.requests.specs.Request.{argumentAt}
@@ -73,7 +73,7 @@ unfolding requestOctets
 heard-back identifier operation r s range h st fit =
     let most = inside-most identifier operation r range h in
     heard-in identifier operation r s range h
-    (inside componentDepth s 0 (length s) 0xA1 (componentOctets identifier operation r) (λ e. omega arith) (λ e. omega arith)
+    (inside-element componentDepth s 0 (length s) 0xA1 (componentOctets identifier operation r) (λ e. omega arith) (λ e. omega arith)
     (omega arith) st (omega arith) (omega arith))
     fit
 

@@ -76,8 +76,8 @@ unfoldable pub privates : List ℕ → ℕ → ℕ → Bool
 privates s at end = fills (λ a. privateAt s a end) (end - at) at end
 
 -- no forwarded-to address
-abbrev pub nowhere : Forwarded
-nowhere = forwardedOf (numberOf 0 0 []) (subOf [])
+abbrev pub noForwarded : Forwarded
+noForwarded = forwardedOf (numberOf 0 0 []) (subOf [])
 
 abbrev pub requestOf : ℕ → ℕ → Forwarded → Served → Request
 requestOf procedure service to served = record { procedure = procedure; service = service; served = served; to = to }
@@ -99,13 +99,13 @@ activationIn s at end =
 unfoldable pub deactivationIn : List ℕ → ℕ → ℕ → Got Request
 deactivationIn s at end =
     andThen (codeAt procedureCode argumentDepth s at end) (λ procedure p.
-    andThen (codeAt serviceCode argumentDepth s p end) (λ service q. lastIn procedure service nowhere s q end))
+    andThen (codeAt serviceCode argumentDepth s p end) (λ service q. lastIn procedure service noForwarded s q end))
 
 -- "procedure, basicService DEFAULT allServices, servedUserNr"
 unfoldable pub interrogationIn : List ℕ → ℕ → ℕ → Got Request
 interrogationIn s at end =
     andThen (codeAt procedureCode argumentDepth s at end) (λ procedure p.
-    andThen (serviceAt argumentDepth s p end) (λ service q. lastIn procedure service nowhere s q end))
+    andThen (serviceAt argumentDepth s p end) (λ service q. lastIn procedure service noForwarded s q end))
 
 -- the argument's contents, by its operation
 unfoldable pub contentsIn : ℕ → List ℕ → ℕ → ℕ → Got Request
@@ -131,7 +131,7 @@ argumentAt operation s at end = localAt s at end (operation .value)
 -- what a reader answers
 abbrev pub requestRead : Got Request → RequestRead
 requestRead (got request next) = record { ok = true; request = request }
-requestRead wrong = record { ok = false; request = requestOf 0 0 nowhere (individual (numberOf 0 0 [])) }
+requestRead wrong = record { ok = false; request = requestOf 0 0 noForwarded (individual (numberOf 0 0 [])) }
 
 -- what `argument_at` promises
 abbrev pub ArgumentAt : Operation → List ℕ → ℕ → ℕ → RequestRead → Type 0

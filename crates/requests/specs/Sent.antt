@@ -14,7 +14,7 @@ use Rattle.codes.specs.Codes.{procedureCode, serviceCode}
 use Rattle.numbers.specs.Number.{tidyNumber, numberGood, numberOctets}
 use Rattle.numbers.specs.Address.{tidyAddress, addressGood, addressOctets}
 use Rattle.numbers.specs.declared.address.Forwarded.{Forwarded}
-use Rattle.requests.specs.Request.{activation, deactivation, interrogation, individual, allNumbers, nowhere, requestOf}
+use Rattle.requests.specs.Request.{activation, deactivation, interrogation, individual, allNumbers, noForwarded, requestOf}
 use Rattle.requests.specs.declared.request.Served.{Served}
 use Rattle.requests.specs.declared.request.Request.{Request}
 
@@ -64,7 +64,7 @@ abbrev pub tidyServed : Served → Served
 tidyServed served = pick (eqb (served .all) 1) allNumbers (individual (tidyNumber (served .number)))
 
 abbrev pub tidyTo : ℕ → Forwarded → Forwarded
-tidyTo operation to = pick (eqb operation activation) (record { address = tidyAddress (to .address); user = 0 }) nowhere
+tidyTo operation to = pick (eqb operation activation) (record { address = tidyAddress (to .address); user = 0 }) noForwarded
 
 abbrev pub tidyRequest : ℕ → Request → Request
 tidyRequest operation r = requestOf (r .procedure) (r .service) (tidyTo operation (r .to)) (tidyServed (r .served))

@@ -6,7 +6,7 @@ ghost use mathlib.Core.Path.{_≡_};
 ghost use mathlib.Core.List.{[]};
 ghost use Rattle.laws.specs.Got.{wrong};
 ghost use Rattle.numbers.specs.Number.{numberOf};
-ghost use Rattle.requests.specs.Request.{nowhere, servedRead, requestRead};
+ghost use Rattle.requests.specs.Request.{noForwarded, servedRead, requestRead};
 
 // A served user number: all of them where `all` is 1, and then the number carries no meaning.
 #[repr(C)]
@@ -51,7 +51,7 @@ pub(crate) fn blank() -> Number
 
 // The forwarded-to address of a request that has none.
 pub(crate) fn to_nowhere() -> Forwarded
-    ensures { λ r. ⌜ r ≡ nowhere ⌝ }
+    ensures { λ r. ⌜ r ≡ noForwarded ⌝ }
 {
     let number = blank();
     Forwarded {

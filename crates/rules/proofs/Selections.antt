@@ -16,7 +16,7 @@ use Rattle.laws.specs.Places.{eachFrom}
 use Rattle.laws.proofs.Over.{over-nil, over-cons, length-over}
 use Rattle.laws.proofs.Each.{getD-each, length-each, each-all}
 use Rattle.laws.proofs.Picks.{pick-ind, pick-then, pick-first}
-use Rattle.profile.specs.Profile.{numbersMost, servicesMost, servedNumbers, offered, placeIn, rising}
+use Rattle.profile.specs.Profile.{numbersMost, servicesMost, servedNumbers, subscribedServices, placeIn, rising}
 use Rattle.profile.specs.declared.profile.Profile.{Profile}
 use Rattle.profile.proofs.Profiles.{place-most, rising-above}
 use Rattle.requests.specs.declared.request.Served.{Served}
@@ -213,15 +213,15 @@ module _ (p : Profile) (r : Request) where
       (ltb-true _ _ (a .0), ltb-true _ _ (pick-then slot chosen (a .1) .0))
 
   pub places-good :
-      rising 0 (offered p) ≡ true → length (p .services) ≡ servicesMost →
+      rising 0 (subscribedServices p) ≡ true → length (p .services) ≡ servicesMost →
       (j : ℕ) → j < places → selects p r j ≡ true →
       Selected j
   places-good rises long j h chosen =
       let slot : ℕ = j % servicesMost in
       let has = known j chosen in
-      let counted : slot < length (offered p) = omega (arith, has .1, length-take (p .servicecount) (p .services)) in
+      let counted : slot < length (subscribedServices p) = omega (arith, has .1, length-take (p .servicecount) (p .services)) in
       let above : 0 < getD (p .services) slot 0 =
-      rw (getD-take (p .servicecount) (p .services) slot 0 (has .1)) at (rising-above 0 (offered p) slot rises counted) in
+      rw (getD-take (p .servicecount) (p .services) slot 0 (has .1)) at (rising-above 0 (subscribedServices p) slot rises counted) in
       let code : getD (placesOf p r .codes) j 0 ≡ getD (p .services) slot 0 = rw (code-places j h, chosen) in
       record { number = has .0; service = has .1; code = code; some = λ none. omega (arith, above, code, none) }
 
@@ -232,7 +232,7 @@ module _ (p : Profile) (r : Request) where
 
   -- so a place is marked exactly if it is selected
   pub selected-selects :
-      rising 0 (offered p) ≡ true → length (p .services) ≡ servicesMost →
+      rising 0 (subscribedServices p) ≡ true → length (p .services) ≡ servicesMost →
       (j : ℕ) → j < places → selected (placesOf p r) j ≡ selects p r j
   selected-selects rises long j h =
       pick-ind (λ (_ : Bool). selected (placesOf p r) j ≡ selects p r j) (selects p r j) {x = true} {y = true}

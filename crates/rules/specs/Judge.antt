@@ -10,12 +10,12 @@ use Rattle.laws.specs.Pick.{pick}
 use Rattle.codes.specs.Codes.{placeOf}
 use Rattle.numbers.specs.Number.{public, other, digitsOf}
 use Rattle.numbers.specs.declared.number.Number.{Number}
-use Rattle.profile.specs.Profile.{servedNumbers, offered, barred, same, placeIn}
+use Rattle.profile.specs.Profile.{servedNumbers, subscribedServices, barred, same, placeIn}
 use Rattle.rules.specs.Prefix.{beginsAny}
 use Rattle.profile.specs.declared.profile.Profile.{Profile}
 use Rattle.requests.specs.Request.{activation, deactivation}
 use Rattle.requests.specs.declared.request.Request.{Request}
-use Rattle.lists.specs.Entries.{limit}
+use Rattle.lists.specs.Entries.{instancesMost}
 use Rattle.store.specs.Row.{countWith, activeOf, putIn, clearIn}
 use Rattle.store.specs.declared.row.Places.{Places}
 use Rattle.store.specs.declared.row.Row.{Row}
@@ -62,7 +62,7 @@ servedInvalid p r =
 -- "service given but not subscribed"
 unfoldable pub notProvided : Profile → Request → Bool
 notProvided p r =
-    pick (eqb (r .service) 0) false (leb (p .servicecount) (placeOf (r .service) (offered p)))
+    pick (eqb (r .service) 0) false (leb (p .servicecount) (placeOf (r .service) (subscribedServices p)))
 
 -- "user-specified subaddress"
 abbrev pub userSpecified : Request → Bool
@@ -81,7 +81,7 @@ selectedSame p r from (n ∷ ns) =
     pick (pick (numberChosen p (r .served) from) (same p n (r .to .address .number)) false) true
     (selectedSame p r (1 + from) ns)
 
--- "more than 8 instances of the procedure afterwards": whether so many fit, over the limit
+-- "more than 8 instances of the procedure afterwards": whether so many fit, over the instancesMost
 unfoldable pub fits : ℕ → Profile → ℕ → Bool
 fits most p count = leb count most
 
@@ -123,7 +123,7 @@ applied operation r w row =
 
 -- what `judge_request` promises
 abbrev pub JudgeRequest : Profile → ℕ → Request → Places → Row → Verdict → Type 0
-JudgeRequest p operation r w row v = v ≡ judge limit p operation r w row
+JudgeRequest p operation r w row v = v ≡ judge instancesMost p operation r w row
 
 -- what `apply_request` promises
 abbrev pub ApplyRequest : ℕ → Request → Places → Row → Row → Type 0

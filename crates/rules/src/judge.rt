@@ -14,7 +14,7 @@ use requests::Request;
 use store::Places;
 use store::Row;
 ghost use mathlib.Core.Path.{_≡_};
-ghost use Rattle.lists.specs.Entries.{limit};
+ghost use Rattle.lists.specs.Entries.{instancesMost};
 ghost use Rattle.rules.specs.Judge.{isSubscribed, first, everyTests, activationTests, deactivationTests, JudgeRequest, ApplyRequest};
 
 // Whether the profile has the procedure.
@@ -45,7 +45,7 @@ fn judge_every(p: Profile, r: Request) -> Verdict
 }
 
 fn judge_activation(p: Profile, r: Request, w: Places, row: Row) -> Verdict
-    ensures { λ v. ⌜ v ≡ first (activationTests limit p r w row) ⌝ }
+    ensures { λ v. ⌜ v ≡ first (activationTests instancesMost p r w row) ⌝ }
 {
     if not_provided(p, r) {
         return Verdict::Fails { error: 8 };

@@ -5,7 +5,7 @@ use mathlib.Core.List.{List, []}
 use lib.IntN.{ℤ}
 use Rattle.laws.specs.Got.{Got, got, wrong}
 use Rattle.requests.specs.Request.{interrogation}
-use Rattle.lists.specs.Entries.{limit, entriesOf, entriesFrom}
+use Rattle.lists.specs.Entries.{instancesMost, entriesOf, entriesFrom}
 use Rattle.lists.specs.declared.entry.Entry.{Entry}
 use Rattle.answers.specs.Reply.{reply}
 use Rattle.answers.specs.declared.reply.Reply.{Reply}
@@ -25,7 +25,7 @@ toldOf s Dropped = nothingTold
 toldOf s Rejected = nothingTold
 toldOf s (Failed value) = nothingTold
 toldOf s Done = nothingTold
-toldOf s (Listed at end) = toldEntries (entriesFrom limit s at end)
+toldOf s (Listed at end) = toldEntries (entriesFrom instancesMost s at end)
 toldOf s Wrong = nothingTold
 
 -- what `sconcetoad_list` promises

@@ -23,13 +23,13 @@ use Rattle.numbers.specs.declared.address.Address.{Address}
 use Rattle.forms.specs.Order.{follows}
 use Rattle.forms.specs.declared.form.Form.{Form}
 use Rattle.forms.specs.declared.instance.Instance.{Instance}
-use Rattle.sheet.specs.Instance.{allGroups, digitOf, addressOf, addressFields, instanceFields, fieldOf, fieldAt, fieldsAt, kindGood, addressIn, serviceOf, instanceAt}
+use Rattle.sheet.specs.Instance.{allGroups, digitOf, addressOf, addressFields, instanceFields, fieldOf, fieldAt, fieldsAt, kindGood, addressFrom, serviceOf, instanceFrom}
 use Rattle.sheet.specs.Sheet.{Sheet, runOf, instancesFrom, instancesOctets, noInstance, sheetOctets, sheetIn}
 use Rattle.sheet.proofs.Parts.{FoundAt, found-at-then, found-at-is}
 use Rattle.sheet.proofs.Fields.{Passing, field-passes, fields-passing}
 use Rattle.sheet.proofs.Sizes.{sheet-octets}
 use Rattle.sheet.proofs.Sheets.{instances-count}
-use Rattle.sheet.proofs.Trips.{groups-none, groups-more, groups-both, kept}
+use Rattle.sheet.proofs.Trips.{groups-none, groups-more, groups-both, kept-fields}
 use Rattle.sheet.proofs.SheetTrips.{octets-none, octets-more}
 
 -- ---- what stands one after the other
@@ -111,14 +111,14 @@ made-fields :
     addressFields (addressOf form kind ds sub) ≡ form ∷ kind ∷ length ds ∷ ds ++ (length sub ∷ sub)
 made-fields form kind ds sub =
     let cs : List ℕ = map (λ d. 48 + d) ds in
-    rw (kept cs, kept sub, digits-back ds, length-map ds (λ d. 48 + d))
+    rw (kept-fields cs, kept-fields sub, digits-back ds, length-map ds (λ d. 48 + d))
 
 module _ (s : List ℕ) (small : (i : ℕ) → getD s i 0 < 256) where
   abbrev Of : ℕ → Address → ℕ → Type 0
   Of at a next = StandsTo s at (allGroups (addressFields a)) next
 
-  address-only : (at : ℕ) → FoundAt (Of at) (addressIn s at)
-  unfolding addressIn
+  address-only : (at : ℕ) → FoundAt (Of at) (addressFrom s at)
+  unfolding addressFrom
   address-only at =
       found-at-then (Of at) (fieldAt (λ form. ltb form 2) s at) _ (λ form p e.
       found-at-then (Of at) (fieldAt (kindGood form) s p) _ (λ kind q f.
@@ -147,13 +147,13 @@ module _ (s : List ℕ) (small : (i : ℕ) → getD s i 0 < 256) where
   abbrev Is : ℕ → Instance → ℕ → Type 0
   Is at i next = StandsTo s at (allGroups (instanceFields i)) next
 
-  instance-only : (form : Form) (at : ℕ) → FoundAt (Is at) (instanceAt form s at)
-  unfolding instanceAt
+  instance-only : (form : Form) (at : ℕ) → FoundAt (Is at) (instanceFrom form s at)
+  unfolding instanceFrom
   instance-only form at =
       found-at-then (Is at) (fieldAt (λ n. ltb n (form .procedures)) s at) _ (λ procedure p e.
       found-at-then (Is at) (fieldAt (λ n. ltb n (form .numbers)) s p) _ (λ number q f.
       found-at-then (Is at) (fieldAt serviceOf s q) _ (λ service a g.
-      found-at-then (Is at) (addressIn s a) _ (λ address next h.
+      found-at-then (Is at) (addressFrom s a) _ (λ address next h.
       let rest : List ℕ = addressFields address in
       cons-only s small at procedure p (number ∷ service ∷ rest) next
       (field-stands s small (λ n. ltb n (form .procedures)) at procedure p e)
@@ -169,7 +169,7 @@ module _ (s : List ℕ) (small : (i : ℕ) → getD s i 0 < 256) where
   unfolding instancesFrom
   instances-only form zero last run at = rw octets-none (nothing s at)
   instances-only form (suc n) last run at =
-      found-at-then (Are at) (instanceAt form s at) _ (λ k p e.
+      found-at-then (Are at) (instanceFrom form s at) _ (λ k p e.
       pick-ind (FoundAt (Are at)) (follows form last run k)
       (λ _.
       found-at-then (Are at) (instancesFrom form n k (runOf last run k) s p) _ (λ ks q f.

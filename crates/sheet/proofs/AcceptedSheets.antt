@@ -10,7 +10,7 @@ use lib.ListN.{length, replicate, length-append, length-map, length-replicate}
 use lib.Dec.{ltb, leb, eqb}
 use borrow.Author.Tests.{ne-eqb, eqb-true, eqb-false, leb-true}
 use Rattle.laws.specs.Pick.{pick}
-use Rattle.laws.proofs.Gots.{Found, found-then, found-is}
+use Rattle.laws.proofs.Gots.{Something, found-then, found-is}
 use Rattle.laws.proofs.Picks.{pick-ind}
 use Rattle.numbers.specs.Number.{most, padded, fair, numberOf}
 use Rattle.numbers.specs.Address.{subOf}
@@ -19,13 +19,13 @@ use Rattle.forms.specs.Form.{form1}
 use Rattle.forms.specs.Order.{before, follows}
 use Rattle.forms.specs.declared.instance.Instance.{Instance}
 use Rattle.forms.proofs.Orders.{before-earlier, before-not-later, follows-before}
-use Rattle.sheet.specs.Instance.{addressOf, fieldAt, fieldsAt, kindGood, addressIn, serviceOf, instanceAt}
+use Rattle.sheet.specs.Instance.{addressOf, fieldAt, fieldsAt, kindGood, addressFrom, serviceOf, instanceFrom}
 use Rattle.sheet.specs.Sheet.{Sheet, runOf, instancesFrom, noInstance, sheetIn}
 use Rattle.sheet.proofs.Fields.{AllPass, Passing, field-passes, below-small, fields-passing}
 use Rattle.sheet.proofs.Parts.{by-test}
 use Rattle.sheet.proofs.Readers.{characters, fair-good}
 use Rattle.sheet.proofs.Sheets.{run-most}
-use Rattle.sheet.proofs.Trips.{Held, Fits, kept}
+use Rattle.sheet.proofs.Trips.{Held, FieldsFit, kept-fields}
 use Rattle.sheet.proofs.SheetTrips.{Ascends, countOf, AllFit, Sheeted}
 
 -- ---- addresses
@@ -52,12 +52,12 @@ made-held form kind ds sub low type some digits few octets =
           (λ e. omega (arith, low, e));
       digits = long cs short;
       sub = long sub few;
-      octets = rw (kept sub) octets;
+      octets = rw (kept-fields sub) octets;
     }
 
 module _ (s : List ℕ) where
-  address-held : (at : ℕ) → Found Held (addressIn s at)
-  unfolding addressIn
+  address-held : (at : ℕ) → Something Held (addressFrom s at)
+  unfolding addressFrom
   address-held at =
       found-then Held (fieldAt (λ form. ltb form 2) s at) _ (λ form p e.
       found-then Held (fieldAt (kindGood form) s p) _ (λ kind q f.
@@ -76,13 +76,13 @@ module _ (s : List ℕ) where
 
   -- ---- instances
 
-  instance-fits : (at : ℕ) → Found Fits (instanceAt form1 s at)
-  unfolding instanceAt
+  instance-fits : (at : ℕ) → Something FieldsFit (instanceFrom form1 s at)
+  unfolding instanceFrom
   instance-fits at =
-      found-then Fits (fieldAt (λ n. ltb n 3) s at) _ (λ procedure p e.
-      found-then Fits (fieldAt (λ n. ltb n 4) s p) _ (λ number q f.
-      found-then Fits (fieldAt serviceOf s q) _ (λ service a g.
-      found-then Fits (addressIn s a) _ (λ address next h. record {
+      found-then FieldsFit (fieldAt (λ n. ltb n 3) s at) _ (λ procedure p e.
+      found-then FieldsFit (fieldAt (λ n. ltb n 4) s p) _ (λ number q f.
+      found-then FieldsFit (fieldAt serviceOf s q) _ (λ service a g.
+      found-then FieldsFit (addressFrom s a) _ (λ address next h. record {
         procedure = below-small s at 3 procedure p e;
         number = below-small s p 4 number q f;
         service = found-is (λ n. serviceOf n ≡ true) g (field-passes s q serviceOf);
@@ -111,7 +111,7 @@ after-none i run most = record {
 
 module _ (i : Instance) (run : ℕ) (k : Instance) (ks : List Instance) (begun : 1 ≤ run) (most : run ≤ 8) where
   after-same :
-      i .procedure ≡ k .procedure → before i k ≡ true → Fits k → After k (run + 1) ks → After i run (k ∷ ks)
+      i .procedure ≡ k .procedure → before i k ≡ true → FieldsFit k → After k (run + 1) ks → After i run (k ∷ ks)
   after-same same first fits rest = record {
     ascends = (first, rest .ascends);
     few = λ q. rw same
@@ -123,7 +123,7 @@ module _ (i : Instance) (run : ℕ) (k : Instance) (ks : List Instance) (begun :
   }
 
   after-other :
-      (i .procedure ≡ k .procedure → ⊥) → before i k ≡ true → Fits k → After k 1 ks → After i run (k ∷ ks)
+      (i .procedure ≡ k .procedure → ⊥) → before i k ≡ true → FieldsFit k → After k 1 ks → After i run (k ∷ ks)
   after-other apart first fits rest =
       let up : i .procedure < k .procedure =
       ⊎-elim (λ lt. lt) (λ same. absurd (apart (same .0))) (before-earlier i k first) in
@@ -138,7 +138,7 @@ module _ (i : Instance) (run : ℕ) (k : Instance) (ks : List Instance) (begun :
         each = (fits, rest .each);
       }
 
-  after-step : follows form1 i run k ≡ true → Fits k → After k (runOf i run k) ks → After i run (k ∷ ks)
+  after-step : follows form1 i run k ≡ true → FieldsFit k → After k (runOf i run k) ks → After i run (k ∷ ks)
   unfolding runOf
   after-step ok fits rest =
       let some : eqb run 0 ≡ false = ne-eqb run 0 (λ e. omega (arith, begun, e)) in
@@ -155,31 +155,31 @@ run-some i run k =
 
 module _ (s : List ℕ) where
   after-read :
-      (n : ℕ) (i : Instance) (run at : ℕ) → 1 ≤ run → run ≤ 8 → Found (After i run) (instancesFrom form1 n i run s at)
+      (n : ℕ) (i : Instance) (run at : ℕ) → 1 ≤ run → run ≤ 8 → Something (After i run) (instancesFrom form1 n i run s at)
   unfolding instancesFrom
   after-read zero i run at begun most = after-none i run most
   after-read (suc n) i run at begun most =
-      found-then (After i run) (instanceAt form1 s at) _ (λ k p e.
-      pick-ind (Found (After i run)) (follows form1 i run k)
+      found-then (After i run) (instanceFrom form1 s at) _ (λ k p e.
+      pick-ind (Something (After i run)) (follows form1 i run k)
       (λ ok.
       found-then (After i run) (instancesFrom form1 n k (runOf i run k) s p) _ (λ ks q f.
-      after-step i run k ks begun most ok (found-is Fits e (instance-fits s at))
+      after-step i run k ks begun most ok (found-is FieldsFit e (instance-fits s at))
       (found-is (After k (runOf i run k)) f (after-read n k (runOf i run k) p (run-some i run k) (run-most i run k ok)))))
       (λ _. tt))
 
-  sheeted-read : (n at : ℕ) → Found Sheeted (instancesFrom form1 n noInstance 0 s at)
+  sheeted-read : (n at : ℕ) → Something Sheeted (instancesFrom form1 n noInstance 0 s at)
   unfolding instancesFrom runOf
   sheeted-read zero at = record { ascends = tt; few = λ q. omega arith; each = tt }
   sheeted-read (suc n) at =
-      found-then Sheeted (instanceAt form1 s at) _ (λ k p e.
-      pick-ind (Found Sheeted) (follows form1 noInstance 0 k)
+      found-then Sheeted (instanceFrom form1 s at) _ (λ k p e.
+      pick-ind (Something Sheeted) (follows form1 noInstance 0 k)
       (λ _.
       found-then Sheeted (instancesFrom form1 n k 1 s p) _ (λ ks q f.
       let rest = found-is (After k 1) f (after-read n k 1 p (omega arith) (omega arith)) in
       record {
         ascends = rest .ascends;
         few = rest .few;
-        each = (found-is Fits e (instance-fits s at), rest .each);
+        each = (found-is FieldsFit e (instance-fits s at), rest .each);
       }))
       (λ _. tt))
 
@@ -188,14 +188,14 @@ module _ (s : List ℕ) where
 abbrev pub Allowed : Sheet → Type 0
 Allowed sheet = (sheet .last ≤ form1 .lastmost) × Sheeted (sheet .instances)
 
-pub sheet-allowed : (s : List ℕ) → Found Allowed (sheetIn form1 s)
+pub sheet-allowed : (s : List ℕ) → Something Allowed (sheetIn form1 s)
 unfolding sheetIn
 sheet-allowed s =
     found-then Allowed (fieldAt (eqb 1) s 0) _ (λ form p e.
     found-then Allowed (fieldAt (λ n. leb n 32767) s p) _ (λ last q f.
     found-then Allowed (fieldAt (λ n. true) s q) _ (λ count a g.
     found-then Allowed (instancesFrom form1 count noInstance 0 s a) _ (λ is next h.
-    pick-ind (Found Allowed) (eqb next (length s))
+    pick-ind (Something Allowed) (eqb next (length s))
     (λ _. (
       leb-true last 32767 (found-is (λ n. leb n 32767 ≡ true) f (field-passes s p (λ n. leb n 32767))),
       found-is Sheeted h (sheeted-read s count a),

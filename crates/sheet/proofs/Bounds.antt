@@ -8,7 +8,7 @@ use lib.ListN.{length-map}
 use lib.Dec.{ltb, leb, eqb}
 use borrow.Author.Tests.{eqb-true, leb-true}
 use Rattle.laws.specs.Pick.{pick}
-use Rattle.laws.proofs.Gots.{Found, found-then, found-is}
+use Rattle.laws.proofs.Gots.{Something, found-then, found-is}
 use Rattle.laws.proofs.Picks.{pick-ind, pick-then, pick-else}
 use Rattle.codes.specs.Codes.{serviceCode}
 use Rattle.numbers.specs.Number.{unknown, most, fair}
@@ -19,7 +19,7 @@ use Rattle.codes.proofs.Tables.{service-most}
 use Rattle.forms.specs.Order.{follows}
 use Rattle.forms.specs.declared.form.Form.{Form}
 use Rattle.forms.specs.declared.instance.Instance.{Instance}
-use Rattle.sheet.specs.Instance.{fieldAt, fieldsAt, kindGood, addressIn, serviceOf, instanceAt}
+use Rattle.sheet.specs.Instance.{fieldAt, fieldsAt, kindGood, addressFrom, serviceOf, instanceFrom}
 use Rattle.sheet.specs.Sheet.{runOf, instancesFrom}
 use Rattle.sheet.specs.Reading.{fieldBelow}
 use Rattle.sheet.proofs.Fields.{Passing, field-passes, below-small, fields-passing}
@@ -35,8 +35,8 @@ kind-most form kind =
     (λ _ e. omega (arith, eqb-true kind 0 e))
     (λ _ e. type-most kind e)
 
-address-bounded : (s : List ℕ) (at : ℕ) → Found AddressBounded (addressIn s at)
-unfolding addressIn
+address-bounded : (s : List ℕ) (at : ℕ) → Something AddressBounded (addressFrom s at)
+unfolding addressFrom
 address-bounded s at =
     let P : Address → Type 0 = AddressBounded in
     found-then P (fieldAt (λ form. ltb form 2) s at) _ (λ form p _.
@@ -67,14 +67,14 @@ service-few n h =
     let small = pick-else (eqb n 0) (pick (ltb n 256) (serviceCode n) false) h .1 in
     service-most n (pick-then (ltb n 256) (serviceCode n) small .1)
 
-pub instance-bounded : (form : Form) (s : List ℕ) (at : ℕ) → Found (Bounded form) (instanceAt form s at)
-unfolding instanceAt
+pub instance-bounded : (form : Form) (s : List ℕ) (at : ℕ) → Something (Bounded form) (instanceFrom form s at)
+unfolding instanceFrom
 instance-bounded form s at =
     let P : Instance → Type 0 = Bounded form in
     found-then P (fieldBelow (form .procedures) s at) _ (λ procedure p e.
     found-then P (fieldBelow (form .numbers) s p) _ (λ number q f.
     found-then P (fieldAt serviceOf s q) _ (λ service a g.
-    found-then P (addressIn s a) _ (λ address next h.
+    found-then P (addressFrom s a) _ (λ address next h.
     record {
       procedure = below-small s at (form .procedures) procedure p e;
       number = below-small s p (form .numbers) number q f;
@@ -90,13 +90,13 @@ AllBounded form (i ∷ is) = Bounded form i × AllBounded form is
 
 pub instances-bounded :
     (form : Form) (s : List ℕ) (n : ℕ) (last : Instance) (run at : ℕ) →
-    Found (AllBounded form) (instancesFrom form n last run s at)
+    Something (AllBounded form) (instancesFrom form n last run s at)
 unfolding instancesFrom
 instances-bounded form s zero last run at = tt
 instances-bounded form s (suc n) last run at =
     let P : List Instance → Type 0 = AllBounded form in
-    found-then P (instanceAt form s at) _ (λ k p e.
-    pick-ind (Found P) (follows form last run k)
+    found-then P (instanceFrom form s at) _ (λ k p e.
+    pick-ind (Something P) (follows form last run k)
     (λ _.
     found-then P (instancesFrom form n k (runOf last run k) s p) _ (λ ks q f.
     (found-is (Bounded form) e (instance-bounded form s at), found-is P f (instances-bounded form s n k (runOf last run k) p))))

@@ -7,13 +7,13 @@ use native.Mathlib.Omega.{arith}
 use lib.ListN.{length}
 use lib.Dec.{leb, eqb}
 use borrow.Author.Tests.{eqb-true, eqb-false, ne-eqb, leb-true}
-use Rattle.laws.proofs.Gots.{Found, found-then, found-is}
+use Rattle.laws.proofs.Gots.{Something, found-then, found-is}
 use Rattle.laws.proofs.Picks.{pick-ind}
 use Rattle.forms.specs.Form.{form1}
 use Rattle.forms.specs.Order.{follows}
 use Rattle.forms.specs.declared.instance.Instance.{Instance}
 use Rattle.forms.proofs.Orders.{before-not-later, follows-before}
-use Rattle.sheet.specs.Instance.{fieldAt, instanceAt}
+use Rattle.sheet.specs.Instance.{fieldAt, instanceFrom}
 use Rattle.sheet.specs.Sheet.{runOf, instancesFrom, noInstance}
 use Rattle.sheet.specs.Formed.{Opened, openingIn}
 use Rattle.sheet.proofs.Parts.{by-test}
@@ -51,12 +51,12 @@ run-some i run k =
 module _ (s : List ℕ) where
   few-after :
       (n : ℕ) (last : Instance) (run at : ℕ) → 1 ≤ run → run ≤ 8 → last .procedure < 3 →
-      Found (Few last run) (instancesFrom form1 n last run s at)
+      Something (Few last run) (instancesFrom form1 n last run s at)
   unfolding instancesFrom
   few-after zero last run at some room small = omega arith
   few-after (suc n) last run at some room small =
-      found-then (Few last run) (instanceAt form1 s at) _ (λ k p e.
-      pick-ind (Found (Few last run)) (follows form1 last run k)
+      found-then (Few last run) (instanceFrom form1 s at) _ (λ k p e.
+      pick-ind (Something (Few last run)) (follows form1 last run k)
       (λ after.
       found-then (Few last run) (instancesFrom form1 n k (runOf last run k) s p) _ (λ ks q f.
       let rest =
@@ -66,13 +66,13 @@ module _ (s : List ℕ) where
       (found-is (Few k (runOf last run k)) f rest)))
       (λ _. tt))
 
-  few-first : (n at : ℕ) → Found (λ is. length is ≤ 24) (instancesFrom form1 n noInstance 0 s at)
+  few-first : (n at : ℕ) → Something (λ is. length is ≤ 24) (instancesFrom form1 n noInstance 0 s at)
   unfolding instancesFrom runOf
   few-first zero at = omega arith
   few-first (suc n) at =
       let P : List Instance → Type 0 = λ is. length is ≤ 24 in
-      found-then P (instanceAt form1 s at) _ (λ k p e.
-      pick-ind (Found P) (follows form1 noInstance 0 k)
+      found-then P (instanceFrom form1 s at) _ (λ k p e.
+      pick-ind (Something P) (follows form1 noInstance 0 k)
       (λ _.
       found-then P (instancesFrom form1 n k 1 s p) _ (λ ks q f.
       let rest = few-after n k 1 p (omega arith) (omega arith) (found-is (Bounded form1) e (instance-bounded form1 s at) .procedure) in
@@ -81,7 +81,7 @@ module _ (s : List ℕ) where
       (λ _. tt))
 
   -- "identifiers .. up to 32,767"
-  opening-last : Found (λ o. o .last ≤ 32767) (openingIn form1 s)
+  opening-last : Something (λ o. o .last ≤ 32767) (openingIn form1 s)
   unfolding openingIn
   opening-last =
       let P : Opened → Type 0 = λ o. o .last ≤ 32767 in

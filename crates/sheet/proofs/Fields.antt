@@ -10,7 +10,7 @@ use lib.Dec.{ltb}
 use borrow.Author.Tests.{ltb-true, le-ltb, lt-ltb}
 use Rattle.laws.specs.Pick.{pick}
 use Rattle.laws.specs.Got.{Got, got, wrong, andThen}
-use Rattle.laws.proofs.Gots.{Found, found-then, found-is}
+use Rattle.laws.proofs.Gots.{Something, found-then, found-is}
 use Rattle.laws.proofs.Picks.{pick-ind}
 use Rattle.laws.proofs.Walks.{store-next}
 use Rattle.groups.specs.Groups.{groupsAt}
@@ -62,12 +62,12 @@ module _ (s : List ℕ) (at : ℕ) where
       each groups.Bad = refl
 
   -- a field that is found passes its test
-  pub field-passes : (good : ℕ → Bool) → Found (λ n. good n ≡ true) (fieldAt good s at)
+  pub field-passes : (good : ℕ → Bool) → Something (λ n. good n ≡ true) (fieldAt good s at)
   unfolding fieldAt
   field-passes good = each (groupsAt s at (length s))
     where
-      each : (g : Groups) → Found (λ n. good n ≡ true) (fieldOf good g)
-      each (groups.Is n next) = pick-ind (Found (λ n. good n ≡ true)) (good n) (λ e. e) (λ _. tt)
+      each : (g : Groups) → Something (λ n. good n ≡ true) (fieldOf good g)
+      each (groups.Is n next) = pick-ind (Something (λ n. good n ≡ true)) (good n) (λ e. e) (λ _. tt)
       each (groups.Large next) = tt
       each groups.Bad = tt
 
@@ -119,7 +119,7 @@ pub record Passing (good : ℕ → Bool) (count : ℕ) (ns : List ℕ) : Type 0 
   pub counted : length ns ≡ count
   pub passes : AllPass good ns
 
-pub fields-passing : (good : ℕ → Bool) (count : ℕ) (s : List ℕ) (at : ℕ) → Found (Passing good count) (fieldsAt good count s at)
+pub fields-passing : (good : ℕ → Bool) (count : ℕ) (s : List ℕ) (at : ℕ) → Something (Passing good count) (fieldsAt good count s at)
 unfolding fieldsAt
 fields-passing good zero s at = record { counted = refl; passes = tt }
 fields-passing good (suc count) s at =

@@ -22,9 +22,9 @@ use Rattle.codes.proofs.Characters.{digits-step, digits-end, type-most}
 use Rattle.numbers.proofs.Goods.{fair-some, some-fair, good-number, digits-fair}
 use Rattle.numbers.proofs.Readers.{record-good}
 use Rattle.forms.specs.declared.instance.Instance.{Instance}
-use Rattle.sheet.specs.Instance.{fieldAt, fieldsAt, kindGood, addressIn, serviceOf}
+use Rattle.sheet.specs.Instance.{fieldAt, fieldsAt, kindGood, addressFrom, serviceOf}
 use Rattle.sheet.specs.Formed.{instanceRead}
-use Rattle.sheet.specs.Reading.{fieldBelow, fieldsBelow, numberIn, forwardedRead}
+use Rattle.sheet.specs.Reading.{fieldBelow, fieldsBelow, numberFromFields, forwardedRead}
 use Rattle.sheet.specs.declared.field.FieldsRead.{FieldsRead}
 use Rattle.sheet.specs.declared.read.ForwardedRead.{ForwardedRead}
 use Rattle.sheet.specs.declared.read.InstanceRead.{InstanceRead}
@@ -99,29 +99,29 @@ abbrev countFrom : List ℕ → ℕ → ℕ → ℕ → Got Number
 countFrom s form kind q = andThen (fieldAt fair s q) (λ count a. digitsFrom s form kind count a)
 
 module _ (s : List ℕ) (at : ℕ) where
-  pub number-no-form : fieldBelow 2 s at ≡ wrong → numberIn s at ≡ wrong
-  unfolding numberIn
+  pub number-no-form : fieldBelow 2 s at ≡ wrong → numberFromFields s at ≡ wrong
+  unfolding numberFromFields
   number-no-form e = rw e
 
   module _ (form p : ℕ) (f : fieldBelow 2 s at ≡ got form p) where
-    pub number-no-kind : fieldBelow 256 s p ≡ wrong → numberIn s at ≡ wrong
-    unfolding numberIn
+    pub number-no-kind : fieldBelow 256 s p ≡ wrong → numberFromFields s at ≡ wrong
+    unfolding numberFromFields
     number-no-kind e = rw (f, field-narrow s p (λ n. ltb n 256) (kindGood form) (kind-small form), e)
 
     module _ (kind q : ℕ) (k : fieldBelow 256 s p ≡ got kind q) where
-      number-kind : numberIn s at ≡ pick (kindGood form kind) (countFrom s form kind q) wrong
-      unfolding numberIn
+      number-kind : numberFromFields s at ≡ pick (kindGood form kind) (countFrom s form kind q) wrong
+      unfolding numberFromFields
       number-kind =
           rw (f, field-narrow s p (λ n. ltb n 256) (kindGood form) (kind-small form), k)
           (test-then (kindGood form kind) kind q (λ n next. countFrom s form n next))
 
-      pub number-no-count : fieldBelow 21 s q ≡ wrong → numberIn s at ≡ wrong
+      pub number-no-count : fieldBelow 21 s q ≡ wrong → numberFromFields s at ≡ wrong
       number-no-count e =
           number-kind ∙ rw (field-narrow s q (λ n. ltb n 21) fair count-small, e) (test-none (kindGood form kind))
 
       module _ (count a : ℕ) (c : fieldBelow 21 s q ≡ got count a) where
         number-digits :
-            numberIn s at ≡ pick (kindGood form kind) (pick (fair count) (digitsFrom s form kind count a) wrong) wrong
+            numberFromFields s at ≡ pick (kindGood form kind) (pick (fair count) (digitsFrom s form kind count a) wrong) wrong
         number-digits =
             number-kind
             ∙ rw (
@@ -130,7 +130,7 @@ module _ (s : List ℕ) (at : ℕ) where
               test-then (fair count) count a (λ n next. digitsFrom s form kind n next),
             )
 
-        pub number-no-digits : fieldsBelow 10 count s a ≡ wrong → numberIn s at ≡ wrong
+        pub number-no-digits : fieldsBelow 10 count s a ≡ wrong → numberFromFields s at ≡ wrong
         number-no-digits e =
             number-digits ∙ rw (e, test-none {A = Number} (fair count)) (test-none (kindGood form kind))
 
@@ -151,17 +151,17 @@ module _ (s : List ℕ) (at : ℕ) where
           number-made : made ≡ numberOf form kind cs
           number-made = rw (d .octets, ← counted)
 
-          number-judged : numberIn s at ≡ pick (numberGood made) (got made (r .next)) wrong
+          number-judged : numberFromFields s at ≡ pick (numberGood made) (got made (r .next)) wrong
           number-judged =
               let low : form < 2 = below-small s at 2 form p f in
               let few : count < 21 = below-small s q 21 count a c in
               let j = judged form kind cs low (characters (d .fields) (passing .passes)) (omega (arith, counted)) (got (numberOf form kind cs) (r .next)) in
               number-digits ∙ rw (number-made, d .is, ← counted) j
 
-          pub number-refused : numberGood made ≡ false → numberIn s at ≡ wrong
+          pub number-refused : numberGood made ≡ false → numberFromFields s at ≡ wrong
           number-refused h = number-judged ∙ rw h
 
-          pub number-found : numberGood made ≡ true → numberIn s at ≡ got made (r .next)
+          pub number-found : numberGood made ≡ true → numberFromFields s at ≡ got made (r .next)
           number-found h = number-judged ∙ rw h
 
 -- ---- addresses
@@ -173,31 +173,31 @@ subFrom s number b =
     andThen (fieldsAt (λ o. ltb o 256) subcount s c) (λ sub next. got (forwardedOf number (subOf sub) .address) next))
 
 module _ (s : List ℕ) (at : ℕ) where
-  address-parts : addressIn s at ≡ andThen (numberIn s at) (subFrom s)
-  unfolding addressIn numberIn
+  address-parts : addressFrom s at ≡ andThen (numberFromFields s at) (subFrom s)
+  unfolding addressFrom numberFromFields
   address-parts =
       then-through (fieldAt (λ form. ltb form 2) s at) _ _ (subFrom s) (λ form p.
       then-through (fieldAt (kindGood form) s p) _ _ (subFrom s) (λ kind q.
       then-through (fieldAt fair s q) _ _ (subFrom s) (λ count a.
       then-through (fieldsAt (λ d. ltb d 10) count s a) _ _ (subFrom s) (λ ds b. refl))))
 
-  pub address-no-number : numberIn s at ≡ wrong → addressIn s at ≡ wrong
+  pub address-no-number : numberFromFields s at ≡ wrong → addressFrom s at ≡ wrong
   address-no-number e = address-parts ∙ rw e
 
-  module _ (number : Number) (b : ℕ) (n : numberIn s at ≡ got number b) where
+  module _ (number : Number) (b : ℕ) (n : numberFromFields s at ≡ got number b) where
     sub-field : fieldAt (λ n. leb n most) s b ≡ fieldBelow 21 s b
     sub-field = field-same s b (λ n. leb n most) (λ n. ltb n 21) (λ n. sym (leb·suc-suc n most))
 
-    pub address-no-count : fieldBelow 21 s b ≡ wrong → addressIn s at ≡ wrong
+    pub address-no-count : fieldBelow 21 s b ≡ wrong → addressFrom s at ≡ wrong
     address-no-count e = address-parts ∙ rw (n, sub-field, e)
 
     module _ (count c : ℕ) (k : fieldBelow 21 s b ≡ got count c) where
-      pub address-no-octets : fieldsBelow 256 count s c ≡ wrong → addressIn s at ≡ wrong
+      pub address-no-octets : fieldsBelow 256 count s c ≡ wrong → addressFrom s at ≡ wrong
       address-no-octets e = address-parts ∙ rw (n, sub-field, k, e)
 
       pub address-found :
           (r : FieldsRead) → FieldsFound 0 (fieldsBelow 256 count s c) r →
-          addressIn s at ≡ got (record { number = number; subcount = count; sub = r .octets }) (r .next)
+          addressFrom s at ≡ got (record { number = number; subcount = count; sub = r .octets }) (r .next)
       address-found r d =
           let passing = found-is (Passing (λ o. ltb o 256) count) (d .is) (fields-passing (λ o. ltb o 256) count s c) in
           address-parts ∙ rw (n, sub-field, k, d .is, d .octets, map-none (d .fields), passing .counted)

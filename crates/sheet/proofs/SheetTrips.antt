@@ -21,7 +21,7 @@ use Rattle.sheet.specs.Sheet.{runOf, instancesFrom, instancesOctets, noI
 use Rattle.sheet.proofs.Parts.{by-test}
 use Rattle.sheet.proofs.Sizes.{sheet-octets}
 use Rattle.sheet.proofs.Sheets.{instances-end, instances-step}
-use Rattle.sheet.proofs.Trips.{Standing, Fits, after, past, groups-none, past-one, standing-rest, field-back, tidyInstance, instance-back}
+use Rattle.sheet.proofs.Trips.{Standing, FieldsFit, after, past, groups-none, past-one, standing-rest, field-back, tidyInstance, instance-back}
 
 -- ---- the order of instances
 
@@ -41,7 +41,7 @@ countOf procedure (i ∷ is) = pick (eqb (i .procedure) procedure) 1 0 + countOf
 
 abbrev pub AllFit : List Instance → Type 0
 AllFit [] = Unit {0}
-AllFit (i ∷ is) = Fits i × AllFit is
+AllFit (i ∷ is) = FieldsFit i × AllFit is
 
 -- ascending, at most 8 of a procedure, each such as a sheet may hold
 pub record Sheeted (is : List Instance) : Type 0 where

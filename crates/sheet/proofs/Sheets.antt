@@ -10,14 +10,14 @@ use lib.Dec.{ltb, leb, eqb, leb·suc-suc}
 use borrow.Author.Tests.{eq-eqb, ne-eqb, eqb-true, eqb-false}
 use Rattle.laws.specs.Pick.{pick}
 use Rattle.laws.specs.Got.{Got, got, wrong, andThen}
-use Rattle.laws.proofs.Gots.{Found, found-then, found-is}
+use Rattle.laws.proofs.Gots.{Something, found-then, found-is}
 use Rattle.laws.proofs.Picks.{pick-ind}
 use Rattle.forms.specs.Form.{form1}
 use Rattle.forms.specs.Order.{follows}
 use Rattle.forms.specs.declared.form.Form.{Form}
 use Rattle.forms.specs.declared.instance.Instance.{Instance}
 use Rattle.forms.proofs.Orders.{follows-few}
-use Rattle.sheet.specs.Instance.{fieldAt, instanceAt}
+use Rattle.sheet.specs.Instance.{fieldAt, instanceFrom}
 use Rattle.sheet.specs.Sheet.{Sheet, runOf, instancesFrom, noInstance, sheetIn}
 use Rattle.sheet.specs.Formed.{formedBy, Opened, openingIn, openingRead}
 use Rattle.sheet.specs.Reading.{anyField, fieldBelow, passedRead}
@@ -87,20 +87,20 @@ module _ (f : Form) (s : List ℕ) where
   pub instances-step :
       (n : ℕ) (i : Instance) (run at : ℕ) →
       instancesFrom f (suc n) i run s at
-      ≡ andThen (instanceAt f s at) (λ k p.
+      ≡ andThen (instanceFrom f s at) (λ k p.
       pick (follows f i run k) (andThen (instancesFrom f n k (runOf i run k) s p) (λ ks q. got (k ∷ ks) q)) wrong)
   unfolding instancesFrom
   instances-step n i run at = refl
 
   -- as many as were asked for
   pub instances-count :
-      (n : ℕ) (i : Instance) (run at : ℕ) → Found (λ is. length is ≡ n) (instancesFrom f n i run s at)
+      (n : ℕ) (i : Instance) (run at : ℕ) → Something (λ is. length is ≡ n) (instancesFrom f n i run s at)
   unfolding instancesFrom
   instances-count zero i run at = refl
   instances-count (suc n) i run at =
       let P : List Instance → Type 0 = λ is. length is ≡ suc n in
-      found-then P (instanceAt f s at) _ (λ k p _.
-      pick-ind (Found P) (follows f i run k)
+      found-then P (instanceFrom f s at) _ (λ k p _.
+      pick-ind (Something P) (follows f i run k)
       (λ _.
       found-then P (instancesFrom f n k (runOf i run k) s p) _ (λ ks q e.
       ap suc (found-is (λ is. length is ≡ n) e (instances-count n k (runOf i run k) p))))
@@ -155,7 +155,7 @@ module _ (f : Form) (s : List ℕ) (at count : ℕ) where
       going-step :
           passedRead (instancesFrom f count noInstance 0 s at)
           ≡ passedRead
-          (andThen (instanceAt f s here) (λ k p.
+          (andThen (instanceFrom f s here) (λ k p.
           pick (follows f last run k)
           (andThen (instancesFrom f (count - (i + 1)) k (runOf last run k) s p) (λ ks q. got (k ∷ ks) q))
           wrong))
@@ -163,10 +163,10 @@ module _ (f : Form) (s : List ℕ) (at count : ℕ) where
 
       -- no instance stands there
       pub going-wrong :
-          instanceAt f s here ≡ wrong → passedRead (instancesFrom f count noInstance 0 s at) ≡ passedRead wrong
+          instanceFrom f s here ≡ wrong → passedRead (instancesFrom f count noInstance 0 s at) ≡ passedRead wrong
       going-wrong e = going-step ∙ rw e
 
-      module _ (k : Instance) (next : ℕ) (e : instanceAt f s here ≡ got k next) where
+      module _ (k : Instance) (next : ℕ) (e : instanceFrom f s here ≡ got k next) where
         -- one stands there that may not
         pub going-out :
             follows f last run k ≡ false →

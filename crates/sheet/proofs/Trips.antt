@@ -27,7 +27,7 @@ use Rattle.codes.proofs.Characters.{digits-step}
 use Rattle.numbers.proofs.Readers as readers
 use Rattle.forms.specs.Form.{form1}
 use Rattle.forms.specs.declared.instance.Instance.{Instance}
-use Rattle.sheet.specs.Instance.{allGroups, digitOf, addressFields, instanceFields, fieldAt, fieldsAt, kindGood, addressIn, serviceOf, instanceAt}
+use Rattle.sheet.specs.Instance.{allGroups, digitOf, addressFields, instanceFields, fieldAt, fieldsAt, kindGood, addressFrom, serviceOf, instanceFrom}
 use Rattle.sheet.proofs.Fields.{AllPass}
 use Rattle.sheet.proofs.Readers.{kind-small, service-small}
 
@@ -177,8 +177,8 @@ module _ (a : Address) (h : Held a) where
 
   -- a good address that stands somewhere reads back as the same with zeros past its digits and octets
   pub address-back :
-      (s : List ℕ) (at : ℕ) → Standing s at (addressFields a) → addressIn s at ≡ got (tidyAddress a) (past at (addressFields a))
-  unfolding addressIn
+      (s : List ℕ) (at : ℕ) → Standing s at (addressFields a) → addressFrom s at ≡ got (tidyAddress a) (past at (addressFields a))
+  unfolding addressFrom
   address-back s at st =
       let few : a .subcount ≤ most = good-address a (h .good) .few in
       let kind : n .kind < 256 = ltb-true (n .kind) 256 (kind-small (n .form) (n .kind) (shaped .1)) in
@@ -215,7 +215,7 @@ module _ (a : Address) (h : Held a) where
 -- ---- instances
 
 -- an instance that a sheet of form 1 may hold
-pub record Fits (i : Instance) : Type 0 where
+pub record FieldsFit (i : Instance) : Type 0 where
   pub procedure : i .procedure < 3
   pub number : i .number < 4
   pub service : serviceOf (i .service) ≡ true
@@ -230,17 +230,17 @@ tidyInstance i = record {
 }
 
 -- zeros after octets stay out of what is counted
-pub kept : (ws : List ℕ) → take (length ws) (padded ws) ≡ ws
-kept ws = take-append-seam ws (replicate (most - length ws) 0)
+pub kept-fields : (ws : List ℕ) → take (length ws) (padded ws) ≡ ws
+kept-fields ws = take-append-seam ws (replicate (most - length ws) 0)
 
 -- zeros past the digits and octets stay zeros
 pub tidy-twice : (i : Instance) → tidyInstance (tidyInstance i) ≡ tidyInstance i
-tidy-twice i = rw (kept (digitsOf (i .address .number)), kept (subOctetsOf (i .address)))
+tidy-twice i = rw (kept-fields (digitsOf (i .address .number)), kept-fields (subOctetsOf (i .address)))
 
 pub instance-back :
-    (i : Instance) → Fits i → (s : List ℕ) (at : ℕ) → Standing s at (instanceFields i) →
-    instanceAt form1 s at ≡ got (tidyInstance i) (past at (instanceFields i))
-unfolding instanceAt
+    (i : Instance) → FieldsFit i → (s : List ℕ) (at : ℕ) → Standing s at (instanceFields i) →
+    instanceFrom form1 s at ≡ got (tidyInstance i) (past at (instanceFields i))
+unfolding instanceFrom
 instance-back i h s at st =
     let fs : List ℕ = addressFields (i .address) in
     let p : ℕ = after at (i .procedure) in

@@ -8,7 +8,7 @@ use Rattle.laws.proofs.Gots.{found-is}
 use Rattle.forms.specs.Order.{follows}
 use Rattle.forms.specs.declared.form.Form.{Form}
 use Rattle.forms.specs.declared.instance.Instance.{Instance}
-use Rattle.sheet.specs.Instance.{instanceAt}
+use Rattle.sheet.specs.Instance.{instanceFrom}
 use Rattle.sheet.specs.Sheet.{runOf, instancesFrom, noInstance}
 use Rattle.sheet.specs.Formed.{instanceRead, InstanceFound}
 use Rattle.sheet.specs.declared.read.InstanceRead.{InstanceRead}
@@ -51,12 +51,12 @@ module _ (form : Form) (s : List ℕ) (here n : ℕ) (rest : List Instance) (so 
       pick (follows form (so .last) (so .run) i)
       (andThen (instancesFrom form n i (runOf (so .last) (so .run) i) s q) (λ ks p. got (i ∷ ks) p)) wrong
 
-  unfolded : andThen (instanceAt form s here) after ≡ got rest (so .next)
+  unfolded : andThen (instanceFrom form s here) after ≡ got rest (so .next)
   unfolding after
   unfolded = sym (instances-step form s n (so .last) (so .run) here) ∙ so .found
 
-  there : instanceAt form s here ≡ got k (r .next)
-  there = instance-told (instanceAt form s here) r told (then-got (instanceAt form s here) after unfolded .first)
+  there : instanceFrom form s here ≡ got k (r .next)
+  there = instance-told (instanceFrom form s here) r told (then-got (instanceFrom form s here) after unfolded .first)
 
   pub left-bounded : Bounded form k
   left-bounded = found-is (Bounded form) there (instance-bounded form s here)

@@ -9,7 +9,7 @@ use lib.Dec.{leb, eqb}
 use Rattle.laws.specs.Got.{Got, got, wrong, andThen}
 use Rattle.forms.specs.declared.form.Form.{Form}
 use Rattle.forms.specs.declared.instance.Instance.{Instance}
-use Rattle.sheet.specs.Instance.{fieldAt, instanceAt}
+use Rattle.sheet.specs.Instance.{fieldAt, instanceFrom}
 use Rattle.sheet.specs.Sheet.{Sheet, noInstance, sheetIn}
 use Rattle.sheet.specs.declared.read.InstanceRead.{InstanceRead}
 use Rattle.sheet.specs.declared.form.Opening.{Opening}
@@ -53,7 +53,7 @@ instanceRead wrong = record { ok = false; instance = noInstance; next = 0 }
 
 -- what `instance_at` promises
 abbrev pub InstanceFound : Form → List ℕ → ℕ → InstanceRead → Type 0
-InstanceFound f s at r = r ≡ instanceRead (instanceAt f s at)
+InstanceFound f s at r = r ≡ instanceRead (instanceFrom f s at)
 
 -- something is found
 pub record Holds {A : Type 0} (g : Got A) : Type 0 where

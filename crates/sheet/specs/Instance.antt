@@ -68,8 +68,8 @@ kindGood form kind = pick (eqb form unknown) (eqb kind 0) (typeGood kind)
 abbrev pub addressOf : ℕ → ℕ → List ℕ → List ℕ → Address
 addressOf form kind ds sub = forwardedOf (numberOf form kind (map (λ d. 48 + d) ds)) (subOf sub) .address
 
-unfoldable pub addressIn : List ℕ → ℕ → Got Address
-addressIn s at =
+unfoldable pub addressFrom : List ℕ → ℕ → Got Address
+addressFrom s at =
     andThen (fieldAt (λ form. ltb form 2) s at) (λ form p.
     andThen (fieldAt (kindGood form) s p) (λ kind q.
     andThen (fieldAt fair s q) (λ count a.
@@ -81,10 +81,10 @@ addressIn s at =
 abbrev pub serviceOf : ℕ → Bool
 serviceOf code = pick (eqb code 0) false (pick (ltb code 256) (serviceCode code) false)
 
-unfoldable pub instanceAt : Form → List ℕ → ℕ → Got Instance
-instanceAt f s at =
+unfoldable pub instanceFrom : Form → List ℕ → ℕ → Got Instance
+instanceFrom f s at =
     andThen (fieldAt (λ n. ltb n (f .procedures)) s at) (λ procedure p.
     andThen (fieldAt (λ n. ltb n (f .numbers)) s p) (λ number q.
     andThen (fieldAt serviceOf s q) (λ service a.
-    andThen (addressIn s a) (λ address next.
+    andThen (addressFrom s a) (λ address next.
     got (record { procedure = procedure; number = number; service = service; address = address }) next))))

@@ -38,8 +38,8 @@ fieldsRead base wrong = record { ok = false; octets = padded []; next = 0 }
 -- ---- addresses
 
 -- the number with which an address begins
-unfoldable pub numberIn : List ℕ → ℕ → Got Number
-numberIn s at =
+unfoldable pub numberFromFields : List ℕ → ℕ → Got Number
+numberFromFields s at =
     andThen (fieldAt (λ form. ltb form 2) s at) (λ form p.
     andThen (fieldAt (kindGood form) s p) (λ kind q.
     andThen (fieldAt fair s q) (λ count a.

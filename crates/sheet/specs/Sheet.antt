@@ -10,7 +10,7 @@ use Rattle.laws.specs.Got.{Got, got, wrong, andThen}
 use Rattle.forms.specs.Order.{follows}
 use Rattle.forms.specs.declared.form.Form.{Form}
 use Rattle.forms.specs.declared.instance.Instance.{Instance}
-use Rattle.sheet.specs.Instance.{allGroups, instanceOctets, fieldAt, instanceAt}
+use Rattle.sheet.specs.Instance.{allGroups, instanceOctets, fieldAt, instanceFrom}
 
 -- what a sheet holds
 pub record Sheet : Type 0 where
@@ -36,7 +36,7 @@ runOf i run k = pick (eqb run 0) 1 (pick (eqb (i .procedure) (k .procedure)) (ru
 unfoldable pub instancesFrom : Form → ℕ → Instance → ℕ → List ℕ → ℕ → Got (List Instance)
 instancesFrom f zero i run s at = got [] at
 instancesFrom f (suc n) i run s at =
-    andThen (instanceAt f s at) (λ k p.
+    andThen (instanceFrom f s at) (λ k p.
     pick (follows f i run k) (andThen (instancesFrom f n k (runOf i run k) s p) (λ ks q. got (k ∷ ks) q)) wrong)
 
 -- what stands before the first instance carries no meaning

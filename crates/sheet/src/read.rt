@@ -13,10 +13,10 @@ use numbers::number_good;
 ghost use mathlib.Core.Path.{_≡_};
 ghost use Rattle.laws.specs.Got.{wrong};
 ghost use Rattle.numbers.specs.Number.{numberRead};
-ghost use Rattle.sheet.specs.Instance.{fieldAt, serviceOf, addressIn};
+ghost use Rattle.sheet.specs.Instance.{fieldAt, serviceOf, addressFrom};
 ghost use Rattle.sheet.specs.Sheet.{noInstance};
 ghost use Rattle.sheet.specs.Formed.{instanceRead, InstanceFound};
-ghost use Rattle.sheet.specs.Reading.{numberIn, noAddress, fieldRead, forwardedRead};
+ghost use Rattle.sheet.specs.Reading.{numberFromFields, noAddress, fieldRead, forwardedRead};
 
 // The bounds of the fields of every form: forms of a number unknown and public, octets.
 const FORMS: u32 = 2;
@@ -69,7 +69,7 @@ fn no_number() -> NumberRead
 
 // The number with which the address at `at` begins. Its type and its count are judged as those of a table's number.
 fn number_in(s: &[u8], at: usize) -> NumberRead
-    ensures { λ r. ⌜ r ≡ numberRead (numberIn (now (s .entry)) at) ⌝ }
+    ensures { λ r. ⌜ r ≡ numberRead (numberFromFields (now (s .entry)) at) ⌝ }
 {
     let form = field_below(s, at, FORMS);
     if !form.ok {
@@ -128,7 +128,7 @@ fn no_forwarded() -> ForwardedRead
 
 // The address at `at`.
 fn address_in(s: &[u8], at: usize) -> ForwardedRead
-    ensures { λ r. ⌜ r ≡ forwardedRead (addressIn (now (s .entry)) at) ⌝ }
+    ensures { λ r. ⌜ r ≡ forwardedRead (addressFrom (now (s .entry)) at) ⌝ }
 {
     let read = number_in(s, at);
     if !read.ok {

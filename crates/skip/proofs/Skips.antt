@@ -11,7 +11,7 @@ use borrow.Author.Tests.{eq-eqb, ne-eqb}
 use Rattle.laws.specs.Pick.{pick}
 use Rattle.laws.proofs.Picks.{pick-ind}
 use Rattle.octets.specs.Head.{headAt}
-use Rattle.skip.specs.Skip.{onward, fills, inside, skipElement, skipContents}
+use Rattle.skip.specs.Skip.{afterSkip, fills, pastElement, skipElement, skipContents}
 use Rattle.octets.specs.declared.head.Head.{Head}
 use Rattle.octets.specs.declared.head.Head.the-variants as head
 use Rattle.skip.specs.declared.skip.Skip.{Skip}
@@ -26,7 +26,7 @@ Further at end Wrong = Unit {0}
 -- an element that lies within its octets is skipped to a place further on, whatever its contents
 inside-further :
     (good : ℕ → ℕ → Bool) (depth size at end : ℕ) (x : Head) → Within depth size at end x →
-    Further at end (inside good x)
+    Further at end (pastElement good x)
 inside-further good depth size at end (head.Is tag start stop next) h =
     pick-ind (Further at end) (eqb (tag / 32 % 2) 0) (λ _. omega arith)
     (λ _. pick-ind (Further at end) (good start stop) (λ _. omega arith) (λ _. tt))
@@ -44,7 +44,7 @@ further (suc depth) s at end =
 onward-same :
     (f g : ℕ → Bool) (at end : ℕ) (x : Skip) → Further at end x →
     ((next : ℕ) → at < next → next ≤ end → f next ≡ g next) →
-    onward f x ≡ onward g x
+    afterSkip f x ≡ afterSkip g x
 onward-same f g at end (To next) h e = e next (h .0) (h .1)
 onward-same f g at end Wrong h e = refl
 
@@ -70,7 +70,7 @@ module _ (step : ℕ → Skip) (end : ℕ) (moves : (at : ℕ) → Further at en
   -- before the end: one element, and then what is left
   pub fills-step :
       (at : ℕ) → at < end →
-      fills step (end - at) at end ≡ onward (λ next. fills step (end - next) next end) (step at)
+      fills step (end - at) at end ≡ afterSkip (λ next. fills step (end - next) next end) (step at)
   unfolding fills
   fills-step at lt =
       fills-same (end - at) (suc (end - at)) at (omega arith) (omega arith) (omega arith)
@@ -93,7 +93,7 @@ contents-end depth s at end le = fills-past (λ a. skipElement depth s a end) at
 pub contents-step :
     (depth : ℕ) (s : List ℕ) (at end : ℕ) → at < end →
     skipContents depth s at end
-    ≡ onward (λ next. skipContents depth s next end) (skipElement depth s at end)
+    ≡ afterSkip (λ next. skipContents depth s next end) (skipElement depth s at end)
 unfolding skipContents
 contents-step depth s at end lt =
     fills-step (λ a. skipElement depth s a end) end (λ a. further depth s a end) at lt
@@ -101,7 +101,7 @@ contents-step depth s at end lt =
 -- an element is skipped by its head, its contents to one depth less; at depth 0 there is no head
 pub element-step :
     (depth : ℕ) (s : List ℕ) (at end : ℕ) →
-    skipElement depth s at end ≡ inside (skipContents (depth - 1) s) (headAt depth s at end)
+    skipElement depth s at end ≡ pastElement (skipContents (depth - 1) s) (headAt depth s at end)
 unfolding skipElement skipContents
 element-step zero s at end = rw (head-none s at end)
 element-step (suc depth) s at end = let less : suc depth - 1 ≡ depth = omega arith in rw less

@@ -1,4 +1,4 @@
--- Elements that are skipped: a primitive one whole, a constructed one with the elements inside it (document 01, "Reading a
+-- Elements that are skipped: a primitive one whole, a constructed one with the elements pastElement it (document 01, "Reading a
 -- component"). Tags are not looked at but for their bit 6: what may be skipped at all, the caller decides.
 use Prim.Native.Nat.{ℕ, zero, suc, _-_, _/_, _%_}
 use mathlib.Core.Path.{_≡_}
@@ -16,26 +16,26 @@ use Rattle.skip.specs.declared.skip.Skip.the-variants.{To, Wrong}
 abbrev pub skipDepth : ℕ
 skipDepth = 8
 
-abbrev pub onward : (ℕ → Bool) → Skip → Bool
-onward rest (To next) = rest next
-onward rest Wrong = false
+abbrev pub afterSkip : (ℕ → Bool) → Skip → Bool
+afterSkip rest (To next) = rest next
+afterSkip rest Wrong = false
 
 -- elements one after the other, from `at` on, end at `end`; `step` finds the place after one, and there are at most n
 unfoldable pub fills : (ℕ → Skip) → ℕ → ℕ → ℕ → Bool
 fills step zero at end = eqb at end
-fills step (suc n) at end = pick (eqb at end) true (onward (λ next. fills step n next end) (step at))
+fills step (suc n) at end = pick (eqb at end) true (afterSkip (λ next. fills step n next end) (step at))
 
 -- "A primitive one's contents aren't read"; a constructed one's must be good
-abbrev pub inside : (ℕ → ℕ → Bool) → Head → Skip
-inside good (head.Is tag start stop next) = pick (eqb (tag / 32 % 2) 0) (To next) (pick (good start stop) (To next) Wrong)
-inside good head.Bad = Wrong
+abbrev pub pastElement : (ℕ → ℕ → Bool) → Head → Skip
+pastElement good (head.Is tag start stop next) = pick (eqb (tag / 32 % 2) 0) (To next) (pick (good start stop) (To next) Wrong)
+pastElement good head.Bad = Wrong
 
 -- "An element's contents may be elements, and those hold contents again": the place after the element at `at`, which goes
 -- at most `depth` elements deep, itself counted
 unfoldable pub skipElement : ℕ → List ℕ → ℕ → ℕ → Skip
 skipElement zero s at end = Wrong
 skipElement (suc depth) s at end =
-    inside (λ start stop. fills (λ a. skipElement depth s a stop) (stop - start) start stop) (headAt (suc depth) s at end)
+    pastElement (λ start stop. fills (λ a. skipElement depth s a stop) (stop - start) start stop) (headAt (suc depth) s at end)
 
 -- whether the octets from `at` up to `end` are such elements; as many as there are octets bound their number
 unfoldable pub skipContents : ℕ → List ℕ → ℕ → ℕ → Bool

@@ -9,35 +9,35 @@ use borrow.Author.Tests.{eqb-false}
 use Rattle.laws.specs.Pick.{pick}
 use Rattle.laws.proofs.Picks.{pick-ind, pick-else}
 use Rattle.numbers.specs.Address.{tidyAddress}
-use Rattle.store.specs.Row.{outside, cellAt, active, held, noInstance, instanceAt}
+use Rattle.store.specs.Row.{outside, cellAt, active, held, noHeld, heldAt}
 use Rattle.store.specs.declared.row.Cell.{Cell}
-use Rattle.store.specs.declared.row.Instance.{Instance}
+use Rattle.store.specs.declared.row.Held.{Held}
 use Rattle.store.specs.declared.row.Row.{Row}
 use Rattle.store.proofs.Turns.{is-active, not-active}
 
 module _ (row : Row) (j : ℕ) where
   -- none past the cells
-  pub instance-past : length (row .cells) ≤ j → instanceAt row j ≡ noInstance
-  unfolding instanceAt active
+  pub instance-past : length (row .cells) ≤ j → heldAt row j ≡ noHeld
+  unfolding heldAt active
   instance-past past = rw (List·getD-eq-default (row .cells) outside past)
 
   -- none where the cell's service is 0, else the cell's address
-  pub instance-none : cellAt row j .service ≡ 0 → instanceAt row j ≡ noInstance
-  unfolding instanceAt
+  pub instance-none : cellAt row j .service ≡ 0 → heldAt row j ≡ noHeld
+  unfolding heldAt
   instance-none h = rw (not-active row j h)
 
   pub instance-some :
-      (cellAt row j .service ≡ 0 → ⊥) → instanceAt row j ≡ record { ok = true; address = cellAt row j .address }
-  unfolding instanceAt
+      (cellAt row j .service ≡ 0 → ⊥) → heldAt row j ≡ record { ok = true; address = cellAt row j .address }
+  unfolding heldAt
   instance-some h = rw (is-active row j h)
 
   -- there is one where one is active, with its address
-  pub instance-ok : instanceAt row j .ok ≡ active row j
-  unfolding instanceAt
-  instance-ok = pick-ind (λ (r : Instance). r .ok ≡ active row j) (active row j) (λ e. rw e) (λ e. rw e)
+  pub instance-ok : heldAt row j .ok ≡ active row j
+  unfolding heldAt
+  instance-ok = pick-ind (λ (r : Held). r .ok ≡ active row j) (active row j) (λ e. rw e) (λ e. rw e)
 
-  pub instance-address : active row j ≡ true → instanceAt row j .address ≡ cellAt row j .address
-  unfolding instanceAt
+  pub instance-address : active row j ≡ true → heldAt row j .address ≡ cellAt row j .address
+  unfolding heldAt
   instance-address h = rw h
 
   -- the service of an instance that is active is no 0

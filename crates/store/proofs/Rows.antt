@@ -22,7 +22,7 @@ use Rattle.profile.specs.declared.profile.Profile.{Profile}
 use Rattle.lists.specs.Entries.{allGood}
 use Rattle.lists.specs.declared.entry.Entry.{Entry}
 use Rattle.lists.proofs.Goods.{entry-good, all-none, all-one, all-both}
-use Rattle.store.specs.Row.{places, numberOfPlace, serviceOfPlace, noCell, cellOf, outside, cellAt, active, held, codeAt, selected, countWith, putIn, clearIn, entryOfPlace, entriesIn, cellGood, rowGood}
+use Rattle.store.specs.Row.{places, numberOfPlace, serviceOfPlace, noCell, cellOf, outside, cellAt, active, held, codeOfPlace, selected, countWith, putIn, clearIn, entryOfPlace, entriesIn, cellGood, rowGood}
 use Rattle.store.specs.declared.row.Cell.{Cell}
 use Rattle.store.specs.declared.row.Row.{Row}
 use Rattle.store.specs.declared.row.Places.{Places}
@@ -57,9 +57,9 @@ held-in-clear x true = refl
 held-in-clear x false = refl
 
 -- the code of a place that is selected is no 0
-selected-code : (w : Places) (j : ℕ) → selected w j ≡ true → codeAt w j ≡ 0 → ⊥
+selected-code : (w : Places) (j : ℕ) → selected w j ≡ true → codeOfPlace w j ≡ 0 → ⊥
 unfolding selected
-selected-code w j h = eqb-false (codeAt w j) 0 (pick-else (eqb (codeAt w j) 0) true h .0)
+selected-code w j h = eqb-false (codeOfPlace w j) 0 (pick-else (eqb (codeOfPlace w j) 0) true h .0)
 
 pick-or : (a b : Bool) → pick a true b ≡ pick b true a
 pick-or true true = refl
@@ -82,14 +82,14 @@ module _ (w : Places) (address : Address) (row : Row) where
       (j : ℕ) → j < length (row .cells) → active (putIn w address row) j ≡ pick (selected w j) true (active row j)
   unfolding active
   active-put j h =
-      ap used (cell-put j h) ∙ used-put (codeAt w j) address (cellAt row j) (selected w j) (selected-code w j)
+      ap used (cell-put j h) ∙ used-put (codeOfPlace w j) address (cellAt row j) (selected w j) (selected-code w j)
 
   pub held-put :
       (j : ℕ) → j < length (row .cells) →
       held (putIn w address row) j ≡ pick (selected w j) (some (tidyAddress address)) (held row j)
   unfolding held active
   held-put j h =
-      ap heldIn (cell-put j h) ∙ held-in-put (codeAt w j) address (cellAt row j) (selected w j) (selected-code w j)
+      ap heldIn (cell-put j h) ∙ held-in-put (codeOfPlace w j) address (cellAt row j) (selected w j) (selected-code w j)
 
   pub count-put :
       length (row .cells) ≡ places → countTo (active (putIn w address row)) places ≡ countWith w row
@@ -198,7 +198,7 @@ module _ (limit : ℕ) (p : Profile) (procedure : ℕ) where
 
   pub good-put :
       (w : Places) (address : Address) (row : Row) → rowGood limit p procedure row ≡ true → length (row .cells) ≡ places →
-      ((j : ℕ) → j < places → selected w j ≡ true → cellGood p procedure j (cellOf (codeAt w j) address) ≡ true) →
+      ((j : ℕ) → j < places → selected w j ≡ true → cellGood p procedure j (cellOf (codeOfPlace w j) address) ≡ true) →
       countWith w row ≤ limit →
       rowGood limit p procedure (putIn w address row) ≡ true
   good-put w address row good long right few =

@@ -16,10 +16,10 @@ use Rattle.laws.proofs.Walks.{count-more, gathered-more, Kept}
 use Rattle.numbers.specs.declared.address.Address.{Address}
 use Rattle.profile.specs.declared.profile.Profile.{Profile}
 use Rattle.lists.specs.Entry.{noEntry}
-use Rattle.lists.specs.Entries.{limit, entriesOf}
+use Rattle.lists.specs.Entries.{instancesMost, entriesOf}
 use Rattle.lists.specs.declared.entry.Entry.{Entry}
 use Rattle.lists.specs.declared.entries.Entries.{Entries}
-use Rattle.store.specs.Row.{places, noCell, cellOf, cellAt, active, codeAt, selected, entryOfPlace, entriesIn, cellGood}
+use Rattle.store.specs.Row.{places, noCell, cellOf, cellAt, active, codeOfPlace, selected, entryOfPlace, entriesIn, cellGood}
 use Rattle.store.specs.declared.row.Cell.{Cell}
 use Rattle.store.specs.declared.row.Row.{Row}
 use Rattle.store.specs.declared.row.Places.{Places}
@@ -46,13 +46,13 @@ pub not-active : (row : Row) (j : ℕ) → cellAt row j .service ≡ 0 → activ
 unfolding active
 not-active row j h = rw (eq-eqb (cellAt row j .service) 0 h)
 
-pub is-selected : (w : Places) (j : ℕ) → (codeAt w j ≡ 0 → ⊥) → selected w j ≡ true
+pub is-selected : (w : Places) (j : ℕ) → (codeOfPlace w j ≡ 0 → ⊥) → selected w j ≡ true
 unfolding selected
-is-selected w j h = rw (ne-eqb (codeAt w j) 0 h)
+is-selected w j h = rw (ne-eqb (codeOfPlace w j) 0 h)
 
-pub not-selected : (w : Places) (j : ℕ) → codeAt w j ≡ 0 → selected w j ≡ false
+pub not-selected : (w : Places) (j : ℕ) → codeOfPlace w j ≡ 0 → selected w j ≡ false
 unfolding selected
-not-selected w j h = rw (eq-eqb (codeAt w j) 0 h)
+not-selected w j h = rw (eq-eqb (codeOfPlace w j) 0 h)
 
 -- the places that `count_with` and `active_of` count
 abbrev pub withAt : Places → Row → ℕ → Bool
@@ -63,7 +63,7 @@ bothAt w row j = pick (selected w j) (active row j) false
 
 -- what `put` and `clear` make of a cell
 abbrev pub putAt : Places → Address → ℕ → Cell → Cell
-putAt w address j x = pick (selected w j) (cellOf (codeAt w j) address) x
+putAt w address j x = pick (selected w j) (cellOf (codeOfPlace w j) address) x
 
 abbrev pub clearAt : Places → ℕ → Cell → Cell
 clearAt w j x = pick (selected w j) noCell x
@@ -93,14 +93,14 @@ entriesAt p procedure w row j = pick (selected w j) (pick (active row j) (entryO
 pub entries-turn :
     (p : Profile) (procedure : ℕ) (w : Places) (row : Row) (j count : ℕ) (array es : List Entry) →
     entriesAt p procedure w row j ≡ es →
-    Kept limit noEntry (gathered (entriesAt p procedure w row) j ++ es) count array →
-    Kept limit noEntry (gathered (entriesAt p procedure w row) (j + 1)) count array
+    Kept instancesMost noEntry (gathered (entriesAt p procedure w row) j ++ es) count array →
+    Kept instancesMost noEntry (gathered (entriesAt p procedure w row) (j + 1)) count array
 entries-turn p procedure w row j count array es e so =
     rw (add-one j, gathered-more (entriesAt p procedure w row) j, e) so
 
 pub entries-answer :
     (p : Profile) (procedure : ℕ) (w : Places) (row : Row) (count : ℕ) (array : List Entry) →
-    Kept limit noEntry (gathered (entriesAt p procedure w row) places) count array →
-    _≡_ {A = Entries} record { count = count; entries = array } (entriesOf (take limit (entriesIn p procedure w row)))
+    Kept instancesMost noEntry (gathered (entriesAt p procedure w row) places) count array →
+    _≡_ {A = Entries} record { count = count; entries = array } (entriesOf (take instancesMost (entriesIn p procedure w row)))
 unfolding entriesIn
 entries-answer p procedure w row count array so = rw (so .stored, so .counted)

@@ -6,7 +6,7 @@ use mathlib.Core.List.{List, [], _∷_}
 use lib.ListN.{getD, replicate, take}
 use Rattle.laws.specs.Places.{everyTo}
 use Rattle.profile.specs.declared.profile.Profile.{Profile}
-use Rattle.lists.specs.Entries.{limit, entriesOf}
+use Rattle.lists.specs.Entries.{instancesMost, entriesOf}
 use Rattle.lists.specs.declared.entries.Entries.{Entries}
 use Rattle.store.specs.Row.{places, noCell, entriesIn, rowGood}
 use Rattle.store.specs.declared.row.Places.{Places}
@@ -41,8 +41,8 @@ abbrev pub FreshGrid : Grid → Type 0
 FreshGrid r = r ≡ noGrid
 
 abbrev pub RowsGood : Profile → Row → Row → Row → Bool → Type 0
-RowsGood p cfu cfb cfnr r = r ≡ gridGood limit p (gridOf cfu cfb cfnr)
+RowsGood p cfu cfb cfnr r = r ≡ gridGood instancesMost p (gridOf cfu cfb cfnr)
 
 -- what `entries` promises: a row that breaks no rule has no more than 8
 abbrev pub EntriesIn : Profile → ℕ → Places → Row → Entries → Type 0
-EntriesIn p procedure w row r = r ≡ entriesOf (take limit (entriesIn p procedure w row))
+EntriesIn p procedure w row r = r ≡ entriesOf (take instancesMost (entriesIn p procedure w row))

@@ -18,7 +18,7 @@ use Rattle.profile.specs.declared.profile.Profile.{Profile}
 use Rattle.lists.specs.Entry.{entryOf}
 use Rattle.lists.specs.declared.entry.Entry.{Entry}
 use Rattle.store.specs.declared.row.Cell.{Cell}
-use Rattle.store.specs.declared.row.Instance.{Instance}
+use Rattle.store.specs.declared.row.Held.{Held}
 use Rattle.store.specs.declared.row.Row.{Row}
 use Rattle.store.specs.declared.row.Places.{Places}
 
@@ -60,20 +60,20 @@ unfoldable pub held : Row → View
 held row j = pick (active row j) (some (tidyAddress (cellAt row j .address))) none
 
 -- the instance at a place: its address where one is active
-abbrev pub noInstance : Instance
-noInstance = record { ok = false; address = noCell .address }
+abbrev pub noHeld : Held
+noHeld = record { ok = false; address = noCell .address }
 
-unfoldable pub instanceAt : Row → ℕ → Instance
-instanceAt row j = pick (active row j) (record { ok = true; address = cellAt row j .address }) noInstance
+unfoldable pub heldAt : Row → ℕ → Held
+heldAt row j = pick (active row j) (record { ok = true; address = cellAt row j .address }) noHeld
 
 -- ---- places that are selected
 
 -- the code of the service at a place that is selected, 0 at any other
-abbrev pub codeAt : Places → ℕ → ℕ
-codeAt w j = getD (w .codes) j 0
+abbrev pub codeOfPlace : Places → ℕ → ℕ
+codeOfPlace w j = getD (w .codes) j 0
 
 unfoldable pub selected : Places → ℕ → Bool
-selected w j = pick (eqb (codeAt w j) 0) false true
+selected w j = pick (eqb (codeOfPlace w j) 0) false true
 
 -- how many instances there are with one at every selected place
 unfoldable pub countWith : Places → Row → ℕ
@@ -86,7 +86,7 @@ activeOf w row = countTo (λ j. pick (selected w j) (active row j) false) places
 -- "every selected number and service gets the address, replacing an older one, all together"
 unfoldable pub putIn : Places → Address → Row → Row
 putIn w address row = record {
-  cells = changedFrom (λ j x. pick (selected w j) (cellOf (codeAt w j) address) x) 0 (row .cells);
+  cells = changedFrom (λ j x. pick (selected w j) (cellOf (codeOfPlace w j) address) x) 0 (row .cells);
 }
 
 -- "removes every active selected instance"
@@ -140,5 +140,5 @@ PutIn w address row r = r ≡ putIn w address row
 abbrev pub ClearIn : Places → Row → Row → Type 0
 ClearIn w row r = r ≡ clearIn w row
 
-abbrev pub InstanceAt : Row → ℕ → Instance → Type 0
-InstanceAt row j r = r ≡ instanceAt row j
+abbrev pub HeldAt : Row → ℕ → Held → Type 0
+HeldAt row j r = r ≡ heldAt row j

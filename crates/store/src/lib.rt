@@ -7,7 +7,7 @@ pub use grid::PROCEDURES;
 pub use grid::fresh_grid;
 pub use grid::rows_good;
 pub use row::Cell;
-pub use row::Instance;
+pub use row::Held;
 pub use row::PLACES;
 pub use row::Places;
 pub use row::Row;

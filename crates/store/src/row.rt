@@ -12,9 +12,9 @@ use profile::SERVICES;
 ghost use mathlib.Core.Path.{_≡_};
 ghost use Prim.Native.Nat.{_<_};
 ghost use lib.Dec.{eqb};
-ghost use Rattle.lists.specs.Entries.{limit};
+ghost use Rattle.lists.specs.Entries.{instancesMost};
 ghost use Rattle.laws.specs.Places.{countTo, everyTo};
-ghost use Rattle.store.specs.Row.{places, noCell, noInstance, cellAt, active, cellGood, rowGood, Instances, CountWith, ActiveOf, PutIn, ClearIn, InstanceAt};
+ghost use Rattle.store.specs.Row.{places, noCell, noHeld, cellAt, active, cellGood, rowGood, Instances, CountWith, ActiveOf, PutIn, ClearIn, HeldAt};
 ghost use Rattle.store.specs.Grid.{EntriesIn};
 
 // The places of a row: a number's are together, by service code.
@@ -39,7 +39,7 @@ pub struct Places {
 }
 
 // The address of an instance; or `ok` is false.
-pub struct Instance {
+pub struct Held {
     pub ok: bool,
     pub address: Address,
 }
@@ -62,12 +62,12 @@ pub(crate) fn no_cell() -> Cell
     }
 }
 
-fn no_instance() -> Instance
-    ensures { λ r. ⌜ r ≡ noInstance ⌝ }
+fn no_held() -> Held
+    ensures { λ r. ⌜ r ≡ noHeld ⌝ }
 {
     let none = no_cell();
     let address = none.address;
-    Instance { ok: false, address }
+    Held { ok: false, address }
 }
 
 // Whether the cell at a place breaks no rule.
@@ -201,18 +201,18 @@ impl Row {
     }
 
     // The instance that is active at a place.
-    pub fn instance_at(self, j: usize) -> Instance
-        ensures { λ r. ⌜ InstanceAt self j r ⌝ }
+    pub fn held_at(self, j: usize) -> Held
+        ensures { λ r. ⌜ HeldAt self j r ⌝ }
     {
         if PLACES <= j {
-            return no_instance();
+            return no_held();
         }
         let x = self.cells[j];
         if x.service == 0 {
-            return no_instance();
+            return no_held();
         }
         let address = x.address;
-        Instance { ok: true, address }
+        Held { ok: true, address }
     }
 
     // Whether there is no instance.
@@ -265,7 +265,7 @@ impl Row {
     // Whether the row of a procedure breaks no rule.
     pub(crate) fn good(self, p: Profile, procedure: u8) -> bool
         requires { ⌜ procedure < 3 ⌝ }
-        ensures { λ r. ⌜ r ≡ rowGood limit p procedure self ⌝ }
+        ensures { λ r. ⌜ r ≡ rowGood instancesMost p procedure self ⌝ }
     {
         let n = self.instances();
         if LIMIT < n {

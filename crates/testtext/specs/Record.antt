@@ -16,21 +16,21 @@ unfoldable pub twentyOf : List ℕ → List ℕ
 twentyOf s = pick (room (replicate most 0) 0 s) (over (replicate most 0) 0 s) (replicate most 0)
 
 -- form, type, count and twenty places for digits
-unfoldable pub numberIn : List ℕ → Number
-numberIn s =
+unfoldable pub numberOfOctets : List ℕ → Number
+numberOfOctets s =
     pick (ltb (length s) 23) (numberOf 0 0 [])
     record { form = getD s 0 0; kind = getD s 1 0; count = getD s 2 0; digits = twentyOf (slice 3 23 s) }
 
 -- a number, the count of subaddress octets and twenty places for them
-unfoldable pub addressIn : List ℕ → Address
-addressIn s =
+unfoldable pub addressOfOctets : List ℕ → Address
+addressOfOctets s =
     pick (ltb (length s) 44) record { number = numberOf 0 0 []; subcount = 0; sub = replicate most 0 }
-    record { number = numberIn (slice 0 23 s); subcount = getD s 23 0; sub = twentyOf (slice 24 44 s) }
+    record { number = numberOfOctets (slice 0 23 s); subcount = getD s 23 0; sub = twentyOf (slice 24 44 s) }
 
 -- what `number_of` promises
 abbrev pub NumberOf : List ℕ → Number → Type 0
-NumberOf s r = r ≡ numberIn s
+NumberOf s r = r ≡ numberOfOctets s
 
 -- what `address_of` promises
 abbrev pub AddressOf : List ℕ → Address → Type 0
-AddressOf s r = r ≡ addressIn s
+AddressOf s r = r ≡ addressOfOctets s

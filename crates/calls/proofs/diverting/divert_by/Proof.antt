@@ -36,17 +36,17 @@ mul-row c = omega (arith, c .procedure-of .ensures, procedure-known (c .before .
 element-copy-out-row : tie.Need-element-copy-out-row
 element-copy-out-row c = omega (arith, c .procedure-of .ensures, procedure-known (c .before .before .before .before .before .before .args .c .event))
 
-cast-instance-at : tie.Need-cast-instance-at
-cast-instance-at c = search needs
+cast-held-at : tie.Need-cast-held-at
+cast-held-at c = search needs
 
-mul-instance-at : tie.Need-mul-instance-at
-mul-instance-at c = search needs
+mul-held-at : tie.Need-mul-held-at
+mul-held-at c = search needs
 
-add-instance-at : tie.Need-add-instance-at
-add-instance-at c = search needs
+add-held-at : tie.Need-add-held-at
+add-held-at c = search needs
 
-instance-at-requires : tie.Need-instance-at-requires
-instance-at-requires c κs = search needs
+held-at-requires : tie.Need-held-at-requires
+held-at-requires c κs = search needs
 
 stays-here-requires-3 : tie.Need-stays-here-requires-3
 stays-here-requires-3 c κs = search needs
@@ -55,7 +55,7 @@ returns-3 : tie.Need-returns-3
 returns-3 c =
     let a = c .before .before .before .before .before .before .before .before .before .before .before .before .args in
     rw (found-none (a .p) (a .t2) (a .c) (c .before .before .before .before .before .before .before .before .before .before .if1 .left) _ _ _ (c .before .before .before .before .before .before .before .before .before .service-slot .ensures) (c .before .before .before .before .before .before .before .if2 .left)
-    (c .before .before .before .before .before .before .procedure-of .ensures) (c .before .before .before .instance-at .ensures) (not-true _ (c .before .if3 .taken)))
+    (c .before .before .before .before .before .before .procedure-of .ensures) (c .before .before .before .held-at .ensures) (not-true _ (c .before .if3 .taken)))
     (c .stays-here3 .ensures)
 
 refuses-requires : tie.Need-refuses-requires
@@ -66,7 +66,7 @@ returns-4 c =
     let a = c .before .before .before .before .before .before .before .before .before .before .before .before .before .before .before .args in
     rw (
       found-some (a .p) (a .t2) (a .c) (c .before .before .before .before .before .before .before .before .before .before .before .before .before .if1 .left) _ _ _ (c .before .before .before .before .before .before .before .before .before .before .before .before .service-slot .ensures) (c .before .before .before .before .before .before .before .before .before .before .if2 .left)
-          (c .before .before .before .before .before .before .before .before .before .procedure-of .ensures) (c .before .before .before .before .before .before .instance-at .ensures) (not-false _ (c .before .before .before .before .if3 .left)),
+          (c .before .before .before .before .before .before .before .before .before .procedure-of .ensures) (c .before .before .before .before .before .before .held-at .ensures) (not-false _ (c .before .before .before .before .if3 .left)),
       le-ltb _ _ (c .before .if4 .taken),
     )
     (c .refuses .ensures)
@@ -81,7 +81,7 @@ returns-5 c =
     let a = c .before .before .before .before .before .before .before .before .before .before .before .before .before .before .before .before .args in
     rw (
       found-some (a .p) (a .t2) (a .c) (c .before .before .before .before .before .before .before .before .before .before .before .before .before .before .if1 .left) _ _ _ (c .before .before .before .before .before .before .before .before .before .before .before .before .before .service-slot .ensures) (c .before .before .before .before .before .before .before .before .before .before .before .if2 .left)
-          (c .before .before .before .before .before .before .before .before .before .before .procedure-of .ensures) (c .before .before .before .before .before .before .before .instance-at .ensures) (not-false _ (c .before .before .before .before .before .if3 .left)),
+          (c .before .before .before .before .before .before .before .before .before .before .procedure-of .ensures) (c .before .before .before .before .before .before .before .held-at .ensures) (not-false _ (c .before .before .before .before .before .if3 .left)),
       lt-ltb _ _ (c .before .before .if4 .left),
     )
     (c .go-on .ensures)
@@ -99,10 +99,10 @@ divert-by-spec =
     procedure-of-requires
     mul-row
     element-copy-out-row
-    cast-instance-at
-    mul-instance-at
-    add-instance-at
-    instance-at-requires
+    cast-held-at
+    mul-held-at
+    add-held-at
+    held-at-requires
     stays-here-requires-3
     returns-3
     refuses-requires

@@ -1,4 +1,4 @@
-use Rattle.calls.specs.Divert.{nowhere}
+use Rattle.calls.specs.Divert.{noOnward}
 use mathlib.Core.Path.{refl}
 use borrow.Author.Needs.{needs}
 use Rattle.calls.proofs.diverting.stays_here.Statement.{statement}
@@ -8,7 +8,7 @@ no-number-requires : tie.Need-no-number-requires
 no-number-requires c κs = search needs
 
 returns : tie.Need-returns
-unfolding nowhere
+unfolding noOnward
 returns c = record { told = refl; call = rw (c .no-number .ensures) }
 
 pub stays-here-spec : {M : Type 1} → statement M

@@ -1,6 +1,6 @@
 use Rattle.laws.proofs.Parts.{unmapped}
 use Rattle.lists.proofs.Writers.{Written, written-first, written-room, written-next, written-counted, written-all, written-most}
-use Rattle.lists.specs.Entries.{limit}
+use Rattle.lists.specs.Entries.{instancesMost}
 use lib.ListN.{length}
 use Prim.Native.Nat.{_-_}
 use mathlib.Core.Path.{_≡_, refl}
@@ -13,7 +13,7 @@ abbrev Inv-loop : tie.InvT-loop
 Inv-loop out₀ count entries at₀ i₀ out at i = (length out ≡ length out₀) × Written entries count out₀ i at out
 
 abbrev μ-loop : tie.MeasureT-loop
-μ-loop out₀ count entries at₀ i₀ out at i = limit - i
+μ-loop out₀ count entries at₀ i₀ out at i = instancesMost - i
 
 cast-count : tie.Need-cast-count Inv-loop μ-loop
 cast-count c = search needs
@@ -47,7 +47,7 @@ loop-less c = search needs
 loop-again : tie.Need-loop-again Inv-loop μ-loop
 loop-again c =
     let l = c .before .before .before .before .before .before .before .loop in
-    let long : length (c .before .before .before .before .before .before .before .before .before .before .before .args .list .entries) ≡ limit = search (unmapped, needs, c .before .before .before .before .before .before .before .before .before .before .before .good) in
+    let long : length (c .before .before .before .before .before .before .before .before .before .before .before .args .list .entries) ≡ instancesMost = search (unmapped, needs, c .before .before .before .before .before .before .before .before .before .before .before .good) in
     let one = c .before .before .write-entry .ensures in
     (search needs, written-next _ _ _ (l .inv .1) _ long (c .before .before .before .before .before .before .loop-test .taken) (omega (arith, c .before .before .before .before .before .if1 .left)) (one .0) (one .1))
 
@@ -57,7 +57,7 @@ same-length-2 c = search needs
 returns-2 : tie.Need-returns-2 Inv-loop μ-loop
 returns-2 c =
     let so = c .before .loop .inv .1 in
-    let long : length (c .before .before .before .before .before .args .list .entries) ≡ limit = search (unmapped, needs, c .before .before .before .before .before .good) in
+    let long : length (c .before .before .before .before .before .args .list .entries) ≡ instancesMost = search (unmapped, needs, c .before .before .before .before .before .good) in
     (written-all _ _ _ so long (omega (arith, c .loop-test .left)), written-most _ _ _ so)
 
 pub write-entries-spec : {M : Type 1} → statement M

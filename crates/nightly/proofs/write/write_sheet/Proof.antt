@@ -8,7 +8,7 @@ use Rattle.nightly.specs.Instances.{instancesOf}
 use Rattle.sheet.specs.declared.record.Refusal.the-variants.{ShortOutput, BadProfile, BadTable}
 use Rattle.profile.specs.Access.{accessRead}
 use Rattle.profile.specs.declared.access.AccessRead.{AccessRead}
-use Rattle.lists.specs.Entries.{limit}
+use Rattle.lists.specs.Entries.{instancesMost}
 use Rattle.exchange.specs.Table.{tableGood}
 use Rattle.laws.specs.Over.{Wrote}
 use Prim.Native.Nat.{_≤_}
@@ -68,7 +68,7 @@ room c = omega (arith, c .before .before .before .before .before .before .if1 .l
 ok : (c : tie.Else3) → accessRead (c .before .before .before .before .before .before .before .before .before .args .access .now) .ok ≡ true
 ok c = ap (λ (r : AccessRead). r .ok) (sym (c .before .before .before .before .before .read-access .ensures)) ∙ not-false _ (c .before .before .before .if2 .left)
 
-good : (c : tie.Else3) → tableGood limit (accessRead (c .before .before .before .before .before .before .before .before .before .args .access .now) .profile) (c .before .before .before .before .before .before .before .before .before .args .table) ≡ true
+good : (c : tie.Else3) → tableGood instancesMost (accessRead (c .before .before .before .before .before .before .before .before .before .args .access .now) .profile) (c .before .before .before .before .before .before .before .before .before .args .table) ≡ true
 good c = rw (c .before .before .before .before .before .read-access .ensures) at (sym (c .before .good2 .ensures) ∙ not-false _ (c .if3 .left))
 
 fit : (c : tie.Else3) → Ready (c .before .before .before .before .before .before .before .before .before .args .table) (c .before .before .before .before .before .before .before .before .before .args .out .now)

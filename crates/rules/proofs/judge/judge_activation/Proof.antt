@@ -1,5 +1,5 @@
 use Rattle.rules.proofs.Judges.{no-room, some-room}
-use Rattle.lists.specs.Entries.{limit}
+use Rattle.lists.specs.Entries.{instancesMost}
 use borrow.Author.Tests.{eq-eqb, ne-eqb}
 use borrow.Author.Needs.{needs}
 use native.Mathlib.Omega.{arith}
@@ -38,10 +38,10 @@ count-with-requires : tie.Need-count-with-requires
 count-with-requires c κs = search needs
 
 returns-6 : tie.Need-returns-6
-returns-6 c = let own = c .before .before in let prefix = own .before .before in let kind = prefix .before .before in let user = kind .before .before .before in let given = user .before .before .before in let s = given .before .before .args in rw (sym (given .before .not-provided .ensures) ∙ given .if1 .left, ne-eqb _ _ (user .if2 .left), sym (kind .before .other-kind .ensures) ∙ kind .if3 .left, sym (prefix .before .begins-any .ensures) ∙ prefix .if4 .left, sym (own .before .selected-same .ensures) ∙ own .if5 .left, no-room limit (s .p) (s .w) (s .row) (omega (arith, c .before .count-with .ensures)))
+returns-6 c = let own = c .before .before in let prefix = own .before .before in let kind = prefix .before .before in let user = kind .before .before .before in let given = user .before .before .before in let s = given .before .before .args in rw (sym (given .before .not-provided .ensures) ∙ given .if1 .left, ne-eqb _ _ (user .if2 .left), sym (kind .before .other-kind .ensures) ∙ kind .if3 .left, sym (prefix .before .begins-any .ensures) ∙ prefix .if4 .left, sym (own .before .selected-same .ensures) ∙ own .if5 .left, no-room instancesMost (s .p) (s .w) (s .row) (omega (arith, c .before .count-with .ensures)))
 
 returns-7 : tie.Need-returns-7
-returns-7 c = let own = c .before .before in let prefix = own .before .before in let kind = prefix .before .before in let user = kind .before .before .before in let given = user .before .before .before in let s = given .before .before .args in rw (sym (given .before .not-provided .ensures) ∙ given .if1 .left, ne-eqb _ _ (user .if2 .left), sym (kind .before .other-kind .ensures) ∙ kind .if3 .left, sym (prefix .before .begins-any .ensures) ∙ prefix .if4 .left, sym (own .before .selected-same .ensures) ∙ own .if5 .left, some-room limit (s .p) (s .w) (s .row) (omega (arith, c .before .count-with .ensures)))
+returns-7 c = let own = c .before .before in let prefix = own .before .before in let kind = prefix .before .before in let user = kind .before .before .before in let given = user .before .before .before in let s = given .before .before .args in rw (sym (given .before .not-provided .ensures) ∙ given .if1 .left, ne-eqb _ _ (user .if2 .left), sym (kind .before .other-kind .ensures) ∙ kind .if3 .left, sym (prefix .before .begins-any .ensures) ∙ prefix .if4 .left, sym (own .before .selected-same .ensures) ∙ own .if5 .left, some-room instancesMost (s .p) (s .w) (s .row) (omega (arith, c .before .count-with .ensures)))
 
 pub judge-activation-spec : {M : Type 1} → statement M
 judge-activation-spec =

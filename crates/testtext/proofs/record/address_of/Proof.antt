@@ -2,7 +2,7 @@ use native.Mathlib.Omega.{arith}
 use lib.ListN.{length-take}
 use borrow.Author.Tests.{lt-ltb, le-ltb}
 use Rattle.laws.proofs.Parts.{part-slice}
-use Rattle.testtext.specs.Record.{addressIn}
+use Rattle.testtext.specs.Record.{addressOfOctets}
 use borrow.Author.Needs.{needs}
 use Rattle.testtext.proofs.record.address_of.Statement.{statement}
 use Rattle.testtext.proofs.record.address_of.Tie as tie
@@ -11,7 +11,7 @@ no-number-requires : tie.Need-no-number-requires
 no-number-requires c κs = search needs
 
 returns : tie.Need-returns
-unfolding addressIn
+unfolding addressOfOctets
 returns c = rw (lt-ltb _ _ (c .before .if1 .taken), c .no-number .ensures)
 
 slice-aggregate-number-of : tie.Need-slice-aggregate-number-of
@@ -39,7 +39,7 @@ shared-slice-read-t15 : tie.Need-shared-slice-read-t15
 shared-slice-read-t15 c = search needs
 
 returns-2 : tie.Need-returns-2
-unfolding addressIn
+unfolding addressOfOctets
 returns-2 c = let k = c .before in rw (le-ltb _ _ (k .before .before .before .before .if1 .left), k .before .before .number-of .ensures, k .twenty-of .ensures, part-slice 24 44)
 
 pub address-of-spec : {M : Type 1} → statement M

@@ -1,6 +1,6 @@
 use borrow.Author.Tests.{lt-ltb, le-ltb}
 use Rattle.laws.proofs.Parts.{part-slice}
-use Rattle.testtext.specs.Record.{numberIn}
+use Rattle.testtext.specs.Record.{numberOfOctets}
 use borrow.Author.Needs.{needs}
 use Rattle.testtext.proofs.record.number_of.Statement.{statement}
 use Rattle.testtext.proofs.record.number_of.Tie as tie
@@ -9,7 +9,7 @@ no-number-requires : tie.Need-no-number-requires
 no-number-requires c κs = search needs
 
 returns : tie.Need-returns
-unfolding numberIn
+unfolding numberOfOctets
 returns c = rw (lt-ltb _ _ (c .before .if1 .taken), c .no-number .ensures)
 
 sub-twenty-of : tie.Need-sub-twenty-of
@@ -34,7 +34,7 @@ shared-slice-read-t13 : tie.Need-shared-slice-read-t13
 shared-slice-read-t13 c = search needs
 
 returns-2 : tie.Need-returns-2
-unfolding numberIn
+unfolding numberOfOctets
 returns-2 c = let k = c .before .before .before in rw (le-ltb _ _ (k .before .before .if1 .left), k .twenty-of .ensures, part-slice 3 23)
 
 pub number-of-spec : {M : Type 1} → statement M

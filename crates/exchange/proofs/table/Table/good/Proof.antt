@@ -1,6 +1,6 @@
 use Rattle.exchange.proofs.Tables.{table-over, table-grid}
 use Rattle.store.proofs.Grids.{grid-of-rows}
-use Rattle.lists.specs.Entries.{limit}
+use Rattle.lists.specs.Entries.{instancesMost}
 use mathlib.Core.Path.{sym, _∙_}
 use borrow.Author.Needs.{needs}
 use Rattle.exchange.proofs.table.Table.good.Statement.{statement}
@@ -8,7 +8,7 @@ use Rattle.exchange.proofs.table.Table.good.Tie as tie
 
 returns : tie.Need-returns
 returns c =
-    let a = c .before .before .args in sym (table-over limit (a .p) (a .self) (c .if1 .taken))
+    let a = c .before .before .args in sym (table-over instancesMost (a .p) (a .self) (c .if1 .taken))
 
 element-copy-out-cfu : tie.Need-element-copy-out-cfu
 element-copy-out-cfu c = search needs
@@ -27,8 +27,8 @@ returns-2 c =
     let k = c .before .before .before .before .before in
     let a = k .before .before .args in
     c .rows-good .ensures
-    ∙ grid-of-rows limit (a .p) (a .self .grid)
-    ∙ sym (table-grid limit (a .p) (a .self) (k .if1 .left))
+    ∙ grid-of-rows instancesMost (a .p) (a .self .grid)
+    ∙ sym (table-grid instancesMost (a .p) (a .self) (k .if1 .left))
 
 pub good-spec : {M : Type 1} → statement M
 good-spec =

@@ -1,7 +1,7 @@
 use Rattle.store.proofs.Turns.{is-active, not-active, is-selected, not-selected, entriesAt, entries-turn, entries-answer}
 use Rattle.store.specs.Row.{places, entryOfPlace}
 use Rattle.lists.specs.Entry.{noEntry}
-use Rattle.lists.specs.Entries.{limit}
+use Rattle.lists.specs.Entries.{instancesMost}
 use Rattle.laws.specs.Places.{gathered}
 use Rattle.laws.proofs.Walks.{gathered-none, Kept, kept-none, kept-same, kept-next, kept-full}
 use native.Mathlib.Omega.{arith}
@@ -15,7 +15,7 @@ use Rattle.store.proofs.row.Row.entries.Tie as tie
 
 abbrev Inv-loop : tie.InvT-loop
 Inv-loop procedure self p w list₀ count₀ j₀ list count j =
-    (j ≤ places) × (count ≤ limit) × Kept limit noEntry (gathered (entriesAt p procedure w self) j) count (list .entries)
+    (j ≤ places) × (count ≤ instancesMost) × Kept instancesMost noEntry (gathered (entriesAt p procedure w self) j) count (list .entries)
 
 abbrev μ-loop : tie.MeasureT-loop
 μ-loop procedure self p w list₀ count₀ j₀ list count j = places - j
@@ -26,7 +26,7 @@ no-entries-requires c κs = search needs
 loop-holds : tie.Need-loop-holds Inv-loop μ-loop
 loop-holds c =
     let a = c .before .args in
-    (omega arith, omega arith, rw (gathered-none (entriesAt (a .t2) (a .procedure) (a .t4) (a .t1)), c .no-entries .ensures) (kept-none limit noEntry))
+    (omega arith, omega arith, rw (gathered-none (entriesAt (a .t2) (a .procedure) (a .t4) (a .t1)), c .no-entries .ensures) (kept-none instancesMost noEntry))
 
 mul-x : tie.Need-mul-x Inv-loop μ-loop
 mul-x c = search needs
@@ -72,20 +72,20 @@ loop-again c =
     let es = gathered (entriesAt (a .t2) (a .procedure) w row) j in
     let e = entryOfPlace (a .t2) (a .procedure) row j in
     let turn = entries-turn (a .t2) (a .procedure) w row j in
-    let none = kept-same limit noEntry es count array so in
+    let none = kept-same instancesMost noEntry es count array so in
     ⊎-elim
     (λ v. rw (v .6, v .7) (
       omega arith,
       omega arith,
       turn _ _ (e ∷ []) (rw (is-selected w j (v .0 .taken), is-active row j (v .2 .taken)))
-          (kept-next limit noEntry es count array so e (v .3 .taken)),
+          (kept-next instancesMost noEntry es count array so e (v .3 .taken)),
     ))
     (⊎-elim
     (λ v. rw (v .4, v .5) (
       omega arith,
       l .loop .inv .1,
       turn _ _ (e ∷ []) (rw (is-selected w j (v .0 .taken), is-active row j (v .2 .taken)))
-          (kept-full limit noEntry es count array so e (v .3 .left)),
+          (kept-full instancesMost noEntry es count array so e (v .3 .left)),
     ))
     (⊎-elim
     (λ v. rw (v .3, v .4)
