@@ -1,6 +1,6 @@
 -- Laws of `pick`. Assumes nothing.
 use mathlib.Core.Path.{_≡_, refl, sym, _∙_}
-use mathlib.Core.Bool.{Bool, true, false, false≢true}
+use mathlib.Core.Bool.{Bool, true, false, not, false≢true}
 use Rattle.laws.specs.Pick.{pick}
 
 -- what holds of both answers holds of the one picked
@@ -35,3 +35,13 @@ pick-map f false x y = refl
 pub pick-first : {A : Type 0} (b : Bool) (x y : A) → (pick b x y ≡ y → ⊥) → b ≡ true
 pick-first true x y h = refl
 pick-first false x y h = absurd (h refl)
+
+-- a test that is the last of several
+pub pick-last : (b : Bool) → pick b true false ≡ b
+pick-last true = refl
+pick-last false = refl
+
+-- a test that must fail
+pub not-passed : (b : Bool) → not b ≡ true → b ≡ false
+not-passed true h = absurd (false≢true h)
+not-passed false h = refl

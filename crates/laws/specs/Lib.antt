@@ -1,4 +1,5 @@
 pub mod Pick
+pub mod Tests
 pub mod Fewest
 pub mod Got
 pub mod Over
