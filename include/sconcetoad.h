@@ -6,6 +6,10 @@
 #include <stddef.h>
 #include <stdint.h>
 
+#ifdef __cplusplus
+extern "C" {
+#endif
+
 /* A number: form 0 unknown, 1 public, 2 another kind; a public number's type; and `count` digits as characters. */
 struct sconcetoad_number {
     uint8_t form;
@@ -214,5 +218,9 @@ struct sconcetoad_sheet_taken sconcetoad_read_sheet(const uint8_t *access, size_
    SCONCETOAD_SHORT_OUTPUT, where the output has fewer octets than SCONCETOAD_LISTING, and SCONCETOAD_BAD_SHEET; the lowest that applies is
    told, and then nothing is written. The sheet and the octets of `out` after the listing are not altered. */
 struct sconcetoad_sheet_written sconcetoad_list_sheet(const uint8_t *sheet, size_t sheet_length, uint8_t *out, size_t out_length);
+
+#ifdef __cplusplus
+}
+#endif
 
 #endif

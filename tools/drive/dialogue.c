@@ -4,8 +4,7 @@
 #include <string.h>
 #include "drive.h"
 
-/* The longest line, and the most octets of what a line sets. */
-#define LINE_MOST 16000
+/* The most octets of what a line sets. */
 #define ACCESS_MOST 512
 #define COMPONENT_MOST 1100
 #define CALL_MOST 64
@@ -14,22 +13,6 @@
 
 static struct lent access_record, component, call, sheet, output, digits;
 static struct sconcetoad_table table;
-static long line_number;
-
-static int wrong(const char *what)
-{
-    fprintf(stderr, "drive: line %ld: %s\n", line_number, what);
-    return 1;
-}
-
-static int set_octets(struct lent *lent, const char *text, size_t most, const char *otherwise)
-{
-    long count = octets_from(text, lent_octets(lent), most);
-    if (count < 0)
-        return wrong(otherwise);
-    lent->size = (size_t)count;
-    return 0;
-}
 
 static int set_table(const char *text)
 {
@@ -50,12 +33,6 @@ static int set_output(const char *text)
     return 0;
 }
 
-/* How many octets of the output may be others than before: none where it is refused. */
-static size_t written_of(uint8_t refusal, size_t count)
-{
-    return refusal == SCONCETOAD_ANSWERED ? count : 0;
-}
-
 static char *table_said(char *at, const struct sconcetoad_table *said)
 {
     static uint8_t octets[TABLE_MOST];
@@ -63,18 +40,12 @@ static char *table_said(char *at, const struct sconcetoad_table *said)
     return octets_to(at, octets, table_to(octets, said));
 }
 
-static void end_line(char *line, char *at)
-{
-    *at++ = '\n';
-    fwrite(line, 1, (size_t)(at - line), stdout);
-}
-
 static void say(const struct sconcetoad_arrival *arrival, int kept)
 {
     static char line[LINE_MOST];
     char *at = line;
     if (arrival->refusal != SCONCETOAD_ANSWERED) {
-        at += sprintf(at, "refused %d", arrival->refusal);
+        at += sprintf(at, "%s", refusal_said(arrival->refusal));
     } else if (arrival->count == 0) {
         at += sprintf(at, "silent");
     } else {
@@ -109,15 +80,16 @@ static int arrive(const char *text)
 
 static void say_diversion(const struct sconcetoad_diversion *diversion, size_t count)
 {
-    char line[LINE_MOST];
+    static char line[LINE_MOST];
+    uint8_t octets[sizeof diversion->call];
     char *at = line;
     if (diversion->refusal != SCONCETOAD_ANSWERED) {
-        at += sprintf(at, "refused %d", diversion->refusal);
+        at += sprintf(at, "%s", refusal_said(diversion->refusal));
     } else if (diversion->reason == 0) {
         at += sprintf(at, "passed");
     } else {
         at += sprintf(at, "diverted %d %d ", diversion->reason, diversion->notice);
-        at = octets_to(at, (const uint8_t *)&diversion->call, sizeof diversion->call);
+        at = octets_to(at, octets, (size_t)(onward_to(octets, &diversion->call) - octets));
         at += sprintf(at, count == 0 ? " original" : " original ");
         at = octets_to(at, lent_octets(&digits), count);
     }
@@ -152,7 +124,7 @@ static int write_sheet(void)
     if (written.count > output.size)
         return wrong("the sheet is longer than the output");
     if (written.refusal != SCONCETOAD_ANSWERED) {
-        at += sprintf(at, "refused %d", written.refusal);
+        at += sprintf(at, "%s", refusal_said(written.refusal));
     } else {
         at += sprintf(at, "wrote ");
         at = octets_to(at, lent_octets(&output), written.count);
@@ -175,7 +147,7 @@ static int read_sheet(const char *text)
     if (!came_back(&access_record, 0) || !came_back(&sheet, 0))
         return wrong("an octet changed that should not");
     if (taken.refusal != SCONCETOAD_ANSWERED)
-        return printf("refused %d\n", taken.refusal) < 0;
+        return puts(refusal_said(taken.refusal)) == EOF;
     table = taken.table;
     end_line(line, table_said(line + sprintf(line, "read "), &table));
     return 0;
@@ -193,7 +165,7 @@ static int list_sheet(const char *text)
     if (count > output.size || !came_back(&sheet, 0) || !came_back(&output, count))
         return wrong("an octet changed that should not");
     if (listed.refusal != SCONCETOAD_ANSWERED)
-        return printf("refused %d\n", listed.refusal) < 0;
+        return puts(refusal_said(listed.refusal)) == EOF;
     return fwrite(lent_octets(&output), 1, count, stdout) != count;
 }
 
@@ -207,16 +179,11 @@ static int start(void)
     return 0;
 }
 
-/* A line is a word and what stands after one space, or the word alone. */
 static int obey(char *line)
 {
     if (line[0] == '#')
         return puts(line) == EOF;
-    char *rest = strchr(line, ' ');
-    if (rest)
-        *rest++ = '\0';
-    else
-        rest = line + strlen(line);
+    char *rest = rest_of(line);
     if (strcmp(line, "start") == 0 && *rest == '\0')
         return start();
     if (strcmp(line, "access") == 0)
@@ -240,17 +207,7 @@ static int obey(char *line)
 
 int dialogue(void)
 {
-    static char line[LINE_MOST + 2];
     digits.size = SCONCETOAD_DIGITS;
     start();
-    while (fgets(line, sizeof line, stdin)) {
-        line_number++;
-        size_t length = strcspn(line, "\n");
-        if (length > LINE_MOST)
-            return wrong("a line has at most 16000 characters");
-        line[length] = '\0';
-        if (obey(line))
-            return 1;
-    }
-    return 0;
+    return each_line(obey);
 }

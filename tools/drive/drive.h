@@ -6,7 +6,7 @@
 #include <stdint.h>
 #include "../../include/sconcetoad.h"
 
-/* ---- octets.c: octets and tables as lines have them */
+/* ---- octets.c: octets as lines have them */
 
 /* Reads upper-case hexadecimal to the end of the text; answers how many octets, or -1 where it is none or more than `most`. */
 long octets_from(const char *text, uint8_t *octets, size_t most);
@@ -14,13 +14,30 @@ long octets_from(const char *text, uint8_t *octets, size_t most);
 /* Writes hexadecimal and answers where it ends. */
 char *octets_to(char *at, const uint8_t *octets, size_t count);
 
-/* The most octets of a table in a line: the identifier, and every cell with its place. */
-#define TABLE_MOST (2 + 3 * SCONCETOAD_PLACES * 46)
+/* The same with a space before each octet. */
+char *spaced_to(char *at, const uint8_t *octets, size_t count);
+
+/* ---- records.c: records octet by octet, each field by its name (docs/RECORDS.md) */
+
+/* Each reads or writes a record's octets and answers where they end. */
+const uint8_t *entry_from(const uint8_t *at, struct sconcetoad_entry *entry);
+uint8_t *entry_to(uint8_t *at, const struct sconcetoad_entry *entry);
+uint8_t *onward_to(uint8_t *at, const struct sconcetoad_onward *onward);
+
+/* The most octets of a table in a line (docs/DIALOGUES.md): the identifier, and every cell with its place. */
+#define TABLE_MOST (2 + SCONCETOAD_PROCEDURES * SCONCETOAD_PLACES * (1 + sizeof(struct sconcetoad_cell)))
 
 /* Answers whether the octets are a table. */
 int table_from(const uint8_t *octets, size_t count, struct sconcetoad_table *table);
-
 size_t table_to(uint8_t *octets, const struct sconcetoad_table *table);
+
+/* ---- refusals.c: the local refusals by the header's names */
+
+/* What is printed of a refusal: document 01's number of it, or `refused ?` where the header has no name for it. */
+const char *refusal_said(uint8_t refusal);
+
+/* How many octets of the output may be others than before: none where it is refused. */
+size_t written_of(uint8_t refusal, size_t count);
 
 /* ---- lent.c: what is lent to the library, between canaries, and whether it came back as it was */
 
@@ -51,8 +68,29 @@ void lend_filled(struct lent *lent);
 /* Notes the canaries as they stand; answers whether they and the octets from `from` on are as they were. */
 int came_back(struct lent *lent, size_t from);
 
-/* Prints the canaries of all that came back since it was last called. */
+/* From now on canaries are printed. */
+void ask_canaries(void);
+
+/* Prints, where that was asked, the canaries of all that came back since it was last called. */
 int say_canaries(void);
+
+/* ---- lines.c: lines in and out */
+
+#define LINE_MOST 16000
+
+/* Says what is wrong with the line at hand, and answers 1. */
+int wrong(const char *what);
+
+/* Ends the word that a line begins with, and answers what stands after one space, or nothing. */
+char *rest_of(char *line);
+
+/* What is lent is from now on these octets; `otherwise` is said where they are none, or more than `most`. */
+int set_octets(struct lent *lent, const char *text, size_t most, const char *otherwise);
+
+void end_line(char *line, char *at);
+
+/* Hands over one line of the standard input after the other, until one answers other than 0. */
+int each_line(int (*obey)(char *line));
 
 /* ---- sheets.c: night sheets there and back */
 
@@ -75,6 +113,12 @@ struct occasion {
     size_t reply;
 };
 
+/* Where the codes of the services stand in an access record. */
+#define ACCESS_SERVICES 94
+
+/* Makes zeros the access record of four numbers, six services, every procedure, MSN and "all numbers", in use, with a counted end. */
+void wide_access(uint8_t *access);
+
 /* Each answers whether there is such an occasion; they are numbered from 0. */
 int occasion_numbered(size_t n, struct occasion *occasion);
 int occasion_named(const char *name, struct occasion *occasion);
@@ -82,6 +126,8 @@ int occasion_named(const char *name, struct occasion *occasion);
 /* ---- what the driver does */
 
 int dialogue(void);
+int cases(void);
+int limits(void);
 int bench(const char *what, long turns);
 int stack(void);
 

@@ -4,10 +4,11 @@
 #include <string.h>
 #include "drive.h"
 
-/* How many things were lent since the start; and the canaries of those that came back since they were last said. */
+/* How many things were lent since the start; the canaries of those that came back since they were last said; and whether they are to be. */
 static unsigned things;
 static char seen[LENT_A_LINE * (1 + 2 * 2 * LENT_CANARY)];
 static size_t seen_length;
+static int asked;
 
 uint8_t *lent_octets(struct lent *lent)
 {
@@ -59,9 +60,14 @@ int came_back(struct lent *lent, size_t from)
            memcmp(lent->octets + rest, lent->before + rest, lent->size - from + LENT_CANARY) == 0;
 }
 
+void ask_canaries(void)
+{
+    asked = 1;
+}
+
 int say_canaries(void)
 {
-    int count = printf("canaries%.*s\n", (int)seen_length, seen);
+    int count = asked ? printf("canaries%.*s\n", (int)seen_length, seen) : 0;
     seen_length = 0;
     return count < 0;
 }

@@ -33,8 +33,7 @@ static void sample_access(uint8_t *access)
     memcpy(access + 93, rest, sizeof rest);
 }
 
-/* Four numbers, six services, every procedure, MSN and "all numbers", in use, a counted end. */
-static void wide_access(uint8_t *access)
+void wide_access(uint8_t *access)
 {
     static const char *const numbers[] = {"13579", "13580", "13581", "13582"};
     static const uint8_t rest[] = {6, 1, 2, 3, 4, 5, 32, 1, 1, 1, 1, 1, 1, 1, 0, 0, 5, 0};

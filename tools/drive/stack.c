@@ -1,6 +1,7 @@
 /* How deep the stack goes in an arrival: it runs in a thread of its own, on a stack that was painted before. */
 #define _POSIX_C_SOURCE 200809L
 #include <pthread.h>
+#include <stdalign.h>
 #include <stdio.h>
 #include <string.h>
 #include "drive.h"
@@ -8,7 +9,7 @@
 #define ROOM (256 * 1024)
 #define PAINT 0xA5
 
-static _Alignas(4096) uint8_t room[ROOM];
+alignas(4096) static uint8_t room[ROOM];
 static struct occasion occasion;
 static struct sconcetoad_arrival arrival;
 static uint8_t out[SCONCETOAD_OUTPUT];

@@ -1,0 +1,97 @@
+/* The size of every record, and where each of its fields stands and how long it is: the figures of docs/RECORDS.md. Nothing runs. */
+#include <assert.h>
+#include "drive.h"
+
+#define RECORD(record, size) static_assert(sizeof(struct sconcetoad_##record) == (size), #record)
+#define FIELD(record, field, at, size)                                                                                              \
+    static_assert(offsetof(struct sconcetoad_##record, field) == (at) && sizeof(((struct sconcetoad_##record *)0)->field) == (size), \
+                  #record "." #field)
+
+RECORD(number, 23);
+FIELD(number, form, 0, 1);
+FIELD(number, kind, 1, 1);
+FIELD(number, count, 2, 1);
+FIELD(number, digits, 3, 20);
+
+RECORD(address, 44);
+FIELD(address, number, 0, 23);
+FIELD(address, subcount, 23, 1);
+FIELD(address, sub, 24, 20);
+
+RECORD(forwarded, 45);
+FIELD(forwarded, address, 0, 44);
+FIELD(forwarded, user, 44, 1);
+
+RECORD(served, 24);
+FIELD(served, all, 0, 1);
+FIELD(served, number, 1, 23);
+
+RECORD(request, 71);
+FIELD(request, procedure, 0, 1);
+FIELD(request, service, 1, 1);
+FIELD(request, served, 2, 24);
+FIELD(request, to, 26, 45);
+
+RECORD(said, 78);
+FIELD(said, asks, 0, 1);
+FIELD(said, identifier, 2, 2);
+FIELD(said, operation, 4, 2);
+FIELD(said, request, 6, 71);
+
+RECORD(entry, 69);
+FIELD(entry, served, 0, 23);
+FIELD(entry, service, 23, 1);
+FIELD(entry, procedure, 24, 1);
+FIELD(entry, address, 25, 44);
+
+RECORD(entries, 553);
+FIELD(entries, count, 0, 1);
+FIELD(entries, entries, 1, 8 * 69);
+
+RECORD(told, 554);
+FIELD(told, lists, 0, 1);
+FIELD(told, list, 1, 553);
+
+RECORD(cell, 45);
+FIELD(cell, service, 0, 1);
+FIELD(cell, address, 1, 44);
+
+RECORD(row, 1080);
+FIELD(row, cells, 0, 24 * 45);
+
+RECORD(grid, 3240);
+FIELD(grid, rows, 0, 3 * 1080);
+
+RECORD(table, SCONCETOAD_TABLE);
+RECORD(table, 3242);
+FIELD(table, last, 0, 2);
+FIELD(table, grid, 2, 3240);
+
+RECORD(arrival, 3264);
+FIELD(arrival, refusal, 0, 1);
+FIELD(arrival, count, 8, 8);
+FIELD(arrival, table, 16, 3242);
+
+RECORD(onward, 95);
+FIELD(onward, counter, 0, 1);
+FIELD(onward, called, 1, 44);
+FIELD(onward, redirecting, 45, 23);
+FIELD(onward, redirectingshown, 68, 1);
+FIELD(onward, originalshown, 69, 1);
+FIELD(onward, preference, 70, 1);
+FIELD(onward, option, 71, 1);
+FIELD(onward, noticed, 72, 23);
+
+RECORD(diversion, 98);
+FIELD(diversion, refusal, 0, 1);
+FIELD(diversion, reason, 1, 1);
+FIELD(diversion, notice, 2, 1);
+FIELD(diversion, call, 3, 95);
+
+RECORD(sheet_written, 16);
+FIELD(sheet_written, refusal, 0, 1);
+FIELD(sheet_written, count, 8, 8);
+
+RECORD(sheet_taken, 3244);
+FIELD(sheet_taken, refusal, 0, 1);
+FIELD(sheet_taken, table, 2, 3242);
