@@ -1,4 +1,4 @@
--- How far a call is diverted: its counter and the diversion instancesMost (document 01, "Calls"). Assumes nothing.
+-- How far a call is diverted: its counter and the diversion limit (document 01, "Calls"). Assumes nothing.
 use Prim.Native.Nat.{ℕ, _≤_, _<_}
 use mathlib.Core.Path.{_≡_, ap}
 use mathlib.Core.List.{List}
@@ -17,7 +17,7 @@ use Rattle.calls.specs.declared.call.Call.{Call}
 use Rattle.calls.specs.Call.{callFrom, callGood}
 use Rattle.calls.specs.Divert.{Told, refuses, passes, diverts, applying, onward, Comes, noOnward, byInstance, byCall, comes}
 
--- ---- the counter: "one more", and "An instance and counter not below the instancesMost: refusal 6"
+-- ---- the counter: "one more", and "An instance and counter not below the limit: refusal 6"
 
 instance-counter :
     (p : Profile) (c : Call) (o : Option Address) → byInstance p c o .call .counter ≤ p .limit
@@ -28,7 +28,7 @@ instance-counter p c (some called) =
     (λ below. omega (arith, ltb-true (c .counter) (p .limit) below))
     (λ _. omega arith)
 
--- the counter that goes on never passes the profile's instancesMost
+-- the counter that goes on never passes the profile's limit
 pub counter-most :
     (access : List ℕ) (t : Table) (s : List ℕ) → comes access t s .call .counter ≤ accessRead access .profile .limit
 unfolding comes noOnward

@@ -132,7 +132,7 @@ refused r = staysHere (Refuses r)
 abbrev pub goes : Profile → Call → Address → Comes
 goes p c called = record { told = diverts (reasonOf (c .event)) (optionAfter p c); call = onward p c called }
 
--- "No instance .. : not diverted, whatever the counter. An instance and counter not below the instancesMost: refusal 6."
+-- "No instance .. : not diverted, whatever the counter. An instance and counter not below the limit: refusal 6."
 abbrev pub byInstance : Profile → Call → Option Address → Comes
 byInstance p c none = staysHere Passes
 byInstance p c (some called) = pick (ltb (c .counter) (p .limit)) (goes p c called) (refused refusal.LimitReached)

@@ -37,7 +37,7 @@ use Rattle.exchange.specs.Step.{Step, moved, resultOf, verdictOf, handle
 use Rattle.exchange.specs.declared.table.Table.{Table}
 use Rattle.exchange.proofs.Shapes.{Shaped, row-set}
 
--- ---- tables that break no rule, over any instancesMost of instances
+-- ---- tables that break no rule, over any limit of instances
 
 module _ (most : ℕ) (p : Profile) where
   pub good-last : (t : Table) → tableGood most p t ≡ true → t .last ≤ lastMost
@@ -145,7 +145,7 @@ module _ (p : Profile) (t : Table) (identifier : ℤ) where
         pick-ind (λ (x : Step). P (x .next)) (eqb operation interrogation) (λ _. same) (λ _. other refl)
     verdict-next P (Fails e) same other = same
 
-    -- over any instancesMost of instances
+    -- over any limit of instances
     pub verdict-good :
         (most : ℕ) (v : Verdict) → judge most p operation r (placesOf p r) row ≡ v → profileGood p ≡ true →
         length (p .services) ≡ servicesMost → Shaped t → tableGood most p t ≡ true → r .procedure < procedures →

@@ -18,7 +18,7 @@ lastMost = 32767
 abbrev pub freshTable : Table
 freshTable = record { last = 0; grid = noGrid }
 
--- whether a table breaks no rule, over the instancesMost of instances for each procedure
+-- whether a table breaks no rule, over the limit of instances for each procedure
 unfoldable pub tableGood : ℕ → Profile → Table → Bool
 tableGood most p t = pick (leb (t .last) lastMost) (gridGood most p (t .grid)) false
 

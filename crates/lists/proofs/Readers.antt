@@ -28,7 +28,7 @@ pub entry-none : (g : Got Entry) (r : EntryRead) → r ≡ entryRead g → r .ok
 entry-none (got entry next) r e h = absurd (false≢true (sym h ∙ ap (λ (x : EntryRead). x .ok) e))
 entry-none wrong r e h = refl
 
--- ---- entries that were read, withFirst what is found after them
+-- ---- entries that were read, before what is found after them
 
 abbrev pub beforeAll : List Entry → Got (List Entry) → Got (List Entry)
 beforeAll es (got fs next) = got (es ++ fs) next

@@ -1,4 +1,4 @@
--- How many octets entries and lists take, at most: over the number of entries, and for the instancesMost of document 01.
+-- How many octets entries and lists take, at most: over the number of entries, and for the limit of document 01.
 -- Assumes nothing.
 use Prim.Native.Nat.{ℕ, _+_, _*_, _≤_, _<_}
 use mathlib.Core.Path.{_≡_, refl}

@@ -96,7 +96,7 @@ unfoldable pub readSheet : List ℕ → List ℕ → TableRead
 readSheet access s =
     pick (accessRead access .ok) (tableFrom (accessRead access .profile) (sheetIn form1 s)) (notRead BadProfile)
 
--- what `read_sheet` promises: the refusal and the table, a fresh one where it is notRead
+-- what `read_sheet` promises: the refusal and the table, a fresh one where it is refused
 pub record ReadsSheet (access s : List ℕ) (r : SheetRead) : Type 0 where
   pub outcome : outcomeNo (r .outcome) ≡ readSheet access s .number
   pub table : r .table ≡ readSheet access s .table

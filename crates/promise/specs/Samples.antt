@@ -197,7 +197,7 @@ samples =
     ∷ arrives sampleAccess freshTable otherOctets
     (0xA3 ∷ 0x06 ∷ 0x02 ∷ 0x01 ∷ 0x01 ∷ 0x02 ∷ 0x01 ∷ 0x00 ∷ []) (withLast 1 freshTable)
     ∷ arrives sampleAccess freshTable [] (0xA4 ∷ 0x05 ∷ 0x05 ∷ 0x00 ∷ 0x80 ∷ 0x01 ∷ 0x02 ∷ []) freshTable
-    -- "counter 4, instancesMost 5: diverted, counter 5"; "counter 5: refusal 6; no instance: not diverted"
+    -- "counter 4, limit 5: diverted, counter 5"; "counter 5: refusal 6; no instance: not diverted"
     ∷ diverts-to sampleAccess activatedTable (callWith 4 0) (diverts 2 0) 5 0
     ∷ diverts-to sampleAccess activatedTable (callWith 5 0) (refuses 6) 0 0
     ∷ diverts-to sampleAccess freshTable (callWith 5 0) passes 0 0

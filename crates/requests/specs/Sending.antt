@@ -1,4 +1,4 @@
--- What the customer end isSent into lent output: a request as it is written, or nothing (document 01, refusal 10).
+-- What the customer end sends into lent output: a request as it is written, or nothing (document 01, refusal 10).
 use Prim.Native.Nat.{ℕ}
 use mathlib.Core.Path.{_≡_}
 use mathlib.Core.Bool.{Bool, false}

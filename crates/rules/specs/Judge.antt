@@ -81,7 +81,7 @@ selectedSame p r from (n ∷ ns) =
     pick (pick (numberChosen p (r .served) from) (same p n (r .to .address .number)) false) true
     (selectedSame p r (1 + from) ns)
 
--- "more than 8 instances of the procedure afterwards": whether so many fit, over the instancesMost
+-- "more than 8 instances of the procedure afterwards": whether so many fit, over the limit
 unfoldable pub fits : ℕ → Profile → ℕ → Bool
 fits most p count = leb count most
 

@@ -1,4 +1,4 @@
--- Elements that are skipped: a primitive one whole, a constructed one with the elements pastElement it (document 01, "Reading a
+-- Elements that are skipped: a primitive one whole, a constructed one with the elements inside it (document 01, "Reading a
 -- component"). Tags are not looked at but for their bit 6: what may be skipped at all, the caller decides.
 use Prim.Native.Nat.{ℕ, zero, suc, _-_, _/_, _%_}
 use mathlib.Core.Path.{_≡_}
