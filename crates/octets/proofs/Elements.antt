@@ -10,8 +10,8 @@ use Rattle.laws.specs.Over.{Wrote}
 use Rattle.laws.specs.Stands.{Stands}
 use Rattle.laws.proofs.Over.{wrote, room-then, puts-then}
 use Rattle.laws.proofs.Stands.{stands-first, stands-left, stands-right}
-use Rattle.octets.specs.Head.{lengthMost, headAt}
-use Rattle.octets.specs.Element.{lengthHolds, lengthWith, lengthFewest, headWith, headOctets, element, HeadSize, PutHead}
+use Rattle.octets.specs.Head.{headAt}
+use Rattle.octets.specs.Element.{lengthMost, lengthHolds, lengthWith, lengthFewest, headWith, headOctets, element, HeadSize, PutHead}
 use Rattle.octets.specs.declared.head.Head.the-variants.{Is}
 use Rattle.octets.proofs.Lengths.{length-length, length-back, fewest-short, shortest-holds, shortest-most}
 

@@ -1,15 +1,15 @@
 -- An element that is found lies within the octets before `end`, takes at least two of them, and what follows it begins no
 -- earlier than its contents end. Callers go by these laws, never by the text of `headAt`. Assumes nothing.
-use Prim.Native.Nat.{ℕ, _+_, _-_, _%_, _<_, _≤_}
+use Prim.Native.Nat.{ℕ, _+_, _%_, _<_, _≤_}
 use mathlib.Core.Path.{_≡_, refl}
 use mathlib.Core.List.{List}
 use native.Mathlib.Omega.{arith}
 use lib.ListN.{length, getD}
 use lib.Dec.{ltb, leb, eqb}
-use borrow.Author.Tests.{leb-true, leb-false, ltb-false, eqb-false}
+use borrow.Author.Tests.{leb-true, ltb-false, eqb-false}
 use Rattle.laws.proofs.Picks.{pick-ind}
 use Rattle.octets.specs.Word.{wordAt}
-use Rattle.octets.specs.Head.{lengthMost, spanOf, lengthBy, lengthAt, tagged, headAt}
+use Rattle.octets.specs.Head.{spanOf, lengthAt, tagged, headAt}
 use Rattle.octets.specs.declared.head.Span.{Span}
 use Rattle.octets.specs.declared.head.Span.the-variants as span
 use Rattle.octets.specs.declared.head.Head.{Head}
@@ -32,31 +32,19 @@ abbrev pub Within : ℕ → ℕ → ℕ → ℕ → Head → Type 0
 Within depth size at end (head.Is tag start stop next) = Lies depth size at end start stop next
 Within depth size at end head.Bad = Unit {0}
 
-span-of-in :
-    (at start n end : ℕ) → at < start → start ≤ end → SpanIn at end (spanOf start n end)
+span-of-in : (at start n end : ℕ) → at < start → SpanIn at end (spanOf start n end)
 unfolding spanOf
-span-of-in at start n end h k =
-    pick-ind (SpanIn at end) (leb n (end - start))
-    (λ e. omega (arith, leb-true n (end - start) e)) (λ _. tt)
-
-length-by-in : (k : ℕ) (s : List ℕ) (at end : ℕ) → SpanIn at end (lengthBy k s at end)
-unfolding lengthBy
-length-by-in k s at end =
-    let P : Span → Type 0 = SpanIn at end in
-    pick-ind P (eqb k 0) (λ _. tt) (λ _.
-    pick-ind P (ltb lengthMost k) (λ _. tt) (λ _.
-    pick-ind P (leb (end - at) k) (λ _. tt) (λ e.
-    span-of-in at (at + 1 + k) (wordAt k s (at + 1)) end (omega arith) (omega (arith, leb-false (end - at) k e)))))
+span-of-in at start n end h =
+    pick-ind (SpanIn at end) (leb (start + n) end)
+    (λ e. omega (arith, leb-true (start + n) end e)) (λ _. tt)
 
 length-in : (s : List ℕ) (at end : ℕ) → SpanIn at end (lengthAt s at end)
 unfolding lengthAt
 length-in s at end =
     let P : Span → Type 0 = SpanIn at end in
-    pick-ind P (leb end at) (λ _. tt) (λ e.
-    let lt : at < end = leb-false end at e in
-    pick-ind P (ltb (getD s at 0) 128)
-    (λ _. span-of-in at (at + 1) (getD s at 0) end (omega arith) (omega arith))
-    (λ _. length-by-in (getD s at 0 - 128) s at end))
+    pick-ind P (ltb (getD s at 0) 0x80) (λ _. span-of-in at (at + 1) (getD s at 0) end (omega arith)) (λ _.
+    pick-ind P (eqb (getD s at 0) 0x81) (λ _. span-of-in at (at + 2) (wordAt 1 s (at + 1)) end (omega arith)) (λ _.
+    pick-ind P (eqb (getD s at 0) 0x82) (λ _. span-of-in at (at + 3) (wordAt 2 s (at + 1)) end (omega arith)) (λ _. tt)))
 
 tagged-in :
     (depth size tag at end : ℕ) (x : Span) → (depth ≡ 0 → ⊥) → end ≤ size → SpanIn (at + 1) end x →

@@ -1,5 +1,5 @@
 -- An element: a tag octet, length octets, contents, all of it within its container (document 01, "Reading a component").
-use Prim.Native.Nat.{ℕ, _+_, _-_, _%_}
+use Prim.Native.Nat.{ℕ, _+_, _%_}
 use mathlib.Core.Path.{_≡_}
 use mathlib.Core.List.{List}
 use lib.ListN.{length, getD}
@@ -11,26 +11,17 @@ use Rattle.octets.specs.declared.head.Span.the-variants as span
 use Rattle.octets.specs.declared.head.Head.{Head}
 use Rattle.octets.specs.declared.head.Head.the-variants as head
 
--- how many octets may follow a length's first: 81 is one, 82 is two
-abbrev pub lengthMost : ℕ
-lengthMost = 2
-
 -- n octets from `start` on, if they end by `end`
 unfoldable pub spanOf : ℕ → ℕ → ℕ → Span
-spanOf start n end = pick (leb n (end - start)) (span.Is start (start + n)) span.Wrong
+spanOf start n end = pick (leb (start + n) end) (span.Is start (start + n)) span.Wrong
 
--- k octets after a length's first
-unfoldable pub lengthBy : ℕ → List ℕ → ℕ → ℕ → Span
-lengthBy k s at end =
-    pick (eqb k 0) span.Wrong
-    (pick (ltb lengthMost k) span.Wrong
-    (pick (leb (end - at) k) span.Wrong (spanOf (at + 1 + k) (wordAt k s (at + 1)) end)))
-
--- "below 128 in one octet, or 81 or 82 and one or two octets, also for small values. 80 and 83 upward are badly built."
+-- "Lengths: below 128 in one octet, or 81 or 82 and one or two octets, also for small values. 80 and 83 upward are badly
+-- built." Contents that would begin past `end`, because length octets are missing, do not end by it.
 unfoldable pub lengthAt : List ℕ → ℕ → ℕ → Span
 lengthAt s at end =
-    pick (leb end at) span.Wrong
-    (pick (ltb (getD s at 0) 128) (spanOf (at + 1) (getD s at 0) end) (lengthBy (getD s at 0 - 128) s at end))
+    pick (ltb (getD s at 0) 0x80) (spanOf (at + 1) (getD s at 0) end)
+    (pick (eqb (getD s at 0) 0x81) (spanOf (at + 2) (wordAt 1 s (at + 1)) end)
+    (pick (eqb (getD s at 0) 0x82) (spanOf (at + 3) (wordAt 2 s (at + 1)) end) span.Wrong))
 
 -- what follows an element begins where its contents end
 abbrev pub tagged : ℕ → Span → Head

@@ -1,12 +1,11 @@
 // Where an element's contents stand (document 01, "Reading a component").
 use crate::word::word_at;
 ghost use mathlib.Core.Path.{_≡_};
-ghost use Prim.Native.Nat.{_≤_};
+ghost use Prim.Native.Nat.{_+_, _≤_};
 ghost use lib.ListN.{length};
+ghost use Rattle.octets.specs.Word.{wordAt};
 ghost use Rattle.octets.specs.Head.{spanOf, lengthAt, HeadAt};
-
-// The most octets that follow a length's first.
-const LENGTHMOST: u8 = 2;
+ghost use Rattle.octets.specs.Element.{lengthMost};
 
 // Where contents stand.
 enum Span {
@@ -40,6 +39,18 @@ fn span_of(start: usize, n: usize, end: usize) -> Span
     }
 }
 
+// The contents whose length the `k` octets from `at` on say.
+fn length_by(s: &[u8], at: usize, k: usize, end: usize) -> Span
+    requires { ⌜ (at ≤ end) × (end ≤ length (now s)) × (k ≤ lengthMost) ⌝ }
+    ensures { λ r. ⌜ r ≡ spanOf (at + k) (wordAt k (now (s .entry)) at) end ⌝ }
+{
+    if end - at < k {
+        return Span::Wrong;
+    }
+    let n = word_at(s, at, k);
+    span_of(at + k, n, end)
+}
+
 // The contents whose length octets begin at `at`.
 fn length_at(s: &[u8], at: usize, end: usize) -> Span
     requires { ⌜ end ≤ length (now s) ⌝ }
@@ -49,22 +60,16 @@ fn length_at(s: &[u8], at: usize, end: usize) -> Span
         return Span::Wrong;
     }
     let first = s[at];
-    if first < 128 {
+    if first < 0x80 {
         return span_of(at + 1, first as usize, end);
     }
-    let follow = first - 128;
-    if follow == 0 {
-        return Span::Wrong;
+    if first == 0x81 {
+        return length_by(s, at + 1, 1, end);
     }
-    if LENGTHMOST < follow {
-        return Span::Wrong;
+    if first == 0x82 {
+        return length_by(s, at + 1, 2, end);
     }
-    let k = follow as usize;
-    if end - at <= k {
-        return Span::Wrong;
-    }
-    let n = word_at(s, at + 1, k);
-    span_of(at + 1 + k, n, end)
+    Span::Wrong
 }
 
 // The element at `at`, of the octets of `s` before `end`; `depth` says how many elements deep it may go, itself counted.

@@ -2,7 +2,7 @@
 use mathlib.Core.Path.{refl}
 use Rattle.laws.specs.Fewest.{fewestFrom}
 use Rattle.octets.specs.Word.{wordAt, wordOctets}
-use Rattle.octets.specs.Head.{spanOf, lengthBy, lengthAt, headAt}
+use Rattle.octets.specs.Head.{spanOf, lengthAt, headAt}
 use Rattle.octets.specs.Element.{lengthHolds, lengthWith, lengthFewest}
 use Rattle.values.specs.Enumerated.{enumeratedAt}
 use Rattle.values.specs.Ident.{half, twos, bits, identHolds, identIn, identAt, identFewest}
@@ -45,6 +45,6 @@ use Rattle.nightly.specs.Record.{wroteSheet}
 use Rattle.promise.specs.Samples.{Each, samples}
 
 pub each-sample : Each samples
-unfolding fewestFrom wordAt wordOctets spanOf lengthBy lengthAt headAt lengthHolds lengthWith lengthFewest enumeratedAt half twos bits identHolds identIn identAt identFewest fills groupsIn groupsAt groupsWith groups placeOf serviceCode procedureCode allDigits fair typeGood digitsGood digitsIn numberAt numberOctets subAt addressAt subOctets addressOctets replyTag operationAt identifierAt heard codeAt serviceAt servedAt privates lastIn activationIn interrogationIn contentsIn argumentAt servedOctets toOctets requestOctets answerOctets entriesOctets entriesFrom listOctets sameIdent failedAt setAt sequenceAt listAt resultAt afterOwn ownAt reply everyTo countTo eachFrom changedFrom gathered numberGood addressGood numberFrom prefixFrom prefixesFrom profileFrom accessRead sameDigits sameNumber same placeIn numbersGood rising servicesGood prefixGood prefixesGood subscriptionsGood usesGood diversionGood profileGood active selected countWith activeOf putIn clearIn entryOfPlace entriesIn cellGood rowGood gridGood isSubscribed servedInvalid notProvided otherKind begins beginsAny selectedSame fits noRoom judge applied numberChosen serviceChosen selects placesOf tableGood notAbove duplicate known invoked question moved resultOf handled stepOf step done reasonOf optionAfter preferenceAfter originalShown callFrom namesGood valuesGood originalGood callGood applying servedOf noticed onward noOnward comes allGroups instanceOctets fieldAt fieldsAt addressFrom instanceFrom instancesOctets sheetOctets before follows runOf instancesFrom sheetIn decimalIn decimal procedureName kindText hexOf hexText subText lineOf headerLine instanceLine instanceLines listing listedSheet refusedLine printedSheet instancesOf wroteSheet
+unfolding fewestFrom wordAt wordOctets spanOf lengthAt headAt lengthHolds lengthWith lengthFewest enumeratedAt half twos bits identHolds identIn identAt identFewest fills groupsIn groupsAt groupsWith groups placeOf serviceCode procedureCode allDigits fair typeGood digitsGood digitsIn numberAt numberOctets subAt addressAt subOctets addressOctets replyTag operationAt identifierAt heard codeAt serviceAt servedAt privates lastIn activationIn interrogationIn contentsIn argumentAt servedOctets toOctets requestOctets answerOctets entriesOctets entriesFrom listOctets sameIdent failedAt setAt sequenceAt listAt resultAt afterOwn ownAt reply everyTo countTo eachFrom changedFrom gathered numberGood addressGood numberFrom prefixFrom prefixesFrom profileFrom accessRead sameDigits sameNumber same placeIn numbersGood rising servicesGood prefixGood prefixesGood subscriptionsGood usesGood diversionGood profileGood active selected countWith activeOf putIn clearIn entryOfPlace entriesIn cellGood rowGood gridGood isSubscribed servedInvalid notProvided otherKind begins beginsAny selectedSame fits noRoom judge applied numberChosen serviceChosen selects placesOf tableGood notAbove duplicate known invoked question moved resultOf handled stepOf step done reasonOf optionAfter preferenceAfter originalShown callFrom namesGood valuesGood originalGood callGood applying servedOf noticed onward noOnward comes allGroups instanceOctets fieldAt fieldsAt addressFrom instanceFrom instancesOctets sheetOctets before follows runOf instancesFrom sheetIn decimalIn decimal procedureName kindText hexOf hexText subText lineOf headerLine instanceLine instanceLines listing listedSheet refusedLine printedSheet instancesOf wroteSheet
 each-sample =
     (refl, (refl, (refl, (refl, (refl, (refl, (refl, (refl, (refl, (refl, (refl, (refl, (refl, (refl, (refl, (refl, (refl, (refl, (refl, (refl, (refl, (refl, (refl, (refl, (refl, (refl, ((refl, refl), ((refl, refl), ((refl, refl), ((refl, refl), ((refl, refl), ((refl, refl, refl), ((refl, refl, refl), ((refl, refl, refl), ((refl, refl, refl), (refl, (refl, (refl, (refl, tt)))))))))))))))))))))))))))))))))))))))
