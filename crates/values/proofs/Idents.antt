@@ -9,49 +9,28 @@ use native.Mathlib.Omega.{arith}
 use lib.IntN.{ℤ}
 use lib.Signed.{mag}
 use lib.ListN.{length}
-use lib.Dec.{ltb, eqb}
-use borrow.Author.Tests.{lt-ltb, le-ltb, ne-eqb, ltb-true, ltb-false, eqb-false}
+use lib.Dec.{ltb, leb, eqb}
+use borrow.Author.Tests.{lt-ltb, le-ltb, le-leb, lt-leb, ne-eqb, ltb-true, leb-true}
 use Rattle.laws.specs.Fewest.{fewestFrom}
 use Rattle.laws.specs.Stands.{Stands}
-use Rattle.laws.proofs.Picks.{pick-ind}
+use Rattle.laws.proofs.Picks.{pick-ind, pick-then}
 use Rattle.laws.proofs.Fewest.{fewest-step, fewest-will, fewest-most, fewest-least}
 use Rattle.octets.specs.Word.{wordAt}
 use Rattle.octets.specs.Head.{headAt}
 use Rattle.octets.specs.Element.{headOctets, element}
-use Rattle.values.specs.Ident.{identTag, identMost, half, twos, bits, identHolds, identIn, identOf, identAt, identFewest, identWith, identOctets}
+use Rattle.values.specs.Ident.{identTag, identMost, half, twos, bits, identHolds, shortest, identIn, identOf, identAt, identFewest, identWith, identOctets}
 use Rattle.octets.specs.declared.head.Head.{Head}
 use Rattle.octets.specs.declared.head.Head.the-variants as head
 use Rattle.values.specs.declared.ident.Ident.{Ident}
 use Rattle.values.specs.declared.ident.Ident.the-variants.{Is, Unreadable}
 use Rattle.octets.proofs.Words.{length-word, word-back}
 use Rattle.octets.proofs.Elements.{length-head, length-element, element-small, element-back, element-contents}
-use Rattle.values.proofs.Signs.{twos-range, twos-bits, bits-small}
-
--- half of the numbers of w octets, twice, is all of them
-pub half-twice : (w : ℕ) → (w ≡ 0 → ⊥) → half w + half w ≡ 256 ^ w
-unfolding half
-half-twice zero h = absurd (h refl)
-half-twice (suc w) h = omega arith
-
--- and there is a half, unless there are no octets
-half-some : (w : ℕ) → (w ≡ 0 → ⊥) → half w ≡ 0 → ⊥
-half-some w some e =
-    let least : 0 ≤ w = omega arith in
-    let p : 256 ^ 0 ≤ 256 ^ w = pow-le-pow-right (omega arith) least in
-    omega (arith, half-twice w some)
-
-pub half-most : (w : ℕ) → w ≤ identMost → half w ≤ 32768
-unfolding half
-half-most zero h = omega arith
-half-most (suc w) h = let small : w ≤ 1 = omega arith in
-    let p : 256 ^ w ≤ 256 ^ 1 = pow-le-pow-right (omega arith) small in
-    omega arith
+use Rattle.values.proofs.Signs.{half-some, half-most, twos-range, twos-bits, bits-small}
 
 -- with at most one octet, half of them is at most 128
 half-one : (w : ℕ) → w ≤ 1 → half w ≤ 128
 unfolding half
-half-one zero h = omega arith
-half-one (suc w) h = let none : w ≡ 0 = omega arith in rw none (omega arith)
+half-one w h = let p : 256 ^ w ≤ 256 ^ 1 = pow-le-pow-right (omega arith) h in omega arith
 
 -- the fewest octets: they can say the number, none fewer can, and there are one or two
 module _ (z : ℤ) (range : mag z < 32768) where
@@ -68,8 +47,7 @@ module _ (z : ℤ) (range : mag z < 32768) where
   fewest-magnitude = ltb-true (mag z) (half (identFewest z)) fewest-holds
 
   pub fewest-some : identFewest z ≡ 0 → ⊥
-  unfolding half
-  fewest-some e = omega (arith, rw e at fewest-magnitude)
+  fewest-some = half-some (identFewest z) (mag z) fewest-magnitude
 
   -- one octet less cannot say it
   fewest-none : identHolds z (identFewest z - 1) ≡ false
@@ -84,16 +62,15 @@ module _ (z : ℤ) (range : mag z < 32768) where
 
 -- a number of w octets that one octet less cannot say is read with its sign
 pub ident-in-back :
-    (w : ℕ) (z : ℤ) (s : List ℕ) (at next : ℕ) → (w ≡ 0 → ⊥) → w ≤ identMost → mag z < half w →
+    (w : ℕ) (z : ℤ) (s : List ℕ) (at next : ℕ) → w ≤ identMost → mag z < half w →
     identHolds z (w - 1) ≡ false → Stands s at (identWith w z) → identIn w s at next ≡ Is z next
-unfolding identIn
-ident-in-back w z s at next some most h less st =
-    let u : wordAt w s at ≡ bits (half w) z =
-    word-back w (bits (half w) z) s at (omega (arith, bits-small (half w) z h, half-twice w some)) st in
-    rw (ne-eqb w 0 some, le-ltb identMost w most, u, twos-bits (half w) z h, less)
+unfolding identIn identHolds
+ident-in-back w z s at next most h less st =
+    let u : wordAt w s at ≡ bits w z = word-back w (bits w z) s at (bits-small w z h) st in
+    rw (u, twos-bits w z h, le-leb w identMost most, lt-ltb (mag z) (half w) h, less)
 
 pub length-ident : (w : ℕ) (z : ℤ) → length (identWith w z) ≡ w
-length-ident w z = length-word w (bits (half w) z)
+length-ident w z = length-word w (bits w z)
 
 -- the element that is written for an identifier reads back as it
 pub ident-back :
@@ -108,8 +85,8 @@ ident-back depth z s at end deep range st fit in-s =
     let count : at + length (element identTag ws) - start ≡ w =
     omega (arith, length-element identTag ws, length-head identTag (length ws), length-ident w z) in
     rw (element-back depth identTag ws s at end deep (λ e. omega arith) (omega (arith, length-ident w z, fewest-two z range)) st fit in-s, count)
-    (ident-in-back w z s start (at + length (element identTag ws)) (fewest-some z range) (fewest-two z range)
-    (fewest-magnitude z range) (fewest-none z range) (element-contents identTag ws s at st))
+    (ident-in-back w z s start (at + length (element identTag ws)) (fewest-two z range) (fewest-magnitude z range)
+    (fewest-none z range) (element-contents identTag ws s at st))
 
 -- no octets say nothing, so the search begins at one
 pub fewest-begins : (z : ℤ) → identFewest z ≡ fewestFrom (identHolds z) 1 1
@@ -150,21 +127,31 @@ ident-two z high range =
     λ le. omega (arith, fewest-magnitude z range, half-one (identFewest z) le) in
     omega (arith, more, ident-long z range, fewest-two z range)
 
--- the two ways out of reading w octets, by the parts that the code works out
-module _ (w : ℕ) (s : List ℕ) (at next u h m fewer : ℕ) (some : w ≡ 0 → ⊥) (most : w ≤ identMost)
-    (word : u ≡ wordAt w s at) (is-half : h ≡ half w) (is-mag : m ≡ mag (twos h u)) (is-fewer : fewer ≡ half (w - 1)) where
-  same-mag : mag (twos (half w) (wordAt w s at)) ≡ m
-  same-mag = rw (← word, ← is-half) (sym is-mag)
+-- ---- the ways out of reading w octets, by the parts that the code works out
 
-  pub ident-not-shortest : m < fewer → Unreadable ≡ identIn w s at next
-  unfolding identIn identHolds
-  ident-not-shortest lt =
-      rw (ne-eqb w 0 some, le-ltb identMost w most, same-mag, ← is-fewer, lt-ltb m fewer lt)
+module _ (w : ℕ) (s : List ℕ) (at next : ℕ) where
+  -- none, and more than two
+  pub ident-none : w ≡ 0 → Unreadable ≡ identIn w s at next
+  unfolding identIn identHolds half
+  ident-none e = rw (e, le-ltb (mag (twos 0 (wordAt 0 s at))) 0 (omega arith))
 
-  pub ident-read : fewer ≤ m → Is (twos h u) next ≡ identIn w s at next
-  unfolding identIn identHolds
-  ident-read le =
-      rw (ne-eqb w 0 some, le-ltb identMost w most, same-mag, ← is-fewer, le-ltb m fewer le, ← word, ← is-half)
+  pub ident-many : identMost < w → Unreadable ≡ identIn w s at next
+  unfolding identIn
+  ident-many h = rw (lt-leb w identMost h)
+
+  -- one or two
+  module _ (u m fewer : ℕ) (some : w ≡ 0 → ⊥) (most : w ≤ identMost) (word : u ≡ wordAt w s at) (small : u < 256 ^ w)
+      (is-mag : m ≡ mag (twos w u)) (is-fewer : fewer ≡ half (w - 1)) where
+    held : ltb (mag (twos w u)) (half w) ≡ true
+    held = lt-ltb (mag (twos w u)) (half w) (twos-range w u some small)
+
+    pub ident-not-shortest : m < fewer → Unreadable ≡ identIn w s at next
+    unfolding identIn identHolds
+    ident-not-shortest lt = rw (← word, le-leb w identMost most, held, ← is-mag, ← is-fewer, lt-ltb m fewer lt)
+
+    pub ident-read : fewer ≤ m → Is (twos w u) next ≡ identIn w s at next
+    unfolding identIn identHolds
+    ident-read le = rw (← word, le-leb w identMost most, held, ← is-mag, ← is-fewer, le-ltb m fewer le)
 
 -- an element of another tag is no identifier
 pub ident-other :
@@ -183,17 +170,14 @@ Ranges Unreadable = Unit {0}
 
 -- of w octets
 in-range : (w : ℕ) (s : List ℕ) (start next : ℕ) → Ranges (identIn w s start next)
-unfolding identIn
+unfolding identIn identHolds
 in-range w s start next =
-    pick-ind Ranges (eqb w 0) (λ _. tt)
-    (λ some. pick-ind Ranges (ltb identMost w) (λ _. tt)
-    (λ most. let z : ℤ = twos (half w) (wordAt w s start) in
-    pick-ind Ranges (identHolds z (w - 1)) (λ _. tt)
-    (λ _. omega (
-      arith,
-      half-most w (ltb-false identMost w most),
-      twos-range (half w) (wordAt w s start) (half-some w (eqb-false w 0 some)),
-    ))))
+    let z : ℤ = twos w (wordAt w s start) in
+    pick-ind Ranges (shortest w z)
+    (λ e. let most = pick-then (leb w identMost) _ e in
+    let holds = pick-then (identHolds z w) _ (most .1) in
+    omega (arith, half-most w (leb-true w identMost (most .0)), ltb-true (mag z) (half w) (holds .0)))
+    (λ _. tt)
 
 head-range : (s : List ℕ) (h : Head) → Ranges (identOf s h)
 head-range s (head.Is tag start stop next) =

@@ -1,14 +1,15 @@
 -- Identifiers and operation values: "from −32,768 to 32,767 in two's complement, shortest form, tag 02, one or two octets"
 -- (document 01, "Reading a component"). All of it is said over the number w of contents octets.
-use Prim.Native.Nat.{ℕ, zero, suc, _+_, _-_, _*_, _^_}
+use Prim.Native.Nat.{ℕ, _-_, _/_, _^_}
 use mathlib.Core.Path.{_≡_}
-use mathlib.Core.Bool.{Bool}
-use mathlib.Core.List.{List}
-use lib.IntN.{ℤ, pos, negsuc}
-use lib.Signed.{mag}
+use mathlib.Core.Bool.{Bool, not}
+use mathlib.Core.List.{List, [], _∷_}
+use lib.IntN.{ℤ, pos, natAbs, _+ℤ_, _-ℤ_}
+use lib.Signed.{mag, ltZ}
 use lib.ListN.{length}
-use lib.Dec.{ltb, eqb}
+use lib.Dec.{ltb, leb, eqb}
 use Rattle.laws.specs.Pick.{pick}
+use Rattle.laws.specs.Tests.{all}
 use Rattle.laws.specs.Fewest.{fewest}
 use Rattle.laws.specs.Over.{Puts}
 use Rattle.octets.specs.Word.{wordAt, wordOctets}
@@ -28,30 +29,31 @@ identMost = 2
 
 -- half of the numbers that w octets can say: as many are negative as are not
 unfoldable pub half : ℕ → ℕ
-half zero = 0
-half (suc w) = 128 * 256 ^ w
+half w = 256 ^ w / 2
 
--- what u stands for: itself below `half`, and u - 2 * half from there on
+-- what the number u of w octets stands for: u itself below half, and u - 256 ^ w from there on
 unfoldable pub twos : ℕ → ℕ → ℤ
-twos half u = pick (ltb u half) (pos u) (negsuc (half + half - 1 - u))
+twos w u = pick (ltb u (half w)) (pos u) (pos u -ℤ pos (256 ^ w))
 
--- what stands for z, so that `twos half` gives z back
+-- the number of w octets that stands for z: z itself, and z + 256 ^ w where z is negative
 unfoldable pub bits : ℕ → ℤ → ℕ
-bits half (pos n) = n
-bits half (negsuc n) = half + half - 1 - n
+bits w z = natAbs (pick (ltZ z (pos 0)) (z +ℤ pos (256 ^ w)) z)
 
 -- whether w octets can say z, which is from -half to half - 1; `mag z` is z itself, or -1 - z where z is negative
 unfoldable pub identHolds : ℤ → ℕ → Bool
 identHolds z w = ltb (mag z) (half w)
 
--- the number z of w octets, if one octet less cannot say it
-abbrev pub shortest : ℕ → ℤ → ℕ → Ident
-shortest w z next = pick (identHolds z (w - 1)) Unreadable (Is z next)
+-- "shortest form .. one or two octets": at most two, which can say z, and one octet less cannot
+abbrev pub shortest : ℕ → ℤ → Bool
+shortest w z = all (leb w identMost ∷ identHolds z w ∷ not (identHolds z (w - 1)) ∷ [])
+
+-- what w octets say that stand for z
+abbrev pub identBy : ℕ → ℤ → ℕ → Ident
+identBy w z next = pick (shortest w z) (Is z next) Unreadable
 
 -- w contents octets from `start` on
 unfoldable pub identIn : ℕ → List ℕ → ℕ → ℕ → Ident
-identIn w s start next =
-    pick (eqb w 0) Unreadable (pick (ltb identMost w) Unreadable (shortest w (twos (half w) (wordAt w s start)) next))
+identIn w s start next = identBy w (twos w (wordAt w s start)) next
 
 abbrev pub identOf : List ℕ → Head → Ident
 identOf s (head.Is tag start stop next) = pick (eqb tag identTag) (identIn (stop - start) s start next) Unreadable
@@ -66,7 +68,7 @@ unfoldable pub identFewest : ℤ → ℕ
 identFewest z = fewest (identHolds z) identMost
 
 abbrev pub identWith : ℕ → ℤ → List ℕ
-identWith w z = wordOctets w (bits (half w) z)
+identWith w z = wordOctets w (bits w z)
 
 -- an identifier as it is written
 abbrev pub identOctets : ℤ → List ℕ

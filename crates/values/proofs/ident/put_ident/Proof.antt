@@ -1,6 +1,5 @@
-use Rattle.values.specs.Ident.{bits}
-use Rattle.values.proofs.Idents.{fewest-two, fewest-magnitude, half-most, length-ident, ident-octets}
-use Rattle.values.specs.Ident.{identFewest, half}
+use Rattle.values.proofs.Idents.{fewest-two, fewest-magnitude, length-ident, ident-octets}
+use Rattle.values.specs.Ident.{identFewest, bits}
 use Rattle.laws.proofs.Over.{wrote, puts-none, puts-all}
 use Rattle.octets.proofs.Elements.{headed}
 use lib.ListN.{length}
@@ -36,25 +35,17 @@ returns-2 c = let z = c .before .before .before .before .args .value in
     let count = rw (toZ-ofZ (c .before .before .before .before .fits .value)) at (c .before .before .ident-fewest .ensures) in
     rw (ident-octets z range) (puts-none (omega (arith, count, length-ident (identFewest z) z)))
 
-half-of-requires : tie.Need-half-of-requires
-half-of-requires c κs = let z = c .before .before .before .before .args .value in
-    let range = c .before .before .before .before .fits .value .sfits in
-    let count = rw (toZ-ofZ (c .before .before .before .before .fits .value)) at (c .before .before .ident-fewest .ensures) in
-    omega (arith, count, fewest-two z range)
-
 pattern-requires : tie.Need-pattern-requires
-pattern-requires c κs = let z = c .before .before .before .before .before .args .value in
-    let range = c .before .before .before .before .before .fits .value .sfits in
-    let same = toZ-ofZ (c .before .before .before .before .before .fits .value) in
-    let count = rw same at (c .before .before .before .ident-fewest .ensures) in
-    let half = c .half-of .ensures ∙ ap half count in
-    rw (same, half) (fewest-magnitude z range, half-most (identFewest z) (fewest-two z range))
+pattern-requires c κs = let k = c .before .before .before .before in
+    let z = k .args .value in
+    let range = k .fits .value .sfits in
+    let same = toZ-ofZ (k .fits .value) in
+    rw (same, rw same at (c .before .before .ident-fewest .ensures)) (fewest-two z range, fewest-magnitude z range)
 
 cast-put-head : tie.Need-cast-put-head
-cast-put-head c = let z = c .before .before .before .before .before .before .before .args .value in
-    let range = c .before .before .before .before .before .before .before .fits .value .sfits in
-    let count = rw (toZ-ofZ (c .before .before .before .before .before .before .before .fits .value)) at (c .before .before .before .before .before .ident-fewest .ensures) in
-    omega (arith, count, fewest-two z range)
+cast-put-head c = let k = c .before .before .before .before .before .before in
+    let count = rw (toZ-ofZ (k .fits .value)) at (c .before .before .before .before .ident-fewest .ensures) in
+    omega (arith, count, fewest-two (k .args .value) (k .fits .value .sfits))
 
 put-head-requires : tie.Need-put-head-requires
 put-head-requires c κs = search needs
@@ -67,15 +58,16 @@ same-length c = search needs
 
 returns-3 : tie.Need-returns-3
 returns-3 c = let d = c .before .before .before .before .before .before .before .before in
-    let z = d .before .before .before .before .before .before .args .value in
-    let range = d .before .before .before .before .before .before .fits .value .sfits in
-    let same = toZ-ofZ (d .before .before .before .before .before .before .fits .value) in
-    let count = rw same at (d .before .before .before .before .ident-fewest .ensures) in
-    let octets = (rw same at (d .pattern .ensures)) ∙ ap (λ (n : ℕ). bits n z) (d .before .half-of .ensures ∙ ap half count) in
+    let k = d .before .before .before .before .before in
+    let z = k .args .value in
+    let same = toZ-ofZ (k .fits .value) in
+    let count = rw same at (d .before .before .before .ident-fewest .ensures) in
+    let octets = (rw same at (d .pattern .ensures)) ∙ ap (λ (w : ℕ). bits w z) count in
     let long = length-ident (identFewest z) z in
-    let size = ap length (ident-octets z range) in
+    let size = ap length (ident-octets z (k .fits .value .sfits)) in
     puts-all (omega (arith, count, long, size))
-    (headed (omega (arith, count, long, size)) (omega (arith, count, long)) (c .before .before .before .before .before .before .put-head .ensures)
+    (headed (omega (arith, count, long, size)) (omega (arith, count, long))
+    (c .before .before .before .before .before .before .put-head .ensures)
     (λ room. wrote room (rw (octets, count) at (c .before .before .put-word .ensures))))
 
 pub put-ident-spec : {M : Type 1} → statement M
@@ -87,7 +79,6 @@ put-ident-spec =
     returns
     sub-if2
     returns-2
-    half-of-requires
     pattern-requires
     cast-put-head
     put-head-requires
