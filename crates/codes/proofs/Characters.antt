@@ -1,17 +1,27 @@
 -- Laws of digits and of the types of a number, over plain values. Assumes nothing.
 use Prim.Native.Nat.{ℕ, zero, suc, _+_, _≤_, _<_}
 use mathlib.Core.Path.{_≡_, refl}
-use mathlib.Core.Bool.{true, false}
+use mathlib.Core.Bool.{Bool, true, false}
 use mathlib.Core.List.{List, [], _∷_}
 use native.Mathlib.Numerals.{add-one}
 use native.Mathlib.Omega.{arith}
 use lib.ListN.{length, drop, getD, replicate}
 use lib.Seq.{drop-cons, drop-length}
-use lib.Dec.{ltb, eqb}
-use borrow.Author.Tests.{ltb-false}
+use lib.Dec.{ltb, leb}
+use borrow.Author.Tests.{le-leb, lt-leb, ltb-true, ltb-false, leb-true}
 use Rattle.laws.specs.Pick.{pick}
-use Rattle.laws.proofs.Picks.{pick-else}
-use Rattle.codes.specs.Digits.{allDigits, typeGood}
+use Rattle.laws.proofs.Picks.{pick-ind, pick-then}
+use Rattle.codes.specs.Digits.{digit, allDigits, typeGood}
+
+-- a character that is refused on either side, or else what is left
+digit-step :
+    (c : ℕ) (rest : Bool) → pick (digit c) rest false ≡ pick (ltb c 48) false (pick (ltb 57 c) false rest)
+digit-step c rest =
+    let P : Bool → Type 0 = λ t. pick (digit c) rest false ≡ t in
+    pick-ind P (ltb c 48) (λ e. rw (lt-leb 48 c (ltb-true c 48 e))) (λ low.
+    pick-ind P (ltb 57 c)
+    (λ e. rw (le-leb 48 c (ltb-false c 48 low), lt-leb c 57 (ltb-true 57 c e)))
+    (λ high. rw (le-leb 48 c (ltb-false c 48 low), le-leb c 57 (ltb-false 57 c high))))
 
 -- what is left of a string decides: one character more
 pub digits-step :
@@ -19,7 +29,7 @@ pub digits-step :
     allDigits (drop i s)
     ≡ pick (ltb (getD s i 0) 48) false (pick (ltb 57 (getD s i 0)) false (allDigits (drop (i + 1) s)))
 unfolding allDigits
-digits-step s i h = rw (add-one, drop-cons s i 0 h)
+digits-step s i h = rw (add-one, drop-cons s i 0 h) (digit-step (getD s i 0) (allDigits (drop (suc i) s)))
 
 -- nothing is left
 pub digits-end : (s : List ℕ) → allDigits (drop (length s) s) ≡ true
@@ -30,9 +40,10 @@ digits-end s = rw drop-length
 digits-parts : (c : ℕ) (cs : List ℕ) → allDigits (c ∷ cs) ≡ true → (48 ≤ c) × (c ≤ 57) × (allDigits cs ≡ true)
 unfolding allDigits
 digits-parts c cs h =
-    let low = pick-else (ltb c 48) (pick (ltb 57 c) false (allDigits cs)) h in
-    let high = pick-else (ltb 57 c) (allDigits cs) (low .1) in
-    (ltb-false c 48 (low .0), ltb-false 57 c (high .0), high .1)
+    let first = pick-then (digit c) (allDigits cs) h in
+    let low = pick-then (leb 48 c) (pick (leb c 57) true false) (first .0) in
+    let high = pick-then (leb c 57) true (low .1) in
+    (leb-true 48 c (low .0), leb-true c 57 (high .0), first .1)
 
 -- each is one of the characters 48 to 57
 pub all-each : (cs : List ℕ) → allDigits cs ≡ true → (i : ℕ) → i < length cs → (48 ≤ getD cs i 0) × (getD cs i 0 ≤ 57)
@@ -51,7 +62,7 @@ zeros-digits (suc n) = zeros-digits n
 -- the types go up to 6
 pub type-most : (kind : ℕ) → typeGood kind ≡ true → kind ≤ 6
 unfolding typeGood
-type-most kind h = ltb-false 6 kind (pick-else (ltb 6 kind) (pick (eqb kind 5) false true) h .0)
+type-most kind h = leb-true kind 6 (pick-then (leb kind 6) _ h .0)
 
 -- 0 is one
 pub type-zero : typeGood 0 ≡ true

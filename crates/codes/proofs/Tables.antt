@@ -2,7 +2,7 @@
 -- Assumes nothing.
 use Prim.Native.Nat.{ℕ, zero, suc, _+_, _<_, _≤_}
 use mathlib.Core.Path.{_≡_, refl, sym, ap}
-use mathlib.Core.Bool.{true}
+use mathlib.Core.Bool.{Bool, true, false}
 use mathlib.Core.List.{List, [], _∷_}
 use mathlib.Core.Logic.{⊎-elim}
 use native.Mathlib.Nat.{eq-or-lt-of-le}
@@ -12,30 +12,44 @@ use lib.ListN.{length, getD, drop}
 use lib.Seq.{drop-cons, drop-length}
 use lib.Dec.{ltb, eqb}
 use borrow.Author.Tests.{lt-ltb, ltb-true, eqb-true, eq-eqb, ne-eqb}
-use Rattle.laws.proofs.Picks.{pick-ind, pick-then}
+use Rattle.laws.specs.Pick.{pick}
+use Rattle.laws.specs.Tests.{all}
+use Rattle.laws.proofs.Picks.{pick-ind, pick-then, pick-last}
 use Rattle.codes.specs.Codes.{services, trunkReasons, placeOf, ascends, apart, serviceCode, procedureCode}
+
+-- where all of two tests hold, both do
+pub both-hold : (b c : Bool) → all (b ∷ c ∷ []) ≡ true → (b ≡ true) × (c ≡ true)
+both-hold b c h = let p = pick-then b (pick c true false) h in (p .0, pick-then c true (p .1) .0)
+
+ascends-parts :
+    (below x : ℕ) (xs : List ℕ) → ascends below (x ∷ xs) ≡ true → (ltb below x ≡ true) × (ascends x xs ≡ true)
+unfolding ascends
+ascends-parts below x xs h = both-hold (ltb below x) (ascends x xs) h
+
+apart-parts :
+    (x : ℕ) (xs : List ℕ) → apart (x ∷ xs) ≡ true → (eqb (placeOf x xs) (length xs) ≡ true) × (apart xs ≡ true)
+unfolding apart
+apart-parts x xs h = both-hold (eqb (placeOf x xs) (length xs)) (apart xs) h
 
 -- every code of an ascending list is above the bound that the list begins with
 ascends-over :
     (below : ℕ) (l : List ℕ) → ascends below l ≡ true → (i : ℕ) → i < length l → below < getD l i 0
-unfolding ascends
 ascends-over below [] h i k = absurd (omega arith)
-ascends-over below (x ∷ xs) h zero k = ltb-true below x (pick-then (ltb below x) (ascends x xs) h .0)
+ascends-over below (x ∷ xs) h zero k = ltb-true below x (ascends-parts below x xs h .0)
 ascends-over below (x ∷ xs) h (suc i) k =
-    let p = pick-then (ltb below x) (ascends x xs) h in
+    let p = ascends-parts below x xs h in
     omega (arith, ltb-true below x (p .0), ascends-over x xs (p .1) i (omega arith))
 
 -- in an ascending list a later code is above an earlier one
 pub ascends-above :
     (below : ℕ) (l : List ℕ) → ascends below l ≡ true → (i j : ℕ) → i < j → j < length l →
     getD l i 0 < getD l j 0
-unfolding ascends
 ascends-above below [] h i j lt k = absurd (omega arith)
 ascends-above below (x ∷ xs) h i zero lt k = absurd (omega arith)
 ascends-above below (x ∷ xs) h zero (suc j) lt k =
-    ascends-over x xs (pick-then (ltb below x) (ascends x xs) h .1) j (omega arith)
+    ascends-over x xs (ascends-parts below x xs h .1) j (omega arith)
 ascends-above below (x ∷ xs) h (suc i) (suc j) lt k =
-    ascends-above x xs (pick-then (ltb below x) (ascends x xs) h .1) i j (omega arith) (omega arith)
+    ascends-above x xs (ascends-parts below x xs h .1) i j (omega arith) (omega arith)
 
 -- the place of a code is the first at which it stands
 pub place-first :
@@ -58,21 +72,19 @@ place-stands code (x ∷ xs) =
 -- in a list in which no code stands twice, the first does not stand again
 apart-first :
     (x : ℕ) (xs : List ℕ) → apart (x ∷ xs) ≡ true → (i : ℕ) → i < length xs → getD xs i 0 ≡ x → ⊥
-unfolding apart
 apart-first x xs h i k e =
-    let p = pick-then (eqb (placeOf x xs) (length xs)) (apart xs) h in
+    let p = apart-parts x xs h in
     omega (arith, eqb-true (placeOf x xs) (length xs) (p .0), place-first x xs i k e)
 
 -- in such a list two places with the same code are the same place
 pub apart-same :
     (l : List ℕ) → apart l ≡ true → (i j : ℕ) → i < length l → j < length l → getD l i 0 ≡ getD l j 0 → i ≡ j
-unfolding apart
 apart-same [] h i j k m e = absurd (omega arith)
 apart-same (x ∷ xs) h zero zero k m e = refl
 apart-same (x ∷ xs) h zero (suc j) k m e = absurd (apart-first x xs h j (omega arith) (sym e))
 apart-same (x ∷ xs) h (suc i) zero k m e = absurd (apart-first x xs h i (omega arith) e)
 apart-same (x ∷ xs) h (suc i) (suc j) k m e =
-    let p = pick-then (eqb (placeOf x xs) (length xs)) (apart xs) h in
+    let p = apart-parts x xs h in
     ap suc (apart-same xs (p .1) i j (omega arith) (omega arith) e)
 
 -- in such a list each place is the place of its code
@@ -148,7 +160,7 @@ unfolding serviceCode
 service-most code =
     pick-ind (λ t. t ≡ true → code ≤ 42) (eqb code 0) (λ all _. omega (arith, eqb-true code 0 all))
     (λ _ h.
-    let inside = ltb-true (placeOf code services) (length services) h in
+    let inside = ltb-true (placeOf code services) (length services) (rw pick-last at h) in
     let e = place-code code inside in
     ⊎-elim
     (λ (last : placeOf code services ≡ 15). omega (arith, rw last at e))

@@ -1,11 +1,12 @@
 -- The codes of document 01, "Profile and table", and of EN 300 207-1, clause 7.1.
 use Prim.Native.Nat.{ℕ, suc}
 use mathlib.Core.Path.{_≡_}
-use mathlib.Core.Bool.{Bool, true, false}
+use mathlib.Core.Bool.{Bool, true}
 use mathlib.Core.List.{List, [], _∷_}
 use lib.ListN.{length, getD}
 use lib.Dec.{ltb, eqb}
 use Rattle.laws.specs.Pick.{pick}
+use Rattle.laws.specs.Tests.{all, any}
 
 -- "a table of sixteen codes besides 0, all services: 1 to 5 and 32 to 42"
 abbrev pub services : List ℕ
@@ -23,16 +24,16 @@ placeOf code (x ∷ xs) = pick (eqb x code) 0 (suc (placeOf code xs))
 -- each code is above the one before it, the first above `below`: the ascending rule as a test
 unfoldable pub ascends : ℕ → List ℕ → Bool
 ascends below [] = true
-ascends below (x ∷ xs) = pick (ltb below x) (ascends x xs) false
+ascends below (x ∷ xs) = all (ltb below x ∷ ascends x xs ∷ [])
 
 -- no code stands twice, as a test
 unfoldable pub apart : List ℕ → Bool
 apart [] = true
-apart (x ∷ xs) = pick (eqb (placeOf x xs) (length xs)) (apart xs) false
+apart (x ∷ xs) = all (eqb (placeOf x xs) (length xs) ∷ apart xs ∷ [])
 
 -- whether a request may name a service: one of the sixteen, or 0, all of them
 unfoldable pub serviceCode : ℕ → Bool
-serviceCode code = pick (eqb code 0) true (ltb (placeOf code services) (length services))
+serviceCode code = any (eqb code 0 ∷ ltb (placeOf code services) (length services) ∷ [])
 
 -- "procedure cfu 0, cfb 1, cfnr 2"
 unfoldable pub procedureCode : ℕ → Bool

@@ -8,18 +8,20 @@ use mathlib.Core.Logic.{_⊎_, inl, inr, ⊎-elim}
 use native.Mathlib.Omega.{arith}
 use lib.ListN.{length, take, getD, replicate, length-take, length-drop}
 use lib.Seq.{take-append-le, take-length, slice}
-use lib.Dec.{ltb, leb, eqb}
-use borrow.Author.Tests.{le-ltb, le-leb, eq-eqb, ltb-false, leb-true, eqb-true}
+use lib.Dec.{leb, eqb}
+use borrow.Author.Tests.{le-leb, eq-eqb, ne-eqb, leb-true, eqb-true}
 use Rattle.laws.specs.Pick.{pick}
+use Rattle.laws.specs.Tests.{all}
 use Rattle.laws.specs.Got.{Got, got}
 use Rattle.laws.proofs.Gots.{Something, found-then, found-is}
-use Rattle.laws.proofs.Picks.{pick-ind, pick-then, pick-else}
+use Rattle.laws.proofs.Picks.{pick-ind, pick-then, pick-last}
+use Rattle.codes.proofs.Tables.{both-hold}
 use Rattle.codes.proofs.Characters.{all-each}
 use Rattle.octets.specs.declared.head.Head.the-variants as head
 use Rattle.octets.specs.declared.head.Head.{Head}
 use Rattle.octets.specs.Head.{headAt}
 use Rattle.values.specs.Enumerated.{enumeratedAt}
-use Rattle.numbers.specs.Number.{most, unknown, public, other, fair, digitsGood, numberOf, digitsIn, valueOf, stringOf, stringAt, publicIn, otherTag, numberIn, numberAt, digitsOf, numberGood}
+use Rattle.numbers.specs.Number.{most, unknown, public, other, fair, digitsGood, numberOf, digitsIn, valueOf, stringOf, stringAt, publicIn, otherTag, numberIn, numberAt, digitsOf, formGood, numberGood}
 use Rattle.codes.specs.Digits.{allDigits, typeGood}
 use Rattle.numbers.specs.Address.{octetsIn, subIn, subAt, forwardedOf, addressIn, addressAt, addressGood}
 use Rattle.numbers.specs.declared.number.Number.{Number}
@@ -31,24 +33,24 @@ use Rattle.numbers.specs.declared.address.Forwarded.{Forwarded}
 pub fair-some : (n : ℕ) → fair n ≡ true → (1 ≤ n) × (n ≤ most)
 unfolding fair
 fair-some n h =
-    let p = pick-else (ltb n 1) (leb n most) h in
-    (ltb-false n 1 (p .0), leb-true n most (p .1))
+    let p = both-hold (leb 1 n) (leb n most) h in
+    (leb-true 1 n (p .0), leb-true n most (p .1))
 
 -- and 1 to 20 is fair
 pub some-fair : (n : ℕ) → 1 ≤ n → n ≤ most → fair n ≡ true
 unfolding fair
-some-fair n h k = rw (le-ltb n 1 h) (le-leb n most k)
+some-fair n h k = rw (le-leb 1 n h, le-leb n most k)
 
 -- good digits are 1 to 20
 pub digits-fair : (cs : List ℕ) → digitsGood cs ≡ true → (1 ≤ length cs) × (length cs ≤ most)
 unfolding digitsGood
-digits-fair cs h = fair-some (length cs) (pick-then (fair (length cs)) (allDigits cs) h .0)
+digits-fair cs h = fair-some (length cs) (both-hold (fair (length cs)) (allDigits cs) h .0)
 
 -- each is one of the characters 48 to 57
 pub digits-each :
     (cs : List ℕ) → digitsGood cs ≡ true → (i : ℕ) → i < length cs → (48 ≤ getD cs i 0) × (getD cs i 0 ≤ 57)
 unfolding digitsGood
-digits-each cs h = all-each cs (pick-then (fair (length cs)) (allDigits cs) h .1)
+digits-each cs h = all-each cs (both-hold (fair (length cs)) (allDigits cs) h .1)
 
 -- of unknown form with type 0, or of public form with one of its types
 abbrev pub Shape : Number → Type 0
@@ -60,16 +62,23 @@ pub record GoodNumber (n : Number) : Type 0 where
   pub digits : digitsGood (digitsOf n) ≡ true
   pub shape : Shape n
 
+-- the two forms as a choice: the form decides which test is left
+pub form-choice :
+    (form kind : ℕ) →
+    formGood form kind ≡ pick (eqb form unknown) (eqb kind 0) (pick (eqb form public) (typeGood kind) false)
+form-choice zero kind = rw (pick-last (eqb kind 0), pick-last (eqb kind 0))
+form-choice (suc zero) kind = rw (pick-last (typeGood kind), pick-last (typeGood kind))
+form-choice (suc (suc form)) kind =
+    rw (ne-eqb (suc (suc form)) 0 (λ e. omega arith), ne-eqb (suc (suc form)) 1 (λ e. omega arith))
+
 -- all that is asked of a good number
 pub good-number : (n : Number) → numberGood n ≡ true → GoodNumber n
 unfolding numberGood
 good-number n h =
-    let typed : Bool = pick (eqb (n .form) public) (typeGood (n .kind)) false in
-    let shaped : Bool = pick (eqb (n .form) unknown) (eqb (n .kind) 0) typed in
-    let p = pick-else (ltb most (n .count)) (pick (digitsGood (digitsOf n)) shaped false) h in
-    let q = pick-then (digitsGood (digitsOf n)) shaped (p .1) in
+    let p = pick-then (leb (n .count) most) _ h in
+    let q = both-hold (digitsGood (digitsOf n)) (formGood (n .form) (n .kind)) (p .1) in
     record {
-      few = ltb-false most (n .count) (p .0);
+      few = leb-true (n .count) most (p .0);
       digits = q .0;
       shape =
           pick-ind (λ t. t ≡ true → Shape n) (eqb (n .form) unknown)
@@ -77,7 +86,7 @@ good-number n h =
           (λ _ k.
           let r = pick-then (eqb (n .form) public) (typeGood (n .kind)) k in
           inr (eqb-true (n .form) public (r .0), r .1))
-          (q .1);
+          (rw (form-choice (n .form) (n .kind)) at (q .1));
     }
 
 -- a good address: the count of its subaddress, and its number
@@ -89,8 +98,8 @@ pub record GoodAddress (a : Address) : Type 0 where
 pub good-address : (a : Address) → addressGood a ≡ true → GoodAddress a
 unfolding addressGood
 good-address a h =
-    let p = pick-else (ltb most (a .subcount)) (numberGood (a .number)) h in
-    record { few = ltb-false most (a .subcount) (p .0); number = p .1 }
+    let p = both-hold (leb (a .subcount) most) (numberGood (a .number)) h in
+    record { few = leb-true (a .subcount) most (p .0); number = p .1 }
 
 -- ---- what is read as a number
 
@@ -107,9 +116,11 @@ digits-number form kind cs good shape =
     let zeros : List ℕ = replicate (most - length cs) 0 in
     let few : length cs ≤ most = digits-fair cs good .1 in
     rw (
-      le-ltb most (length cs) few,
+      le-leb (length cs) most few,
       take-append-le (length cs) cs zeros (omega arith) ∙ take-length cs,
       good,
+      form-choice form kind,
+      pick-last,
     )
     (⊎-elim
     (λ e. rw (e .0) (eq-eqb kind 0 (e .1)))
@@ -129,8 +140,8 @@ string-read :
     Something GoodUnless (stringOf kind s end after h)
 string-read kind s end after (head.Is tag start stop next) good =
     let P : Got Number → Type 0 = Something GoodUnless in
-    pick-ind P (eqb tag 0x12)
-    (λ _. pick-ind P (eqb next end) (λ _. digits-read public kind s start stop after (λ _. inr (refl, good))) (λ _. tt))
+    pick-ind P (all (eqb tag 0x12 ∷ eqb next end ∷ []))
+    (λ _. digits-read public kind s start stop after (λ _. inr (refl, good)))
     (λ _. tt)
 string-read kind s end after head.Bad good = tt
 
@@ -198,7 +209,7 @@ ToUnless to = (to .address .number .form ≡ other → ⊥) → addressGood (to 
 
 pub parts-good : (n : Number) (sub : Sub) → sub .count ≤ most → GoodUnless n → ToUnless (forwardedOf n sub)
 unfolding addressGood
-parts-good n sub few good kind = rw (le-ltb most (sub .count) few) (good kind)
+parts-good n sub few good kind = rw (le-leb (sub .count) most few, good kind)
 
 address-in : (depth : ℕ) (s : List ℕ) (h : Head) → Something ToUnless (addressIn depth s h)
 address-in depth s (head.Is tag start stop next) =

@@ -2,20 +2,21 @@
 use Prim.Native.Nat.{ℕ, zero, suc, _+_, _-_, _≤_, _<_}
 use mathlib.Core.Path.{_≡_, refl, sym, ap, _∙_}
 use mathlib.Core.Bool.{true, false, false≢true}
-use mathlib.Core.List.{List}
+use mathlib.Core.List.{List, [], _∷_}
 use native.Mathlib.Nat.{zero-add, sub-zero, zero-sub, suc-sub-suc}
 use native.Mathlib.Numerals.{add-one}
 use native.Mathlib.Omega.{arith}
 use lib.ListN.{length, getD, take, drop, replicate}
 use lib.Seq.{drop-cons, drop-length, length-take-le, slice, length-slice}
-use lib.Dec.{ltb, eqb}
-use borrow.Author.Tests.{lt-ltb, le-ltb, le-leb, lt-leb}
+use lib.Dec.{eqb}
+use borrow.Author.Tests.{le-leb, lt-leb}
 use Rattle.laws.specs.Pick.{pick}
+use Rattle.laws.specs.Tests.{all}
 use Rattle.laws.specs.Got.{Got, got, wrong, andThen}
 use Rattle.laws.specs.Over.{Puts}
 use Rattle.laws.proofs.Over.{wrote, over-eq}
 use Rattle.laws.proofs.Parts.{part-slice}
-use Rattle.laws.proofs.Picks.{pick-ind}
+use Rattle.laws.proofs.Picks.{pick-ind, pick-last}
 use Rattle.octets.specs.Head.{headAt}
 use Rattle.values.specs.Enumerated.{enumeratedAt}
 use Rattle.octets.specs.declared.head.Head.{Head}
@@ -23,6 +24,7 @@ use Rattle.octets.specs.declared.head.Head.the-variants as head
 use Rattle.values.specs.declared.enumerated.Enumerated.{Enumerated}
 use Rattle.values.specs.declared.enumerated.Enumerated.the-variants as enumerated
 use Rattle.octets.proofs.Within.{Within, within}
+use Rattle.numbers.proofs.Goods.{form-choice}
 use Rattle.numbers.specs.Number.{most, unknown, public, padded, digitsGood, digitsOf, numberGood, digitsIn, valueOf, fair, stringOf, stringAt, publicIn, otherTag, numberIn, numberAt, numberRead}
 use Rattle.codes.specs.Digits.{allDigits, typeGood}
 use Rattle.numbers.specs.Address.{octetsIn, subAt, subRead, forwardedOf, addressIn, addressAt, addressRead}
@@ -56,17 +58,17 @@ padded-over {ws} h p =
 -- none
 pub digits-few : (cs : List ℕ) (n : ℕ) → length cs ≡ n → n < 1 → digitsGood cs ≡ false
 unfolding digitsGood fair
-digits-few cs n long h = rw (long, lt-ltb n 1 h)
+digits-few cs n long h = rw (long, lt-leb 1 n h)
 
 -- more than 20
 pub digits-many : (cs : List ℕ) (n : ℕ) → length cs ≡ n → 1 ≤ n → most < n → digitsGood cs ≡ false
 unfolding digitsGood fair
-digits-many cs n long g h = rw (long, le-ltb n 1 g, lt-leb n most h)
+digits-many cs n long g h = rw (long, le-leb 1 n g, lt-leb n most h)
 
 -- 1 to 20
 pub digits-fair : (cs : List ℕ) (n : ℕ) → length cs ≡ n → 1 ≤ n → n ≤ most → digitsGood cs ≡ allDigits cs
 unfolding digitsGood fair
-digits-fair cs n long g h = rw (long, le-ltb n 1 g, le-leb n most h)
+digits-fair cs n long g h = rw (long, le-leb 1 n g, le-leb n most h, pick-last)
 
 -- what is left to test of a record that has 1 to 20
 pub record-good :
@@ -78,8 +80,10 @@ pub record-good :
 unfolding numberGood
 record-good n g h long =
     rw (
-      le-ltb most (n .count) h,
+      le-leb (n .count) most h,
       digits-fair (digitsOf n) (n .count) (length-take-le (n .count) (n .digits) (omega arith)) g h,
+      form-choice (n .form) (n .kind),
+      pick-last,
     )
 
 -- ---- what the readers make of a part, which the code names by `take` and `drop`
@@ -115,7 +119,7 @@ module _ (s : List ℕ) (start stop : ℕ) (inside : stop ≤ length s) (some : 
   unfolding octetsIn fair
   sub-made ws e =
       rw (
-        le-ltb (stop - start) 1 some,
+        le-leb 1 (stop - start) some,
         le-leb (stop - start) most few,
         e,
         part-slice start stop s,
@@ -186,9 +190,8 @@ digits-ends form kind s start stop next =
 
 string-ends : (kind : ℕ) (s : List ℕ) (end after : ℕ) (h : Head) → Ends after (stringOf kind s end after h)
 string-ends kind s end after (head.Is tag start stop next) =
-    pick-ind (Ends after) (eqb tag 0x12)
-    (λ _. pick-ind (Ends after) (eqb next end) (λ _. digits-ends 1 kind s start stop after) (λ _. tt))
-    (λ _. tt)
+    pick-ind (Ends after) (all (eqb tag 0x12 ∷ eqb next end ∷ []))
+    (λ _. digits-ends public kind s start stop after) (λ _. tt)
 string-ends kind s end after head.Bad = tt
 
 value-ends :

@@ -9,18 +9,19 @@ use lib.ListN.{length, take, replicate, length-append, length-take}
 use lib.Dec.{eqb}
 use borrow.Author.Tests.{eq-eqb, ne-eqb}
 use Rattle.laws.specs.Pick.{pick}
-use Rattle.laws.proofs.Picks.{pick-ind, pick-map}
+use Rattle.laws.proofs.Picks.{pick-ind, pick-map, pick-last}
 use Rattle.octets.specs.Element.{element}
 use Rattle.values.specs.Enumerated.{enumeratedOctets}
 use Rattle.octets.proofs.Elements.{length-small}
 use Rattle.values.proofs.Enumerateds.{length-enumerated}
-use Rattle.numbers.specs.Number.{most, unknown, public, fair, digitsGood, digitsOf, numberGood, numberOctets}
+use Rattle.numbers.specs.Number.{most, unknown, public, digitsOf, numberGood, numberOctets}
 use Rattle.codes.specs.Digits.{typeGood}
 use Rattle.codes.proofs.Characters.{zeros-digits, type-zero}
 use Rattle.numbers.specs.Address.{subOctetsOf, addressGood, subOctets, addressOctets}
 use Rattle.numbers.specs.declared.number.Number.{Number}
 use Rattle.numbers.specs.declared.address.Address.{Address}
 use Rattle.numbers.proofs.Goods.{digits-fair, good-number, good-address}
+use Rattle.numbers.proofs.Readers.{record-good}
 
 -- ---- what a record's array holds
 
@@ -181,8 +182,10 @@ longestNumber = record { form = public; kind = 0; count = most; digits = replica
 
 -- it is good
 pub longest-number : numberGood longestNumber ≡ true
-unfolding numberGood digitsGood fair
-longest-number = ap (λ (b : Bool). pick b (typeGood 0) false) (zeros-digits most) ∙ type-zero
+longest-number =
+    record-good longestNumber (omega arith) (omega arith) refl
+    ∙ ap (λ (b : Bool). pick b (typeGood 0) false) (zeros-digits most)
+    ∙ type-zero
 
 -- and has 27 octets
 pub number-longest : length (numberOctets longestNumber) ≡ 27
@@ -195,7 +198,7 @@ longestAddress = record { number = longestNumber; subcount = most; sub = replica
 -- it is good
 pub longest-address : addressGood longestAddress ≡ true
 unfolding addressGood
-longest-address = longest-number
+longest-address = pick-last (numberGood longestNumber) ∙ longest-number
 
 -- and has 51 octets
 pub address-longest : length (addressOctets longestAddress) ≡ 51

@@ -3,11 +3,12 @@
 use Prim.Native.Nat.{ℕ, _-_}
 use mathlib.Core.Path.{_≡_}
 use mathlib.Core.Bool.{Bool, true, false}
-use mathlib.Core.List.{List, [], _++_}
+use mathlib.Core.List.{List, [], _∷_, _++_}
 use lib.ListN.{length, take}
 use lib.Seq.{slice}
-use lib.Dec.{ltb, eqb}
+use lib.Dec.{leb, eqb}
 use Rattle.laws.specs.Pick.{pick}
+use Rattle.laws.specs.Tests.{all}
 use Rattle.laws.specs.Got.{Got, got, wrong, andThen}
 use Rattle.laws.specs.Over.{Puts}
 use Rattle.octets.specs.Head.{headAt}
@@ -89,7 +90,7 @@ tidyAddress a = record {
 
 -- whether a record is an address as a table holds it
 unfoldable pub addressGood : Address → Bool
-addressGood a = pick (ltb most (a .subcount)) false (numberGood (a .number))
+addressGood a = all (leb (a .subcount) most ∷ numberGood (a .number) ∷ [])
 
 unfoldable pub subOctets : List ℕ → List ℕ
 subOctets ws = pick (eqb (length ws) 0) [] (element 0x04 ws)

@@ -6,8 +6,9 @@ use mathlib.Core.Bool.{Bool, true, false}
 use mathlib.Core.List.{List, [], _∷_, _++_}
 use lib.ListN.{length, take, replicate}
 use lib.Seq.{slice}
-use lib.Dec.{ltb, leb, eqb}
+use lib.Dec.{leb, eqb}
 use Rattle.laws.specs.Pick.{pick}
+use Rattle.laws.specs.Tests.{all, any}
 use Rattle.laws.specs.Got.{Got, got, wrong, andThen}
 use Rattle.laws.specs.Over.{Puts}
 use Rattle.codes.specs.Digits.{allDigits, typeGood}
@@ -41,11 +42,11 @@ padded ws = ws ++ replicate (most - length ws) 0
 
 -- 1 to 20 octets
 unfoldable pub fair : ℕ → Bool
-fair n = pick (ltb n 1) false (leb n most)
+fair n = all (leb 1 n ∷ leb n most ∷ [])
 
 -- "1 to 20 characters, only 0 to 9 (house: no space)"
 unfoldable pub digitsGood : List ℕ → Bool
-digitsGood cs = pick (fair (length cs)) (allDigits cs) false
+digitsGood cs = all (fair (length cs) ∷ allDigits cs ∷ [])
 
 -- the record of a number with the digits cs
 abbrev pub numberOf : ℕ → ℕ → List ℕ → Number
@@ -64,7 +65,7 @@ valueOf enumerated.Unreadable = wrong
 -- the numeric string, tag 12, with which a public number ends
 abbrev pub stringOf : ℕ → List ℕ → ℕ → ℕ → Head → Got Number
 stringOf kind s end after (head.Is tag start stop next) =
-    pick (eqb tag 0x12) (pick (eqb next end) (digitsIn public kind s start stop after) wrong) wrong
+    pick (all (eqb tag 0x12 ∷ eqb next end ∷ [])) (digitsIn public kind s start stop after) wrong
 stringOf kind s end after head.Bad = wrong
 
 unfoldable pub stringAt : ℕ → ℕ → List ℕ → ℕ → ℕ → ℕ → Got Number
@@ -78,9 +79,7 @@ publicIn depth s start stop after =
 
 -- "Tags 82, 83, 84, A5, 88 are other kinds: whole, contents not read."
 unfoldable pub otherTag : ℕ → Bool
-otherTag tag =
-    pick (eqb tag 0x82) true
-    (pick (eqb tag 0x83) true (pick (eqb tag 0x84) true (pick (eqb tag 0xA5) true (eqb tag 0x88))))
+otherTag tag = any (eqb tag 0x82 ∷ eqb tag 0x83 ∷ eqb tag 0x84 ∷ eqb tag 0xA5 ∷ eqb tag 0x88 ∷ [])
 
 abbrev pub numberIn : ℕ → List ℕ → Head → Got Number
 numberIn depth s (head.Is tag start stop next) =
@@ -108,13 +107,14 @@ digitsOf n = take (n .count) (n .digits)
 abbrev pub tidyNumber : Number → Number
 tidyNumber n = numberOf (n .form) (n .kind) (digitsOf n)
 
--- whether a record is a number as a table holds it: of unknown form with type 0, or of public form with one of its types
+-- of unknown form, which has no type, or of public form with one of its types
+abbrev pub formGood : ℕ → ℕ → Bool
+formGood form kind =
+    any (all (eqb form unknown ∷ eqb kind 0 ∷ []) ∷ all (eqb form public ∷ typeGood kind ∷ []) ∷ [])
+
+-- whether a record is a number as a table holds it
 unfoldable pub numberGood : Number → Bool
-numberGood n =
-    pick (ltb most (n .count)) false
-    (pick (digitsGood (digitsOf n))
-    (pick (eqb (n .form) unknown) (eqb (n .kind) 0) (pick (eqb (n .form) public) (typeGood (n .kind)) false))
-    false)
+numberGood n = all (leb (n .count) most ∷ digitsGood (digitsOf n) ∷ formGood (n .form) (n .kind) ∷ [])
 
 unfoldable pub numberOctets : Number → List ℕ
 numberOctets n =

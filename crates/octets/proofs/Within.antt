@@ -1,12 +1,15 @@
 -- An element that is found lies within the octets before `end`, takes at least two of them, and what follows it begins no
 -- earlier than its contents end. Callers go by these laws, never by the text of `headAt`. Assumes nothing.
 use Prim.Native.Nat.{ℕ, _+_, _%_, _<_, _≤_}
-use mathlib.Core.Path.{_≡_, refl}
-use mathlib.Core.List.{List}
+use mathlib.Core.Path.{_≡_, refl, sym}
+use mathlib.Core.Bool.{Bool, true, false, false≢true}
+use mathlib.Core.List.{List, [], _∷_}
 use native.Mathlib.Omega.{arith}
 use lib.ListN.{length, getD}
 use lib.Dec.{ltb, leb, eqb}
 use borrow.Author.Tests.{leb-true, ltb-false, eqb-false}
+use Rattle.laws.specs.Pick.{pick}
+use Rattle.laws.specs.Tests.{any}
 use Rattle.laws.proofs.Picks.{pick-ind}
 use Rattle.octets.specs.Word.{wordAt}
 use Rattle.octets.specs.Head.{spanOf, lengthAt, tagged, headAt}
@@ -59,17 +62,21 @@ tagged-in depth size tag at end (span.Is start stop) d h k = record {
 }
 tagged-in depth size tag at end span.Wrong d h k = tt
 
+-- where none of several tests holds, the first does not, and none of the others
+neither : (b c : Bool) → pick b true c ≡ false → (b ≡ false) × (c ≡ false)
+neither true c e = absurd (false≢true (sym e))
+neither false c e = (refl, e)
+
 pub within :
     (depth : ℕ) (s : List ℕ) (at end : ℕ) → Within depth (length s) at end (headAt depth s at end)
 unfolding headAt
 within depth s at end =
-    let P : Head → Type 0 = Within depth (length s) at end in
-    pick-ind P (eqb depth 0) (λ _. tt) (λ d.
-    pick-ind P (ltb (length s) end) (λ _. tt) (λ e.
-    pick-ind P (leb end at) (λ _. tt) (λ _.
-    pick-ind P (eqb (getD s at 0 % 32) 31) (λ _. tt) (λ _.
+    let low : Bool = eqb (getD s at 0 % 32) 31 in
+    pick-ind (Within depth (length s) at end) (any (eqb depth 0 ∷ ltb (length s) end ∷ leb end at ∷ low ∷ [])) (λ _. tt) (λ e.
+    let d = neither (eqb depth 0) _ e in
+    let i = neither (ltb (length s) end) _ (d .1) in
     tagged-in depth (length s) (getD s at 0) at end (lengthAt s (at + 1) end)
-    (eqb-false depth 0 d) (ltb-false (length s) end e) (length-in s (at + 1) end)))))
+    (eqb-false depth 0 (d .0)) (ltb-false (length s) end (i .0)) (length-in s (at + 1) end))
 
 -- no element goes no elements deep
 pub head-none : (s : List ℕ) (at end : ℕ) → headAt 0 s at end ≡ head.Bad

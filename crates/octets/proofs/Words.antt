@@ -7,7 +7,7 @@ use native.Mathlib.Nat.{one-le-pow, pow-le-pow-right}
 use native.Mathlib.Numerals.{add-one}
 use native.Mathlib.Omega.{arith}
 use lib.ListN.{length, getD, set, length-append}
-use borrow.Author.Tests.{lt-ltb, le-ltb}
+use borrow.Author.Tests.{le-leb, lt-leb}
 use Rattle.laws.specs.Over.{over}
 use Rattle.laws.specs.Stands.{Stands}
 use Rattle.laws.proofs.Over.{over-nil, over-over, over-one, over-set}
@@ -40,7 +40,7 @@ word-fits k h = pow-le-pow-right (omega arith) h
 -- they are there
 pub word-whole : (k : ℕ) (s : List ℕ) (at : ℕ) → k ≤ wordMost → at + k ≤ length s → wordIn k s at ≡ wordAt k s at
 unfolding wordIn
-word-whole k s at few h = rw (le-ltb wordMost k few, le-ltb (length s) (at + k) h)
+word-whole k s at few h = rw (le-leb k wordMost few, le-leb (at + k) (length s) h)
 
 pub word-found :
     {k : ℕ} {s : List ℕ} {at r : ℕ} → k ≤ wordMost → at + k ≤ length s → WordAt k s at r →
@@ -51,13 +51,13 @@ word-found {k} {s} {at} few h w = record { is = rw (word-whole k s at few h) (w 
 pub word-short : {k : ℕ} {s : List ℕ} {at : ℕ} → k ≤ wordMost → length s < at + k → WordIn k s at 0
 unfolding wordIn
 word-short {k} {s} {at} few h = record {
-  is = rw (le-ltb wordMost k few, lt-ltb (length s) (at + k) h);
+  is = rw (le-leb k wordMost few, lt-leb (at + k) (length s) h);
   small = one-le-pow k 256 (omega arith);
 }
 
 pub word-many : {k : ℕ} {s : List ℕ} {at : ℕ} → wordMost < k → WordIn k s at 0
 unfolding wordIn
-word-many {k} many = record { is = rw (lt-ltb wordMost k many); small = one-le-pow k 256 (omega arith) }
+word-many {k} many = record { is = rw (lt-leb k wordMost many); small = one-le-pow k 256 (omega arith) }
 
 -- ---- turns of the loops
 

@@ -1,10 +1,11 @@
 -- An element: a tag octet, length octets, contents, all of it within its container (document 01, "Reading a component").
 use Prim.Native.Nat.{ℕ, _+_, _%_}
 use mathlib.Core.Path.{_≡_}
-use mathlib.Core.List.{List}
+use mathlib.Core.List.{List, [], _∷_}
 use lib.ListN.{length, getD}
 use lib.Dec.{ltb, leb, eqb}
 use Rattle.laws.specs.Pick.{pick}
+use Rattle.laws.specs.Tests.{any}
 use Rattle.octets.specs.Word.{wordAt}
 use Rattle.octets.specs.declared.head.Span.{Span}
 use Rattle.octets.specs.declared.head.Span.the-variants as span
@@ -32,10 +33,9 @@ tagged tag span.Wrong = head.Bad
 -- `depth` is how many elements deep it may go, itself counted.
 unfoldable pub headAt : ℕ → List ℕ → ℕ → ℕ → Head
 headAt depth s at end =
-    pick (eqb depth 0) head.Bad
-    (pick (ltb (length s) end) head.Bad
-    (pick (leb end at) head.Bad
-    (pick (eqb (getD s at 0 % 32) 31) head.Bad (tagged (getD s at 0) (lengthAt s (at + 1) end)))))
+    pick (any (eqb depth 0 ∷ ltb (length s) end ∷ leb end at ∷ eqb (getD s at 0 % 32) 31 ∷ []))
+    head.Bad
+    (tagged (getD s at 0) (lengthAt s (at + 1) end))
 
 -- what `head_at` promises
 abbrev pub HeadAt : ℕ → List ℕ → ℕ → ℕ → Head → Type 0

@@ -3,8 +3,9 @@ use Prim.Native.Nat.{ℕ, zero, suc, _+_, _*_, _/_, _%_, _^_, _<_}
 use mathlib.Core.Path.{_≡_}
 use mathlib.Core.List.{List, [], _∷_, _++_}
 use lib.ListN.{length, getD}
-use lib.Dec.{ltb}
+use lib.Dec.{leb}
 use Rattle.laws.specs.Pick.{pick}
+use Rattle.laws.specs.Tests.{all}
 use Rattle.laws.specs.Over.{Puts}
 
 -- the number that k octets from `at` on stand for
@@ -28,7 +29,7 @@ wordMost = 7
 
 -- the same of octets that need not be there: 0 where one is missing, or where they are too many
 unfoldable pub wordIn : ℕ → List ℕ → ℕ → ℕ
-wordIn k s at = pick (ltb wordMost k) 0 (pick (ltb (length s) (at + k)) 0 (wordAt k s at))
+wordIn k s at = pick (all (leb k wordMost ∷ leb (at + k) (length s) ∷ [])) (wordAt k s at) 0
 
 -- what `word_in` promises
 pub record WordIn (k : ℕ) (s : List ℕ) (at r : ℕ) : Type 0 where

@@ -3,13 +3,13 @@
 use Prim.Native.Nat.{ℕ, zero, suc, _-_, _/_, _%_, _<_, _≤_}
 use mathlib.Core.Path.{_≡_, refl, sym, ap, _∙_}
 use mathlib.Core.Bool.{Bool, true}
-use mathlib.Core.List.{List}
+use mathlib.Core.List.{List, [], _∷_}
 use native.Mathlib.Omega.{arith}
 use lib.ListN.{length}
 use lib.Dec.{eqb}
 use borrow.Author.Tests.{eq-eqb, ne-eqb}
-use Rattle.laws.specs.Pick.{pick}
-use Rattle.laws.proofs.Picks.{pick-ind}
+use Rattle.laws.specs.Tests.{any}
+use Rattle.laws.proofs.Picks.{pick-ind, pick-last}
 use Rattle.octets.specs.Head.{headAt}
 use Rattle.skip.specs.Skip.{afterSkip, fills, pastElement, skipElement, skipContents}
 use Rattle.octets.specs.declared.head.Head.{Head}
@@ -28,8 +28,7 @@ inside-further :
     (good : ℕ → ℕ → Bool) (depth size at end : ℕ) (x : Head) → Within depth size at end x →
     Further at end (pastElement good x)
 inside-further good depth size at end (head.Is tag start stop next) h =
-    pick-ind (Further at end) (eqb (tag / 32 % 2) 0) (λ _. omega arith)
-    (λ _. pick-ind (Further at end) (good start stop) (λ _. omega arith) (λ _. tt))
+    pick-ind (Further at end) (any (eqb (tag / 32 % 2) 0 ∷ good start stop ∷ [])) (λ _. omega arith) (λ _. tt)
 inside-further good depth size at end head.Bad h = tt
 
 -- a skipped element takes at least one octet, and none from `end` on
@@ -63,7 +62,7 @@ module _ (step : ℕ → Skip) (end : ℕ) (moves : (at : ℕ) → Further at en
   fills-same (suc n) zero at le h k =
       fills-end (suc n) at (omega arith) ∙ sym (fills-end zero at (omega arith))
   fills-same (suc n) (suc m) at le h k =
-      ap (pick (eqb at end) true)
+      ap (λ (rest : Bool). any (eqb at end ∷ rest ∷ []))
       (onward-same _ _ at end (step at) (moves at)
       (λ next p q. fills-same n m next q (omega arith) (omega arith)))
 
@@ -74,7 +73,7 @@ module _ (step : ℕ → Skip) (end : ℕ) (moves : (at : ℕ) → Further at en
   unfolding fills
   fills-step at lt =
       fills-same (end - at) (suc (end - at)) at (omega arith) (omega arith) (omega arith)
-      ∙ rw (ne-eqb at end (λ e. omega arith))
+      ∙ rw (ne-eqb at end (λ e. omega arith), pick-last)
       (onward-same _ _ at end (step at) (moves at)
       (λ next p q. fills-same (end - at) (end - next) next q (omega arith) (omega arith)))
 

@@ -2,10 +2,11 @@
 -- component"). Tags are not looked at but for their bit 6: what may be skipped at all, the caller decides.
 use Prim.Native.Nat.{ℕ, zero, suc, _-_, _/_, _%_}
 use mathlib.Core.Path.{_≡_}
-use mathlib.Core.Bool.{Bool, true, false}
-use mathlib.Core.List.{List}
+use mathlib.Core.Bool.{Bool, false}
+use mathlib.Core.List.{List, [], _∷_}
 use lib.Dec.{eqb}
 use Rattle.laws.specs.Pick.{pick}
+use Rattle.laws.specs.Tests.{any}
 use Rattle.octets.specs.Head.{headAt}
 use Rattle.octets.specs.declared.head.Head.{Head}
 use Rattle.octets.specs.declared.head.Head.the-variants as head
@@ -23,11 +24,12 @@ afterSkip rest Wrong = false
 -- elements one after the other, from `at` on, end at `end`; `step` finds the place after one, and there are at most n
 unfoldable pub fills : (ℕ → Skip) → ℕ → ℕ → ℕ → Bool
 fills step zero at end = eqb at end
-fills step (suc n) at end = pick (eqb at end) true (afterSkip (λ next. fills step n next end) (step at))
+fills step (suc n) at end = any (eqb at end ∷ afterSkip (λ next. fills step n next end) (step at) ∷ [])
 
 -- "A primitive one's contents aren't read"; a constructed one's must be good
 abbrev pub pastElement : (ℕ → ℕ → Bool) → Head → Skip
-pastElement good (head.Is tag start stop next) = pick (eqb (tag / 32 % 2) 0) (To next) (pick (good start stop) (To next) Wrong)
+pastElement good (head.Is tag start stop next) =
+    pick (any (eqb (tag / 32 % 2) 0 ∷ good start stop ∷ [])) (To next) Wrong
 pastElement good head.Bad = Wrong
 
 -- "An element's contents may be elements, and those hold contents again": the place after the element at `at`, which goes

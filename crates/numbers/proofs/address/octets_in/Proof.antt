@@ -1,7 +1,7 @@
 use Rattle.numbers.proofs.Readers.{sub-made}
 use Rattle.numbers.specs.Address.{octetsIn}
 use Rattle.numbers.specs.Number.{fair}
-use borrow.Author.Tests.{lt-ltb, le-ltb, lt-leb}
+use borrow.Author.Tests.{le-leb, lt-leb}
 use borrow.Author.Needs.{needs}
 use Rattle.numbers.proofs.address.octets_in.Statement.{statement}
 use Rattle.numbers.proofs.address.octets_in.Tie as tie
@@ -14,14 +14,14 @@ no-sub-requires c κs = search needs
 
 returns : tie.Need-returns
 unfolding octetsIn fair
-returns c = rw (lt-ltb _ _ (c .before .if1 .taken)) (c .no-sub .ensures)
+returns c = rw (lt-leb _ _ (c .before .if1 .taken)) (c .no-sub .ensures)
 
 no-sub-requires-2 : tie.Need-no-sub-requires-2
 no-sub-requires-2 c κs = search needs
 
 returns-2 : tie.Need-returns-2
 unfolding octetsIn fair
-returns-2 c = rw (le-ltb _ _ (c .before .before .if1 .left), lt-leb _ _ (c .before .if2 .taken)) (c .no-sub2 .ensures)
+returns-2 c = rw (le-leb _ _ (c .before .before .if1 .left), lt-leb _ _ (c .before .if2 .taken)) (c .no-sub2 .ensures)
 
 sub-padded-of : tie.Need-sub-padded-of
 sub-padded-of c = search needs

@@ -4,7 +4,7 @@ use lib.Seq.{length-take-le}
 use lib.ListN.{length}
 use native.Mathlib.Omega.{arith}
 use mathlib.Core.Path.{_≡_, sym, _∙_}
-use borrow.Author.Tests.{lt-ltb, le-ltb, eq-eqb, ne-eqb, not-true, not-false}
+use borrow.Author.Tests.{le-leb, lt-leb, eq-eqb, ne-eqb, not-true, not-false}
 use borrow.Author.Needs.{needs}
 use Rattle.numbers.proofs.number.number_good.Statement.{statement}
 use Rattle.numbers.proofs.number.number_good.Tie as tie
@@ -14,11 +14,11 @@ cast-count c = search needs
 
 returns : tie.Need-returns
 unfolding numberGood
-returns c = rw (lt-ltb _ _ (c .if1 .taken))
+returns c = rw (lt-leb _ _ (c .if1 .taken))
 
 returns-2 : tie.Need-returns-2
 unfolding numberGood
-returns-2 c = let n = c .before .before .before .before .args .n in let long : length (n .digits) ≡ most = search needs in rw (le-ltb _ _ (c .before .if1 .left), digits-few (digitsOf n) (n .count) (length-take-le _ _ (omega arith)) (c .if2 .taken))
+returns-2 c = let n = c .before .before .before .before .args .n in let long : length (n .digits) ≡ most = search needs in rw (le-leb _ _ (c .before .if1 .left), digits-few (digitsOf n) (n .count) (length-take-le _ _ (omega arith)) (c .if2 .taken))
 
 array-share-prefix-digits : tie.Need-array-share-prefix-digits
 array-share-prefix-digits c = let n = c .before .before .before .before .args .n in let long : length (n .digits) ≡ most = search needs in omega arith

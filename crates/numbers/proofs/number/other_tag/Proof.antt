@@ -1,3 +1,4 @@
+use Rattle.laws.proofs.Picks.{pick-last}
 use Rattle.numbers.specs.Number.{otherTag}
 use borrow.Author.Tests.{eq-eqb, ne-eqb}
 use Rattle.numbers.proofs.number.other_tag.Statement.{statement}
@@ -21,7 +22,7 @@ returns-4 c = rw (ne-eqb _ _ (c .before .before .before .if1 .left), ne-eqb _ _ 
 
 returns-5 : tie.Need-returns-5
 unfolding otherTag
-returns-5 c = rw (ne-eqb _ _ (c .before .before .before .if1 .left), ne-eqb _ _ (c .before .before .if2 .left), ne-eqb _ _ (c .before .if3 .left), ne-eqb _ _ (c .if4 .left))
+returns-5 c = rw (ne-eqb _ _ (c .before .before .before .if1 .left), ne-eqb _ _ (c .before .before .if2 .left), ne-eqb _ _ (c .before .if3 .left), ne-eqb _ _ (c .if4 .left), pick-last _)
 
 pub other-tag-spec : {M : Type 1} → statement M
 other-tag-spec = tie.close (tie.spec returns returns-2 returns-3 returns-4 returns-5)
