@@ -19,11 +19,12 @@ use Rattle.requests.specs.Heard.{insideDepth, componentDepth, replyTag}
 use Rattle.requests.specs.Request.{interrogation}
 use Rattle.lists.specs.declared.entry.Entry.{Entry}
 use Rattle.requests.proofs.Tags.{result-tag, error-tag, reject-tag}
-use Rattle.answers.specs.Reply.{failedAt, resultAt, afterOwn, ownAt, reply}
+use Rattle.answers.specs.Part.{orElse}
+use Rattle.answers.specs.Reply.{failedAt, resultAt, saidAt, ownAt, reply}
 use Rattle.answers.specs.declared.answer.Answer.the-variants as answer
 use Rattle.answers.specs.declared.answer.Problem.{Problem}
 use Rattle.answers.specs.declared.answer.Whose.the-variants as whose
-use Rattle.answers.specs.declared.reply.Reply.the-variants.{Dropped, Rejected, Failed, Done}
+use Rattle.answers.specs.declared.reply.Reply.the-variants.{Dropped, Rejected, Failed, Done, Wrong}
 use Rattle.answers.proofs.Replies.{same-self}
 
 -- a component of tag A2, A3 or A4 that begins with the request's own identifier
@@ -32,7 +33,7 @@ pub own-in :
     (i : Inside componentDepth s 0 (length s) tag ws) → length (element tag ws) ≡ length s →
     Stands s (i .start) (identOctets identifier) → length (identOctets identifier) ≤ length ws →
     reply identifier operation s
-    ≡ afterOwn operation tag s (i .start + length (identOctets identifier)) (length s)
+    ≡ orElse Wrong (saidAt operation tag s (i .start + length (identOctets identifier)) (length s))
 unfolding reply ownAt
 own-in identifier operation tag ws s range is-reply i fit st short =
     let stop : i .start + length ws ≡ length s = omega (arith, i .stop) in
@@ -50,7 +51,7 @@ module _ (identifier : ℤ) (operation : ℕ) (range : mag identifier < 32768) w
   pub reject-back :
       (problem : Problem) (es : List Entry) →
       reply identifier operation (answerOctets (answer.Reject (whose.Own identifier) problem) es) ≡ Rejected
-  unfolding answerOctets afterOwn
+  unfolding answerOctets saidAt
   reject-back problem es =
       let a : List ℕ = identOctets identifier in
       let ws : List ℕ = a ++ problemOctets problem in
@@ -67,7 +68,7 @@ module _ (identifier : ℤ) (operation : ℕ) (range : mag identifier < 32768) w
   pub error-back :
       (value : ℕ) (es : List Entry) → value < 256 →
       reply identifier operation (answerOctets (answer.Error identifier value) es) ≡ Failed (pos value)
-  unfolding answerOctets afterOwn failedAt
+  unfolding answerOctets saidAt failedAt
   error-back value es small =
       let a : List ℕ = identOctets identifier in
       let b : List ℕ = identOctets (pos value) in
@@ -91,7 +92,7 @@ module _ (identifier : ℤ) (operation : ℕ) (range : mag identifier < 32768) w
   pub result-back :
       (es : List Entry) → (operation ≡ interrogation → ⊥) →
       reply identifier operation (answerOctets (answer.Result identifier) es) ≡ Done
-  unfolding answerOctets afterOwn resultAt
+  unfolding answerOctets saidAt resultAt
   result-back es other =
       let a : List ℕ = identOctets identifier in
       let s : List ℕ = element 0xA2 a in

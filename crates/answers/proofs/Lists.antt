@@ -25,8 +25,9 @@ use Rattle.lists.proofs.Sizes.{list-octets, list-most}
 use Rattle.lists.proofs.Trips.{entries-back}
 use Rattle.answers.specs.Answer.{answerOctets}
 use Rattle.answers.specs.declared.answer.Answer.the-variants as answer
-use Rattle.answers.specs.Reply.{setAt, sequenceAt, listAt, resultAt, afterOwn, reply}
-use Rattle.answers.specs.declared.reply.Reply.the-variants.{Listed}
+use Rattle.answers.specs.Part.{orElse}
+use Rattle.answers.specs.Reply.{setAt, sequenceAt, listAt, resultAt, saidAt, reply}
+use Rattle.answers.specs.declared.reply.Reply.the-variants.{Listed, Wrong}
 use Rattle.answers.proofs.Replies.{same-self}
 use Rattle.answers.proofs.Answers.{own-in}
 
@@ -42,7 +43,7 @@ module _ (s : List ℕ) (es : List Entry) where
   set-in :
       (at end : ℕ) (i : Inside argumentDepth s at end 0x31 (entriesOctets es)) →
       i .start + length (entriesOctets es) ≡ end →
-      setAt s at end ≡ Listed (i .start) (i .start + length (entriesOctets es))
+      setAt s at end ≡ got (Listed (i .start) (i .start + length (entriesOctets es))) end
   unfolding setAt
   set-in at end i last = rw (i .is, eq-eqb (i .start + length (entriesOctets es)) end last)
 
@@ -76,7 +77,7 @@ module _ (identifier : ℤ) (left : ℕ) (es : List Entry) (range : mag identifi
     (few : length es ≤ left) (small : 86 * left + 19 < 65536) where
   whole-back :
       ListBack identifier (element 0xA2 (identOctets identifier ++ element 0x30 (sequenceOctets es))) left (tidyEntries es)
-  unfolding afterOwn resultAt
+  unfolding saidAt resultAt
   whole-back =
       let a : List ℕ = identOctets identifier in
       let o : List ℕ = identOctets (pos interrogation) in
@@ -104,8 +105,8 @@ module _ (identifier : ℤ) (left : ℕ) (es : List Entry) (range : mag identifi
         is =
             own-in identifier interrogation 0xA2 (a ++ q) s range result-tag i refl
             (stands-left s (i .start) a q (i .stands)) (omega arith)
-            ∙ list-in s es p (length s) j (omega (arith, i .stop, j .stop)) (omega arith)
-            ∙ set-in s es r (length s) k last;
+            ∙ ap (orElse Wrong)
+            (list-in s es p (length s) j (omega (arith, i .stop, j .stop)) (omega arith) ∙ set-in s es r (length s) k last);
         entries = entries-back left es s (k .start) (k .start + length (entriesOctets es)) good few (k .stands) refl (k .room);
       }
 

@@ -1,88 +1,59 @@
--- What a component says to the end that waits for an answer to its request (document 01, "The customer end"): "one element filling
--- the component, tag A2, A3 or A4", for the outstanding identifier. Anything else is dropped.
+-- What a component says to the end that waits for an answer to its request (document 01, "The customer end"). It is read from the
+-- bottom of this page: `reply` says what a reply is and for whom, and what stands above it is what each kind of reply holds.
 use Prim.Native.Nat.{ℕ}
 use mathlib.Core.Path.{_≡_}
-use mathlib.Core.Bool.{Bool, false}
 use mathlib.Core.List.{List}
-use lib.IntN.{ℤ, pos, negsuc}
+use lib.IntN.{ℤ, pos}
 use lib.ListN.{length}
 use lib.Dec.{eqb}
 use Rattle.laws.specs.Pick.{pick}
-use Rattle.octets.specs.Head.{headAt}
-use Rattle.values.specs.Ident.{identAt}
-use Rattle.octets.specs.declared.head.Head.{Head}
-use Rattle.octets.specs.declared.head.Head.the-variants as head
-use Rattle.values.specs.declared.ident.Ident.{Ident}
-use Rattle.values.specs.declared.ident.Ident.the-variants as ident
+use Rattle.laws.specs.Got.{Got, got, andThen}
 use Rattle.requests.specs.Heard.{argumentDepth, insideDepth, componentDepth, replyTag}
 use Rattle.requests.specs.Request.{interrogation}
+use Rattle.answers.specs.Part.{orElse, onlyIf, sameIdent, signedAt, lastAt, tagIs}
 use Rattle.answers.specs.declared.reply.Reply.{Reply}
 use Rattle.answers.specs.declared.reply.Reply.the-variants.{Dropped, Rejected, Failed, Done, Listed, Wrong}
 
--- whether two identifiers are the same
-unfoldable pub sameIdent : ℤ → ℤ → Bool
-sameIdent (pos a) (pos b) = eqb a b
-sameIdent (pos a) (negsuc b) = false
-sameIdent (negsuc a) (pos b) = false
-sameIdent (negsuc a) (negsuc b) = eqb a b
-
 -- "an error: anything but one readable value after its identifier" is of the wrong shape
-abbrev pub failedOf : ℕ → Ident → Reply
-failedOf end (ident.Is value place) = pick (eqb place end) (Failed value) Wrong
-failedOf end ident.Unreadable = Wrong
+unfoldable pub failedAt : List ℕ → ℕ → ℕ → Got Reply
+failedAt s at end = andThen (signedAt insideDepth s at end) (λ value next. onlyIf (eqb next end) (got (Failed value) end))
 
-unfoldable pub failedAt : List ℕ → ℕ → ℕ → Reply
-failedAt s at end = failedOf end (identAt insideDepth s at end)
+-- the set of entries, tag 31, and nothing more
+unfoldable pub setAt : List ℕ → ℕ → ℕ → Got Reply
+setAt s at end = andThen (lastAt (tagIs 0x31) argumentDepth s at end) (λ set next. got (Listed (set .start) (set .stop)) end)
 
--- the set of entries, tag 31, with which the result's sequence ends
-abbrev pub setOf : ℕ → Head → Reply
-setOf end (head.Is tag start stop next) = pick (eqb tag 0x31) (pick (eqb next end) (Listed start stop) Wrong) Wrong
-setOf end head.Bad = Wrong
+-- what stands in a list's sequence: the operation 11, and then the set
+unfoldable pub sequenceAt : List ℕ → ℕ → ℕ → Got Reply
+sequenceAt s at end =
+    andThen (signedAt argumentDepth s at end) (λ value next. onlyIf (sameIdent value (pos interrogation)) (setAt s next end))
 
-unfoldable pub setAt : List ℕ → ℕ → ℕ → Reply
-setAt s at end = setOf end (headAt argumentDepth s at end)
+-- a list: one sequence, tag 30, of operation and set, and nothing more
+unfoldable pub listAt : List ℕ → ℕ → ℕ → Got Reply
+listAt s at end =
+    andThen (lastAt (tagIs 0x30) insideDepth s at end) (λ sequence next. sequenceAt s (sequence .start) (sequence .stop))
 
--- the operation's value stands before it
-abbrev pub operationIs : List ℕ → ℕ → Ident → Reply
-operationIs s end (ident.Is value place) = pick (sameIdent value (pos interrogation)) (setAt s place end) Wrong
-operationIs s end ident.Unreadable = Wrong
+-- a result: of 11 a list, "of 7 or 8" exactly the identifier
+unfoldable pub resultAt : ℕ → List ℕ → ℕ → ℕ → Got Reply
+resultAt operation s at end = pick (eqb operation interrogation) (listAt s at end) (onlyIf (eqb at end) (got Done end))
 
-unfoldable pub sequenceAt : List ℕ → ℕ → ℕ → Reply
-sequenceAt s at end = operationIs s end (identAt argumentDepth s at end)
+-- what follows the identifier, by the component's tag: a reject, whose shape is not looked at, an error or a result
+unfoldable pub saidAt : ℕ → ℕ → List ℕ → ℕ → ℕ → Got Reply
+saidAt operation tag s at end =
+    pick (eqb tag 0xA4) (got Rejected end) (pick (eqb tag 0xA3) (failedAt s at end) (resultAt operation s at end))
 
--- a list's result: a sequence of operation and entries, and nothing more
-abbrev pub listOf : List ℕ → ℕ → Head → Reply
-listOf s end (head.Is tag start stop next) = pick (eqb tag 0x30) (pick (eqb next end) (sequenceAt s start stop) Wrong) Wrong
-listOf s end head.Bad = Wrong
+-- "for the outstanding identifier": what it says, or a reply "of the wrong shape"
+unfoldable pub ownAt : ℤ → ℕ → ℕ → List ℕ → ℕ → ℕ → Got Reply
+ownAt identifier operation tag s at end =
+    andThen (signedAt insideDepth s at end) (λ value next.
+    onlyIf (sameIdent value identifier) (got (orElse Wrong (saidAt operation tag s next end)) end))
 
-unfoldable pub listAt : List ℕ → ℕ → ℕ → Reply
-listAt s at end = listOf s end (headAt insideDepth s at end)
-
--- "result of 7 or 8": exactly the identifier
-unfoldable pub resultAt : ℕ → List ℕ → ℕ → ℕ → Reply
-resultAt operation s at end = pick (eqb operation interrogation) (listAt s at end) (pick (eqb at end) Done Wrong)
-
--- what follows the identifier, by the component's tag; a reject's shape is not looked at
-unfoldable pub afterOwn : ℕ → ℕ → List ℕ → ℕ → ℕ → Reply
-afterOwn operation tag s at end =
-    pick (eqb tag 0xA4) Rejected (pick (eqb tag 0xA3) (failedAt s at end) (resultAt operation s at end))
-
-abbrev pub ownOf : ℤ → ℕ → ℕ → List ℕ → ℕ → Ident → Reply
-ownOf identifier operation tag s end (ident.Is value place) =
-    pick (sameIdent value identifier) (afterOwn operation tag s place end) Dropped
-ownOf identifier operation tag s end ident.Unreadable = Dropped
-
-unfoldable pub ownAt : ℤ → ℕ → ℕ → List ℕ → ℕ → ℕ → Reply
-ownAt identifier operation tag s at end = ownOf identifier operation tag s end (identAt insideDepth s at end)
-
-abbrev pub replyOf : ℤ → ℕ → List ℕ → Head → Reply
-replyOf identifier operation s (head.Is tag start stop next) =
-    pick (eqb next (length s)) (pick (replyTag tag) (ownAt identifier operation tag s start stop) Dropped) Dropped
-replyOf identifier operation s head.Bad = Dropped
-
--- what the component s says to the request with this identifier and operation
+-- What the component s says to the request with this identifier and operation: "Replies (one element filling the component, tag A2,
+-- A3 or A4) for the outstanding identifier"; "Anything else that arrives is dropped."
 unfoldable pub reply : ℤ → ℕ → List ℕ → Reply
-reply identifier operation s = replyOf identifier operation s (headAt componentDepth s 0 (length s))
+reply identifier operation s =
+    orElse Dropped
+    (andThen (lastAt replyTag componentDepth s 0 (length s)) (λ component next.
+    ownAt identifier operation (component .tag) s (component .start) (component .stop)))
 
 -- what `reply_to` promises
 abbrev pub ReplyTo : ℤ → ℕ → List ℕ → Reply → Type 0

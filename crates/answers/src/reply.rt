@@ -9,7 +9,9 @@ use requests::reply_tag;
 use values::Ident;
 use values::ident_at;
 ghost use mathlib.Core.Path.{_≡_};
-ghost use Rattle.answers.specs.Reply.{sameIdent, failedAt, setAt, sequenceAt, listAt, resultAt, afterOwn, ownAt, ReplyTo};
+ghost use Rattle.answers.specs.Part.{orElse, sameIdent};
+ghost use Rattle.answers.specs.Reply.{failedAt, setAt, sequenceAt, listAt, resultAt, saidAt, ownAt, ReplyTo};
+ghost use Rattle.answers.specs.declared.reply.Reply.the-variants.{Dropped, Wrong};
 
 // The interrogation's code, as a list repeats it.
 const LISTED: i16 = INTERROGATION as i16;
@@ -33,7 +35,7 @@ fn same_ident(a: i16, b: i16) -> bool
 
 // What follows an error's identifier.
 fn failed_at(s: &[u8], at: usize, end: usize) -> Reply
-    ensures { λ r. ⌜ r ≡ failedAt (now (s .entry)) at end ⌝ }
+    ensures { λ r. ⌜ r ≡ orElse Wrong (failedAt (now (s .entry)) at end) ⌝ }
 {
     match ident_at(s, at, end, INSIDEDEPTH) {
         Ident::Is { value, next } => {
@@ -48,7 +50,7 @@ fn failed_at(s: &[u8], at: usize, end: usize) -> Reply
 
 // The set of entries with which a list's sequence ends.
 fn set_at(s: &[u8], at: usize, end: usize) -> Reply
-    ensures { λ r. ⌜ r ≡ setAt (now (s .entry)) at end ⌝ }
+    ensures { λ r. ⌜ r ≡ orElse Wrong (setAt (now (s .entry)) at end) ⌝ }
 {
     match head_at(s, at, end, ARGUMENTDEPTH) {
         Head::Is {
@@ -57,10 +59,10 @@ fn set_at(s: &[u8], at: usize, end: usize) -> Reply
             stop,
             next,
         } => {
-            if tag != 0x31 {
+            if next != end {
                 return Reply::Wrong;
             }
-            if next != end {
+            if tag != 0x31 {
                 return Reply::Wrong;
             }
             Reply::Listed {
@@ -74,7 +76,7 @@ fn set_at(s: &[u8], at: usize, end: usize) -> Reply
 
 // What stands in a list's sequence.
 fn sequence_at(s: &[u8], at: usize, end: usize) -> Reply
-    ensures { λ r. ⌜ r ≡ sequenceAt (now (s .entry)) at end ⌝ }
+    ensures { λ r. ⌜ r ≡ orElse Wrong (sequenceAt (now (s .entry)) at end) ⌝ }
 {
     match ident_at(s, at, end, ARGUMENTDEPTH) {
         Ident::Is { value, next } => {
@@ -89,7 +91,7 @@ fn sequence_at(s: &[u8], at: usize, end: usize) -> Reply
 
 // What follows the identifier in a list's result.
 fn list_at(s: &[u8], at: usize, end: usize) -> Reply
-    ensures { λ r. ⌜ r ≡ listAt (now (s .entry)) at end ⌝ }
+    ensures { λ r. ⌜ r ≡ orElse Wrong (listAt (now (s .entry)) at end) ⌝ }
 {
     match head_at(s, at, end, INSIDEDEPTH) {
         Head::Is {
@@ -98,10 +100,10 @@ fn list_at(s: &[u8], at: usize, end: usize) -> Reply
             stop,
             next,
         } => {
-            if tag != 0x30 {
+            if next != end {
                 return Reply::Wrong;
             }
-            if next != end {
+            if tag != 0x30 {
                 return Reply::Wrong;
             }
             sequence_at(s, start, stop)
@@ -112,7 +114,7 @@ fn list_at(s: &[u8], at: usize, end: usize) -> Reply
 
 // What follows the identifier in a result.
 fn result_at(operation: u8, s: &[u8], at: usize, end: usize) -> Reply
-    ensures { λ r. ⌜ r ≡ resultAt operation (now (s .entry)) at end ⌝ }
+    ensures { λ r. ⌜ r ≡ orElse Wrong (resultAt operation (now (s .entry)) at end) ⌝ }
 {
     if operation == INTERROGATION {
         return list_at(s, at, end);
@@ -124,8 +126,8 @@ fn result_at(operation: u8, s: &[u8], at: usize, end: usize) -> Reply
 }
 
 // What follows the request's own identifier.
-fn after_own(operation: u8, tag: u8, s: &[u8], at: usize, end: usize) -> Reply
-    ensures { λ r. ⌜ r ≡ afterOwn operation tag (now (s .entry)) at end ⌝ }
+fn said_at(operation: u8, tag: u8, s: &[u8], at: usize, end: usize) -> Reply
+    ensures { λ r. ⌜ r ≡ orElse Wrong (saidAt operation tag (now (s .entry)) at end) ⌝ }
 {
     if tag == 0xA4 {
         return Reply::Rejected;
@@ -138,12 +140,12 @@ fn after_own(operation: u8, tag: u8, s: &[u8], at: usize, end: usize) -> Reply
 
 // What stands in a reply, if it is for this identifier.
 fn own_at(identifier: i16, operation: u8, tag: u8, s: &[u8], at: usize, end: usize) -> Reply
-    ensures { λ r. ⌜ r ≡ ownAt identifier operation tag (now (s .entry)) at end ⌝ }
+    ensures { λ r. ⌜ r ≡ orElse Dropped (ownAt identifier operation tag (now (s .entry)) at end) ⌝ }
 {
     match ident_at(s, at, end, INSIDEDEPTH) {
         Ident::Is { value, next } => {
             if same_ident(value, identifier) {
-                return after_own(operation, tag, s, next, end);
+                return said_at(operation, tag, s, next, end);
             }
             Reply::Dropped
         }

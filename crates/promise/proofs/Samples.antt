@@ -9,19 +9,17 @@ use Rattle.values.specs.Ident.{half, twos, bits, identHolds, identIn, identAt, 
 use Rattle.skip.specs.Skip.{fills}
 use Rattle.groups.specs.Groups.{groupsIn, groupsAt, groupsWith, groups}
 use Rattle.codes.specs.Codes.{placeOf, serviceCode, procedureCode}
-use Rattle.numbers.specs.Number.{fair, digitsGood, digitsIn, numberAt, numberOctets}
+use Rattle.numbers.specs.Number.{fair, digitsGood, digitsIn, numberAt, numberOctets, numberGood}
 use Rattle.codes.specs.Digits.{allDigits, typeGood}
-use Rattle.numbers.specs.Address.{subAt, addressAt, subOctets, addressOctets}
+use Rattle.numbers.specs.Address.{subAt, addressAt, subOctets, addressOctets, addressGood}
 use Rattle.lists.specs.Entries.{entriesOctets, entriesFrom}
 use Rattle.lists.specs.Listed.{listOctets}
 use Rattle.answers.specs.Answer.{answerOctets}
-use Rattle.answers.specs.Reply.{sameIdent, failedAt, setAt, sequenceAt, listAt, resultAt, afterOwn, ownAt, reply}
+use Rattle.answers.specs.Reply.{failedAt, setAt, sequenceAt, listAt, resultAt, ownAt, reply, saidAt}
 use Rattle.requests.specs.Heard.{replyTag, operationAt, identifierAt, heard}
 use Rattle.requests.specs.Request.{codeAt, serviceAt, servedAt, privates, lastIn, activationIn, interrogationIn, contentsIn, argumentAt}
 use Rattle.requests.specs.Sent.{servedOctets, toOctets, requestOctets}
 use Rattle.laws.specs.Places.{everyTo, countTo, eachFrom, changedFrom, gathered}
-use Rattle.numbers.specs.Number.{numberGood}
-use Rattle.numbers.specs.Address.{addressGood}
 use Rattle.profile.specs.Access.{numberFrom, prefixFrom, prefixesFrom, profileFrom, accessRead}
 use Rattle.profile.specs.Profile.{sameDigits, sameNumber, same, placeIn, numbersGood, rising, servicesGood, prefixGood, prefixesGood, subscriptionsGood, usesGood, diversionGood, profileGood}
 use Rattle.store.specs.Row.{active, selected, countWith, activeOf, putIn, clearIn, entryOfPlace, entriesIn, cellGood, rowGood}
@@ -43,8 +41,9 @@ use Rattle.listings.specs.Listing.{decimalIn, decimal, procedureName, kindText,
 use Rattle.nightly.specs.Instances.{instancesOf}
 use Rattle.nightly.specs.Record.{wroteSheet}
 use Rattle.promise.specs.Samples.{Each, samples}
+use Rattle.answers.specs.Part.{sameIdent}
 
 pub each-sample : Each samples
-unfolding fewestFrom wordAt wordOctets spanOf lengthAt headAt lengthHolds lengthWith lengthFewest enumeratedAt half twos bits identHolds identIn identAt identFewest fills groupsIn groupsAt groupsWith groups placeOf serviceCode procedureCode allDigits fair typeGood digitsGood digitsIn numberAt numberOctets subAt addressAt subOctets addressOctets replyTag operationAt identifierAt heard codeAt serviceAt servedAt privates lastIn activationIn interrogationIn contentsIn argumentAt servedOctets toOctets requestOctets answerOctets entriesOctets entriesFrom listOctets sameIdent failedAt setAt sequenceAt listAt resultAt afterOwn ownAt reply everyTo countTo eachFrom changedFrom gathered numberGood addressGood numberFrom prefixFrom prefixesFrom profileFrom accessRead sameDigits sameNumber same placeIn numbersGood rising servicesGood prefixGood prefixesGood subscriptionsGood usesGood diversionGood profileGood active selected countWith activeOf putIn clearIn entryOfPlace entriesIn cellGood rowGood gridGood isSubscribed servedInvalid notProvided otherKind begins beginsAny selectedSame fits noRoom judge applied numberChosen serviceChosen selects placesOf tableGood notAbove duplicate known invoked question moved resultOf handled stepOf step done reasonOf optionAfter preferenceAfter originalShown callFrom namesGood valuesGood originalGood callGood applying servedOf noticed onward noOnward comes allGroups instanceOctets fieldAt fieldsAt addressFrom instanceFrom instancesOctets sheetOctets before follows runOf instancesFrom sheetIn decimalIn decimal procedureName kindText hexOf hexText subText lineOf headerLine instanceLine instanceLines listing listedSheet refusedLine printedSheet instancesOf wroteSheet
+unfolding fewestFrom wordAt wordOctets spanOf lengthAt headAt lengthHolds lengthWith lengthFewest enumeratedAt half twos bits identHolds identIn identAt identFewest fills groupsIn groupsAt groupsWith groups placeOf serviceCode procedureCode allDigits fair typeGood digitsGood digitsIn numberAt numberOctets subAt addressAt subOctets addressOctets replyTag operationAt identifierAt heard codeAt serviceAt servedAt privates lastIn activationIn interrogationIn contentsIn argumentAt servedOctets toOctets requestOctets answerOctets entriesOctets entriesFrom listOctets sameIdent failedAt setAt sequenceAt listAt resultAt ownAt reply everyTo countTo eachFrom changedFrom gathered numberGood addressGood numberFrom prefixFrom prefixesFrom profileFrom accessRead sameDigits sameNumber same placeIn numbersGood rising servicesGood prefixGood prefixesGood subscriptionsGood usesGood diversionGood profileGood active selected countWith activeOf putIn clearIn entryOfPlace entriesIn cellGood rowGood gridGood isSubscribed servedInvalid notProvided otherKind begins beginsAny selectedSame fits noRoom judge applied numberChosen serviceChosen selects placesOf tableGood notAbove duplicate known invoked question moved resultOf handled stepOf step done reasonOf optionAfter preferenceAfter originalShown callFrom namesGood valuesGood originalGood callGood applying servedOf noticed onward noOnward comes allGroups instanceOctets fieldAt fieldsAt addressFrom instanceFrom instancesOctets sheetOctets before follows runOf instancesFrom sheetIn decimalIn decimal procedureName kindText hexOf hexText subText lineOf headerLine instanceLine instanceLines listing listedSheet refusedLine printedSheet instancesOf wroteSheet saidAt
 each-sample =
     (refl, (refl, (refl, (refl, (refl, (refl, (refl, (refl, (refl, (refl, (refl, (refl, (refl, (refl, (refl, (refl, (refl, (refl, (refl, (refl, (refl, (refl, (refl, (refl, (refl, (refl, ((refl, refl), ((refl, refl), ((refl, refl), ((refl, refl), ((refl, refl), ((refl, refl, refl), ((refl, refl, refl), ((refl, refl, refl), ((refl, refl, refl), (refl, (refl, (refl, (refl, tt)))))))))))))))))))))))))))))))))))))))

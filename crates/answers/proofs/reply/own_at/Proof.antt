@@ -16,15 +16,15 @@ enum-known-value c = search needs
 same-ident-requires : tie.Need-same-ident-requires
 same-ident-requires c κs = search needs
 
-after-own-requires : tie.Need-after-own-requires
-after-own-requires c κs = search needs
+said-at-requires : tie.Need-said-at-requires
+said-at-requires c κs = search needs
 
 returns : tie.Need-returns
 unfolding ownAt
 returns c = let id : SFits w16 (c .before .before .before .before .value .given .0 .0) = search needs in
     let found = sym (c .before .before .before .before .before .before .ident-at .ensures) ∙ c .before .before .before .before .value .given .1 in
     let same = sym (rw (toZ-ofZ id, toZ-ofZ (c .before .before .before .before .before .before .before .before .fits .identifier)) at (c .before .before .same-ident .ensures)) ∙ c .before .if1 .taken in
-    rw (found, same) (c .after-own .ensures)
+    rw (found, same) (c .said-at .ensures)
 
 enum-told : tie.Need-enum-told
 enum-told c = search needs
@@ -47,7 +47,7 @@ own-at-spec =
     ident-at-requires
     enum-known-value
     same-ident-requires
-    after-own-requires
+    said-at-requires
     returns
     enum-told
     returns-2

@@ -1,0 +1,58 @@
+-- The parts of a reply, each as what a reader finds: an identifier or an operation's value, and an element that is the last one.
+use Prim.Native.Nat.{ℕ}
+use mathlib.Core.Bool.{Bool, false}
+use mathlib.Core.List.{List, [], _∷_}
+use lib.IntN.{ℤ, pos, negsuc}
+use lib.Dec.{eqb}
+use Rattle.laws.specs.Pick.{pick}
+use Rattle.laws.specs.Tests.{all}
+use Rattle.laws.specs.Got.{Got, got, wrong, andThen}
+use Rattle.octets.specs.Head.{headAt}
+use Rattle.values.specs.Ident.{identAt}
+use Rattle.octets.specs.declared.head.Head.{Head}
+use Rattle.octets.specs.declared.head.Head.the-variants as head
+use Rattle.values.specs.declared.ident.Ident.{Ident}
+use Rattle.values.specs.declared.ident.Ident.the-variants as ident
+
+-- what is found; `otherwise` where it is nothing of the kind
+abbrev pub orElse : {A : Type 0} → A → Got A → A
+orElse otherwise (got a place) = a
+orElse otherwise wrong = otherwise
+
+-- what is found, where the test passes
+abbrev pub onlyIf : {A : Type 0} → Bool → Got A → Got A
+onlyIf passed g = pick passed g wrong
+
+-- whether two identifiers are the same
+unfoldable pub sameIdent : ℤ → ℤ → Bool
+sameIdent (pos a) (pos b) = eqb a b
+sameIdent (pos a) (negsuc b) = false
+sameIdent (negsuc a) (pos b) = false
+sameIdent (negsuc a) (negsuc b) = eqb a b
+
+abbrev pub signedOf : Ident → Got ℤ
+signedOf (ident.Is value next) = got value next
+signedOf ident.Unreadable = wrong
+
+-- an identifier or an operation's value
+abbrev pub signedAt : ℕ → List ℕ → ℕ → ℕ → Got ℤ
+signedAt depth s at end = signedOf (identAt depth s at end)
+
+-- an element: its tag, and where its contents stand
+pub record Part : Type 0 where
+  pub tag : ℕ
+  pub start : ℕ
+  pub stop : ℕ
+
+abbrev pub partOf : Head → Got Part
+partOf (head.Is tag start stop next) = got (record { tag = tag; start = start; stop = stop }) next
+partOf head.Bad = wrong
+
+-- an element whose tag passes the test, and nothing after it
+abbrev pub lastAt : (ℕ → Bool) → ℕ → List ℕ → ℕ → ℕ → Got Part
+lastAt good depth s at end =
+    andThen (partOf (headAt depth s at end))
+    (λ part next. onlyIf (all (eqb next end ∷ good (part .tag) ∷ [])) (got part next))
+
+abbrev pub tagIs : ℕ → ℕ → Bool
+tagIs wanted tag = eqb tag wanted
