@@ -1,10 +1,13 @@
--- The numbers and values of an answer, and whose it is, name it. Assumes nothing.
+-- The numbers and values of an answer, and whose it is, name it; and likewise those of a reply. Assumes nothing.
 use Prim.Native.Nat.{ℕ}
 use lib.IntN.{ℤ, pos}
+use lib.Signed.{mag}
+use lib.Dec.{eqb}
 use lib.ListN.{length, getD}
-use mathlib.Core.List.{List}
-use mathlib.Core.Path.{_≡_, refl, ap}
+use mathlib.Core.List.{List, [], _∷_}
+use mathlib.Core.Path.{_≡_, refl, sym, ap, _∙_}
 use native.Mathlib.Omega.{arith}
+use Rattle.laws.specs.Pick.{pick}
 use Rattle.answers.specs.Answer.{answerNo, problemNo, problemValue, answerValues, answerWhose}
 use Rattle.answers.specs.declared.answer.Answer.{Answer}
 use Rattle.answers.specs.declared.answer.Answer.the-variants as answer
@@ -12,6 +15,9 @@ use Rattle.answers.specs.declared.answer.Problem.{Problem}
 use Rattle.answers.specs.declared.answer.Problem.the-variants as problem
 use Rattle.answers.specs.declared.answer.Whose.{Whose}
 use Rattle.answers.specs.declared.answer.Whose.the-variants as whose
+use Rattle.answers.specs.Reply.{reply, replyNo, replyValues, ReplyTo}
+use Rattle.answers.specs.declared.reply.Reply.{Reply}
+use Rattle.answers.specs.declared.reply.Reply.the-variants.{Dropped, Rejected, Failed, Done, Listed, Wrong}
 
 -- two problems of the same number and value are the same
 pub problem-same : (a b : Problem) → problemNo a ≡ problemNo b → problemValue a ≡ problemValue b → a ≡ b
@@ -59,3 +65,35 @@ answer-same (answer.Listing i) (answer.Reject w′ p′) n h e = absurd (omega a
 answer-same (answer.Listing i) (answer.Error i′ v′) n h e = absurd (omega arith)
 answer-same (answer.Listing i) (answer.Result i′) n h e = absurd (omega (arith, ap length h))
 answer-same (answer.Listing i) (answer.Listing i′) n h e = ap answer.Listing (ap ownOf e)
+
+-- the reply of a number, with its values
+resultOf : List ℤ → Reply
+resultOf [] = Done
+resultOf (operation ∷ places) = Listed (mag (getD places 0 (pos 0))) (mag (getD places 1 (pos 0)))
+
+replyOf : ℕ → List ℤ → Reply
+replyOf n vs =
+    pick (eqb n 0) Dropped
+    (pick (eqb n 1) Wrong (pick (eqb n 0xA4) Rejected (pick (eqb n 0xA3) (Failed (getD vs 0 (pos 0))) (resultOf vs))))
+
+reply-of : (r : Reply) → replyOf (replyNo r) (replyValues r) ≡ r
+unfolding resultOf replyOf
+reply-of Dropped = refl
+reply-of Wrong = refl
+reply-of Rejected = refl
+reply-of (Failed value) = refl
+reply-of Done = refl
+reply-of (Listed at end) = refl
+
+-- two replies of the same number and values are the same
+pub reply-same : (a b : Reply) → replyNo a ≡ replyNo b → replyValues a ≡ replyValues b → a ≡ b
+reply-same a b n v = sym (reply-of a) ∙ ap (λ (k : ℕ). replyOf k (replyValues a)) n ∙ ap (replyOf (replyNo b)) v ∙ reply-of b
+
+-- what the promise of `reply_to` says, and when it holds
+pub replies-is :
+    {identifier : ℤ} {operation : ℕ} {s : List ℕ} {r : Reply} → ReplyTo identifier operation s r → r ≡ reply identifier operation s
+replies-is {identifier} {operation} {s} {r} h = reply-same r (reply identifier operation s) (h .number) (h .values)
+
+pub replies :
+    {identifier : ℤ} {operation : ℕ} {s : List ℕ} {r : Reply} → r ≡ reply identifier operation s → ReplyTo identifier operation s r
+replies e = record { number = ap replyNo e; values = ap replyValues e }

@@ -2,7 +2,7 @@
 -- bottom of this page: `reply` says what a reply is and for whom, and what stands above it is what each kind of reply holds.
 use Prim.Native.Nat.{ℕ}
 use mathlib.Core.Path.{_≡_}
-use mathlib.Core.List.{List}
+use mathlib.Core.List.{List, [], _∷_}
 use lib.IntN.{ℤ, pos}
 use lib.ListN.{length}
 use lib.Dec.{eqb}
@@ -55,6 +55,26 @@ reply identifier operation s =
     (andThen (lastAt replyTag componentDepth s 0 (length s)) (λ component next.
     ownAt identifier operation (component .tag) s (component .start) (component .stop)))
 
+-- The tag of the component that closes the request. Document 01 gives no number to what is dropped, which is 0 here, nor to a reply of
+-- the wrong shape, which is 1.
+abbrev pub replyNo : Reply → ℕ
+replyNo Dropped = 0
+replyNo Wrong = 1
+replyNo Rejected = 0xA4
+replyNo (Failed value) = 0xA3
+replyNo Done = 0xA2
+replyNo (Listed at end) = 0xA2
+
+-- the values that go with its number: an error's value; the operation that a list repeats, and where its entries stand
+abbrev pub replyValues : Reply → List ℤ
+replyValues Dropped = []
+replyValues Wrong = []
+replyValues Rejected = []
+replyValues (Failed value) = value ∷ []
+replyValues Done = []
+replyValues (Listed at end) = pos interrogation ∷ pos at ∷ pos end ∷ []
+
 -- what `reply_to` promises
-abbrev pub ReplyTo : ℤ → ℕ → List ℕ → Reply → Type 0
-ReplyTo identifier operation s r = r ≡ reply identifier operation s
+pub record ReplyTo (identifier : ℤ) (operation : ℕ) (s : List ℕ) (r : Reply) : Type 0 where
+  pub number : replyNo r ≡ replyNo (reply identifier operation s)
+  pub values : replyValues r ≡ replyValues (reply identifier operation s)

@@ -5,6 +5,7 @@ use mathlib.Core.List.{List}
 use lib.IntN.{ℤ}
 use Rattle.laws.proofs.Picks.{both}
 use Rattle.laws.proofs.Over.{only-puts}
+use Rattle.answers.proofs.Numbers.{replies-is}
 use Rattle.lists.specs.declared.entries.Entries.{Entries}
 use Rattle.answers.specs.Answer.{PutAnswer}
 use Rattle.answers.specs.Reply.{ReplyTo}
@@ -21,4 +22,4 @@ pub only-reply-to :
     (identifier : ℤ) (operation : ℕ) (s : List ℕ) {a b : Reply} → ReplyTo identifier operation s a →
     ReplyTo identifier operation s b →
     a ≡ b
-only-reply-to identifier operation s = both
+only-reply-to identifier operation s a b = both (replies-is a) (replies-is b)

@@ -5,6 +5,7 @@ use mathlib.Core.Bool.{Bool}
 use mathlib.Core.List.{List}
 use lib.IntN.{ℤ}
 use Rattle.laws.proofs.Picks.{both}
+use Rattle.requests.proofs.Numbers.{hears-is}
 use Rattle.requests.specs.Heard.{Hears, ReplyTag}
 use Rattle.requests.specs.Request.{ArgumentAt}
 use Rattle.requests.specs.declared.heard.Heard.{Heard}
@@ -14,7 +15,7 @@ use Rattle.requests.specs.declared.request.Request.{Request}
 use Rattle.requests.specs.Sending.{PutRequest}
 
 pub only-hear : (s : List ℕ) {a b : Heard} → Hears s a → Hears s b → a ≡ b
-only-hear s = both
+only-hear s a b = both (hears-is a) (hears-is b)
 
 pub only-argument-at :
     (operation : Operation) (s : List ℕ) (at end : ℕ) {a b : RequestRead} → ArgumentAt operation s at end a →

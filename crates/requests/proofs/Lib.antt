@@ -4,6 +4,7 @@ pub mod Readers
 pub mod Arguments
 pub mod Trips
 pub mod Tags
+pub mod Numbers
 pub mod Ranges
 pub mod Requests
 pub mod Senders

@@ -2,8 +2,8 @@
 use Prim.Native.Nat.{ℕ, _+_}
 use mathlib.Core.Path.{_≡_}
 use mathlib.Core.Bool.{Bool, true}
-use mathlib.Core.List.{List}
-use lib.IntN.{ℤ}
+use mathlib.Core.List.{List, [], _∷_}
+use lib.IntN.{ℤ, pos}
 use lib.ListN.{length}
 use lib.Dec.{eqb}
 use Rattle.laws.specs.Pick.{pick}
@@ -64,9 +64,29 @@ componentOf s head.Bad = NotOne
 unfoldable pub heard : List ℕ → Heard
 heard s = componentOf s (headAt componentDepth s 0 (length s))
 
+-- The row of document 01's table that holds, counted from 1. The rows after these are no longer about the component's octets alone:
+-- a component that asks is at none of the first five, and has the number of the next.
+abbrev pub heardNo : Heard → ℕ
+heardNo NotOne = 1
+heardNo Silent = 2
+heardNo OtherTag = 3
+heardNo NoIdentifier = 4
+heardNo (NoOperation identifier) = 5
+heardNo (Asks identifier operation at end) = 6
+
+-- the values that go with its number: the identifier, the operation's value, and where the argument stands
+abbrev pub heardValues : Heard → List ℤ
+heardValues NotOne = []
+heardValues Silent = []
+heardValues OtherTag = []
+heardValues NoIdentifier = []
+heardValues (NoOperation identifier) = identifier ∷ []
+heardValues (Asks identifier operation at end) = identifier ∷ operation .value ∷ pos at ∷ pos end ∷ []
+
 -- what `hear` promises
-abbrev pub Hears : List ℕ → Heard → Type 0
-Hears s r = r ≡ heard s
+pub record Hears (s : List ℕ) (r : Heard) : Type 0 where
+  pub number : heardNo r ≡ heardNo (heard s)
+  pub values : heardValues r ≡ heardValues (heard s)
 
 -- what `reply_tag` promises
 abbrev pub ReplyTag : ℕ → Bool → Type 0

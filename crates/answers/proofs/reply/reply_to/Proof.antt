@@ -1,4 +1,5 @@
 use Rattle.answers.specs.Reply.{reply}
+use Rattle.answers.proofs.Numbers.{replies}
 use mir.Facts.{toZ-ofZ}
 use mathlib.Core.Path.{sym, _∙_}
 use borrow.Author.Tests.{eq-eqb, ne-eqb, not-true, not-false}
@@ -14,14 +15,18 @@ enum-known-tag c = search needs
 
 returns : tie.Need-returns
 unfolding reply
-returns c = let found = sym (c .before .before .before .before .head-at .ensures) ∙ c .before .before .tag .given .1 in rw (found, ne-eqb _ _ (c .if1 .taken))
+returns c =
+    let found = sym (c .before .before .before .before .head-at .ensures) ∙ c .before .before .tag .given .1 in
+    replies (rw (found, ne-eqb _ _ (c .if1 .taken)))
 
 reply-tag-requires : tie.Need-reply-tag-requires
 reply-tag-requires c κs = search needs
 
 returns-2 : tie.Need-returns-2
 unfolding reply
-returns-2 c = let found = sym (c .before .before .before .before .before .before .head-at .ensures) ∙ c .before .before .before .before .tag .given .1 in rw (found, eq-eqb _ _ (c .before .before .if1 .left), sym (c .before .reply-tag .ensures) ∙ not-true _ (c .if2 .taken))
+returns-2 c =
+    let found = sym (c .before .before .before .before .before .before .head-at .ensures) ∙ c .before .before .before .before .tag .given .1 in
+    replies (rw (found, eq-eqb _ _ (c .before .before .if1 .left), sym (c .before .reply-tag .ensures) ∙ not-true _ (c .if2 .taken)))
 
 own-at-requires : tie.Need-own-at-requires
 own-at-requires c κs = search needs
@@ -31,11 +36,13 @@ enum-told c = search needs
 
 returns-3 : tie.Need-returns-3
 unfolding reply
-returns-3 c = let found = sym (c .before .before .before .before .before .before .before .head-at .ensures) ∙ c .before .before .before .before .before .tag .given .1 in rw (found, eq-eqb _ _ (c .before .before .before .if1 .left), sym (c .before .before .reply-tag .ensures) ∙ not-false _ (c .before .if2 .left)) (rw (toZ-ofZ (c .before .before .before .before .before .before .before .before .before .fits .identifier)) at (c .own-at .ensures))
+returns-3 c =
+    let found = sym (c .before .before .before .before .before .before .before .head-at .ensures) ∙ c .before .before .before .before .before .tag .given .1 in
+    replies (rw (found, eq-eqb _ _ (c .before .before .before .if1 .left), sym (c .before .before .reply-tag .ensures) ∙ not-false _ (c .before .if2 .left)) (rw (toZ-ofZ (c .before .before .before .before .before .before .before .before .before .fits .identifier)) at (c .own-at .ensures)))
 
 returns-4 : tie.Need-returns-4
 unfolding reply
-returns-4 c = rw (sym (c .before .before .head-at .ensures) ∙ c .enum-told .given .1)
+returns-4 c = replies (rw (sym (c .before .before .head-at .ensures) ∙ c .enum-told .given .1))
 
 pub reply-to-spec : {M : Type 1} → statement M
 reply-to-spec =

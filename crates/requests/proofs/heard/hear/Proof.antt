@@ -1,5 +1,5 @@
 use Rattle.requests.specs.Heard.{heard}
-use borrow.Author.Needs.{needs}
+use Rattle.requests.proofs.Numbers.{hears}
 use mathlib.Core.Path.{sym, _∙_}
 use borrow.Author.Tests.{eq-eqb, ne-eqb}
 use borrow.Author.Needs.{needs}
@@ -14,18 +14,24 @@ enum-known-tag c = search needs
 
 returns : tie.Need-returns
 unfolding heard
-returns c = let found = sym (c .before .before .before .before .head-at .ensures) ∙ c .before .before .tag .given .1 in rw (found, ne-eqb _ _ (c .if1 .taken))
+returns c =
+    let found = sym (c .before .before .before .before .head-at .ensures) ∙ c .before .before .tag .given .1 in
+    hears (rw (found, ne-eqb _ _ (c .if1 .taken)))
 
 reply-tag-requires : tie.Need-reply-tag-requires
 reply-tag-requires c κs = search needs
 
 returns-2 : tie.Need-returns-2
 unfolding heard
-returns-2 c = let found = sym (c .before .before .before .before .before .before .head-at .ensures) ∙ c .before .before .before .before .tag .given .1 in rw (found, eq-eqb _ _ (c .before .before .if1 .left), sym (c .before .reply-tag .ensures) ∙ c .if2 .taken)
+returns-2 c =
+    let found = sym (c .before .before .before .before .before .before .head-at .ensures) ∙ c .before .before .before .before .tag .given .1 in
+    hears (rw (found, eq-eqb _ _ (c .before .before .if1 .left), sym (c .before .reply-tag .ensures) ∙ c .if2 .taken))
 
 returns-3 : tie.Need-returns-3
 unfolding heard
-returns-3 c = let found = sym (c .before .before .before .before .before .before .before .head-at .ensures) ∙ c .before .before .before .before .before .tag .given .1 in rw (found, eq-eqb _ _ (c .before .before .before .if1 .left), sym (c .before .before .reply-tag .ensures) ∙ c .before .if2 .left, ne-eqb _ _ (c .if3 .taken))
+returns-3 c =
+    let found = sym (c .before .before .before .before .before .before .before .head-at .ensures) ∙ c .before .before .before .before .before .tag .given .1 in
+    hears (rw (found, eq-eqb _ _ (c .before .before .before .if1 .left), sym (c .before .before .reply-tag .ensures) ∙ c .before .if2 .left, ne-eqb _ _ (c .if3 .taken)))
 
 identifier-at-requires : tie.Need-identifier-at-requires
 identifier-at-requires c κs = search needs
@@ -35,11 +41,13 @@ enum-told c = search needs
 
 returns-4 : tie.Need-returns-4
 unfolding heard
-returns-4 c = let found = sym (c .before .before .before .before .before .before .before .before .head-at .ensures) ∙ c .before .before .before .before .before .before .tag .given .1 in rw (found, eq-eqb _ _ (c .before .before .before .before .if1 .left), sym (c .before .before .before .reply-tag .ensures) ∙ c .before .before .if2 .left, eq-eqb _ _ (c .before .if3 .left)) (c .identifier-at .ensures)
+returns-4 c =
+    let found = sym (c .before .before .before .before .before .before .before .before .head-at .ensures) ∙ c .before .before .before .before .before .before .tag .given .1 in
+    hears (rw (found, eq-eqb _ _ (c .before .before .before .before .if1 .left), sym (c .before .before .before .reply-tag .ensures) ∙ c .before .before .if2 .left, eq-eqb _ _ (c .before .if3 .left)) (c .identifier-at .ensures))
 
 returns-5 : tie.Need-returns-5
 unfolding heard
-returns-5 c = rw (sym (c .before .before .head-at .ensures) ∙ c .enum-told .given .1)
+returns-5 c = hears (rw (sym (c .before .before .head-at .ensures) ∙ c .enum-told .given .1))
 
 pub hear-spec : {M : Type 1} → statement M
 hear-spec =

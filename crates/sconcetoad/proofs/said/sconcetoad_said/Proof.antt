@@ -1,3 +1,4 @@
+use Rattle.requests.proofs.Numbers.{hears-is}
 use Rattle.sconcetoad.proofs.Saids.{asked-found, asked-none}
 use Rattle.requests.specs.Request.{argumentAt}
 use mir.Facts.{toZ-ofZ}
@@ -52,26 +53,26 @@ nothing-said-requires-6 : tie.Need-nothing-said-requires-6
 nothing-said-requires-6 c κs = search needs
 
 returns : tie.Need-returns
-returns c = let found = sym (c .before .before .before .before .before .before .before .hear .ensures) ∙ c .before .before .before .before .before .identifier .given .1 in
+returns c = let found = sym (hears-is (c .before .before .before .before .before .before .before .hear .ensures)) ∙ c .before .before .before .before .before .identifier .given .1 in
     rw found (c .nothing-said6 .ensures ∙ asked-none _ _ (argumentAt _ _ _ _) _ (c .before .before .before .argument-at .ensures) (not-true _ (c .before .if1 .taken)))
 
 returns-2 : tie.Need-returns-2
-returns-2 c = rw (sym (c .before .before .before .hear .ensures) ∙ c .before .enum-told .given .1) (c .nothing-said .ensures)
+returns-2 c = rw (sym (hears-is (c .before .before .before .hear .ensures)) ∙ c .before .enum-told .given .1) (c .nothing-said .ensures)
 
 returns-3 : tie.Need-returns-3
-returns-3 c = rw (sym (c .before .before .before .hear .ensures) ∙ c .before .enum-told2 .given .1) (c .nothing-said2 .ensures)
+returns-3 c = rw (sym (hears-is (c .before .before .before .hear .ensures)) ∙ c .before .enum-told2 .given .1) (c .nothing-said2 .ensures)
 
 returns-4 : tie.Need-returns-4
-returns-4 c = rw (sym (c .before .before .before .hear .ensures) ∙ c .before .enum-told3 .given .1) (c .nothing-said3 .ensures)
+returns-4 c = rw (sym (hears-is (c .before .before .before .hear .ensures)) ∙ c .before .enum-told3 .given .1) (c .nothing-said3 .ensures)
 
 returns-5 : tie.Need-returns-5
-returns-5 c = rw (sym (c .before .before .before .hear .ensures) ∙ c .before .enum-told4 .given .1) (c .nothing-said4 .ensures)
+returns-5 c = rw (sym (hears-is (c .before .before .before .hear .ensures)) ∙ c .before .enum-told4 .given .1) (c .nothing-said4 .ensures)
 
 returns-6 : tie.Need-returns-6
-returns-6 c = rw (sym (c .before .before .before .hear .ensures) ∙ c .before .enum-told5 .given .1) (c .nothing-said5 .ensures)
+returns-6 c = rw (sym (hears-is (c .before .before .before .hear .ensures)) ∙ c .before .enum-told5 .given .1) (c .nothing-said5 .ensures)
 
 returns-7 : tie.Need-returns-7
-returns-7 c = let found = sym (c .before .before .before .before .before .before .before .before .hear .ensures) ∙ c .before .before .before .before .before .before .identifier .given .1 in
+returns-7 c = let found = sym (hears-is (c .before .before .before .before .before .before .before .before .hear .ensures)) ∙ c .before .before .before .before .before .before .identifier .given .1 in
     let identifier : SFits w16 (c .before .before .before .before .before .before .identifier .given .0 .0) = search needs in
     let operation : SFits w16 (c .before .before .before .before .before .before .identifier .given .0 .1 .0 .value) = search needs in
     rw (toZ-ofZ identifier, toZ-ofZ operation, found) (asked-found _ _ (argumentAt _ _ _ _) _ (c .before .before .before .before .argument-at .ensures) (not-false _ (c .before .before .if1 .left)))
