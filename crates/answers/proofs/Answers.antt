@@ -19,7 +19,7 @@ use Rattle.requests.specs.Heard.{insideDepth, componentDepth, replyTag}
 use Rattle.requests.specs.Request.{interrogation}
 use Rattle.lists.specs.declared.entry.Entry.{Entry}
 use Rattle.requests.proofs.Tags.{result-tag, error-tag, reject-tag}
-use Rattle.answers.specs.Part.{orElse}
+use Rattle.requests.specs.Part.{orElse}
 use Rattle.answers.specs.Reply.{failedAt, resultAt, saidAt, ownAt, reply}
 use Rattle.answers.specs.declared.answer.Answer.the-variants as answer
 use Rattle.answers.specs.declared.answer.Problem.{Problem}

@@ -25,7 +25,7 @@ use Rattle.lists.proofs.Sizes.{list-octets, list-most}
 use Rattle.lists.proofs.Trips.{entries-back}
 use Rattle.answers.specs.Answer.{answerOctets}
 use Rattle.answers.specs.declared.answer.Answer.the-variants as answer
-use Rattle.answers.specs.Part.{orElse}
+use Rattle.requests.specs.Part.{orElse}
 use Rattle.answers.specs.Reply.{setAt, sequenceAt, listAt, resultAt, saidAt, reply}
 use Rattle.answers.specs.declared.reply.Reply.the-variants.{Listed, Wrong}
 use Rattle.answers.proofs.Replies.{same-self}

@@ -2,17 +2,25 @@
 -- bottom of this page: `reply` says what a reply is and for whom, and what stands above it is what each kind of reply holds.
 use Prim.Native.Nat.{ℕ}
 use mathlib.Core.Path.{_≡_}
+use mathlib.Core.Bool.{Bool, false}
 use mathlib.Core.List.{List, [], _∷_}
-use lib.IntN.{ℤ, pos}
+use lib.IntN.{ℤ, pos, negsuc}
 use lib.ListN.{length}
 use lib.Dec.{eqb}
 use Rattle.laws.specs.Pick.{pick}
 use Rattle.laws.specs.Got.{Got, got, andThen}
+use Rattle.requests.specs.Part.{orElse, onlyIf, signedAt, lastAt, tagIs}
 use Rattle.requests.specs.Heard.{argumentDepth, insideDepth, componentDepth, replyTag}
 use Rattle.requests.specs.Request.{interrogation}
-use Rattle.answers.specs.Part.{orElse, onlyIf, sameIdent, signedAt, lastAt, tagIs}
 use Rattle.answers.specs.declared.reply.Reply.{Reply}
 use Rattle.answers.specs.declared.reply.Reply.the-variants.{Dropped, Rejected, Failed, Done, Listed, Wrong}
+
+-- whether two identifiers are the same
+unfoldable pub sameIdent : ℤ → ℤ → Bool
+sameIdent (pos a) (pos b) = eqb a b
+sameIdent (pos a) (negsuc b) = false
+sameIdent (negsuc a) (pos b) = false
+sameIdent (negsuc a) (negsuc b) = eqb a b
 
 -- "an error: anything but one readable value after its identifier" is of the wrong shape
 unfoldable pub failedAt : List ℕ → ℕ → ℕ → Got Reply

@@ -9,8 +9,8 @@ use requests::reply_tag;
 use values::Ident;
 use values::ident_at;
 ghost use mathlib.Core.Path.{_≡_};
-ghost use Rattle.answers.specs.Part.{orElse, sameIdent};
-ghost use Rattle.answers.specs.Reply.{failedAt, setAt, sequenceAt, listAt, resultAt, saidAt, ownAt, ReplyTo};
+ghost use Rattle.requests.specs.Part.{orElse};
+ghost use Rattle.answers.specs.Reply.{sameIdent, failedAt, setAt, sequenceAt, listAt, resultAt, saidAt, ownAt, ReplyTo};
 ghost use Rattle.answers.specs.declared.reply.Reply.the-variants.{Dropped, Wrong};
 
 // The interrogation's code, as a list repeats it.

@@ -8,6 +8,7 @@ use native.Mathlib.Omega.{arith}
 use lib.IntN.{ℤ, pos}
 use lib.Signed.{mag}
 use lib.ListN.{length, length-append}
+use Rattle.laws.specs.Tests.{all}
 use Rattle.laws.proofs.Picks.{pick-then}
 use Rattle.octets.specs.Element.{element}
 use Rattle.values.specs.Enumerated.{enumeratedOctets}
@@ -29,7 +30,9 @@ use Rattle.lists.specs.declared.entry.Entry.{Entry}
 -- number and address of a good entry are good
 pub good-entry : (e : Entry) → entryGood e ≡ true → (numberGood (e .served) ≡ true) × (addressGood (e .address) ≡ true)
 unfolding entryGood
-good-entry e h = pick-then (numberGood (e .served)) (addressGood (e .address)) h
+good-entry e h =
+    let p = pick-then (numberGood (e .served)) (all (addressGood (e .address) ∷ [])) h in
+    (p .0, pick-then (addressGood (e .address)) true (p .1) .0)
 
 -- the fields: number and address, and three octets for each code
 pub fields-size :

@@ -31,8 +31,8 @@ good-kept : (e : Entry) → entryGood e ≡ true → kept (record { address = ti
 unfolding kept
 good-kept e h =
     let n = good-number (e .address .number) (good-address (e .address) (good-entry e h .1) .number) in
-    lt-ltb (e .address .number .form) other
-    (⊎-elim (λ (u : (e .address .number .form ≡ 0) × (e .address .number .kind ≡ 0)). omega arith) (λ p. omega (arith, p .0)) (n .shape))
+    rw (lt-ltb (e .address .number .form) other
+    (⊎-elim (λ (u : (e .address .number .form ≡ 0) × (e .address .number .kind ≡ 0)). omega arith) (λ p. omega (arith, p .0)) (n .shape)))
 
 -- the fields that stand from `start` on, one after the other, up to `end`
 module _ (e : Entry) (good : entryGood e ≡ true) (s : List ℕ) (end next : ℕ) (in-s : end ≤ length s) where

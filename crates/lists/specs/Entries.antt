@@ -2,11 +2,13 @@
 use Prim.Native.Nat.{ℕ, zero, suc, _-_}
 use mathlib.Core.Path.{_≡_}
 use mathlib.Core.Bool.{Bool, true, false}
-use mathlib.Core.List.{List, [], _∷_, _++_}
+use mathlib.Core.List.{List, [], _∷_, _++_, map}
 use lib.ListN.{length, take, replicate}
 use lib.Dec.{eqb}
 use Rattle.laws.specs.Pick.{pick}
+use Rattle.laws.specs.Tests.{all}
 use Rattle.laws.specs.Got.{Got, got, wrong, andThen}
+use Rattle.requests.specs.Part.{onlyIf}
 use Rattle.lists.specs.Entry.{noEntry, entryOctets, entryGood, tidyEntry, entryAt}
 use Rattle.lists.specs.declared.entry.Entry.{Entry}
 use Rattle.lists.specs.declared.entries.Entries.{Entries}
@@ -34,12 +36,10 @@ entriesOctets [] = []
 entriesOctets (e ∷ es) = entryOctets e ++ entriesOctets es
 
 unfoldable pub allGood : List Entry → Bool
-allGood [] = true
-allGood (e ∷ es) = pick (entryGood e) (allGood es) false
+allGood es = all (map entryGood es)
 
 abbrev pub tidyEntries : List Entry → List Entry
-tidyEntries [] = []
-tidyEntries (e ∷ es) = tidyEntry e ∷ tidyEntries es
+tidyEntries es = map tidyEntry es
 
 -- one entry, and then others
 abbrev pub withFirst : Entry → Got (List Entry) → Got (List Entry)
@@ -48,7 +48,7 @@ withFirst e wrong = wrong
 
 -- at most `left` entries from `at` on, up to `end` and nothing else: one more is seen, and then it is no list
 unfoldable pub entriesFrom : ℕ → List ℕ → ℕ → ℕ → Got (List Entry)
-entriesFrom zero s at end = pick (eqb at end) (got [] end) wrong
+entriesFrom zero s at end = onlyIf (eqb at end) (got [] end)
 entriesFrom (suc left) s at end =
     pick (eqb at end) (got [] end)
     (andThen (entryAt s at end) (λ e next. withFirst e (entriesFrom left s next end)))

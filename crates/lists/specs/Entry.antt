@@ -1,10 +1,10 @@
 -- An entry of a list: one active instance (EN 300 207-1, clause 7.1, "IntResult"; document 01, "Replies" and "The customer end").
 use Prim.Native.Nat.{ℕ, _-_}
 use mathlib.Core.Bool.{Bool, true, false}
-use mathlib.Core.List.{List, [], _++_}
+use mathlib.Core.List.{List, [], _∷_, _++_}
 use lib.ListN.{length}
 use lib.Dec.{ltb, eqb}
-use Rattle.laws.specs.Pick.{pick}
+use Rattle.laws.specs.Tests.{all}
 use Rattle.laws.specs.Got.{Got, got, wrong, andThen}
 use Rattle.octets.specs.Head.{headAt}
 use Rattle.octets.specs.Element.{element}
@@ -16,6 +16,7 @@ use Rattle.numbers.specs.Address.{subOf, forwardedOf, addressAt, tidyAddress, a
 use Rattle.numbers.specs.declared.number.Number.{Number}
 use Rattle.numbers.specs.declared.address.Address.{Address}
 use Rattle.numbers.specs.declared.address.Forwarded.{Forwarded}
+use Rattle.requests.specs.Part.{onlyIf}
 use Rattle.requests.specs.Heard.{argumentDepth}
 use Rattle.lists.specs.declared.entry.Entry.{Entry}
 use Rattle.lists.specs.declared.entry.EntryRead.{EntryRead}
@@ -45,7 +46,7 @@ entryOctets e = element 0x30 (fieldsOctets e)
 
 -- whether its number and its address are such as a table holds: then it reads back
 unfoldable pub entryGood : Entry → Bool
-entryGood e = pick (numberGood (e .served)) (addressGood (e .address)) false
+entryGood e = all (numberGood (e .served) ∷ addressGood (e .address) ∷ [])
 
 -- the same entry with zeros where its record carries no meaning
 abbrev pub tidyEntry : Entry → Entry
@@ -62,13 +63,13 @@ fieldDepth = entryDepth - 1
 
 -- an address that a table can hold: its number of no other kind, its subaddress not user-specified
 unfoldable pub kept : Forwarded → Bool
-kept to = pick (eqb (to .user) 0) (ltb (to .address .number .form) other) false
+kept to = all (eqb (to .user) 0 ∷ ltb (to .address .number .form) other ∷ [])
 
 -- the address is the last field; "an address no table holds" is none
 unfoldable pub lastField : Number → ℕ → ℕ → List ℕ → ℕ → ℕ → ℕ → Got Entry
 lastField served service procedure s at end next =
     andThen (addressAt fieldDepth s at end) (λ to place.
-    pick (eqb place end) (pick (kept to) (got (entryOf served service procedure (to .address)) next) wrong) wrong)
+    onlyIf (all (eqb place end ∷ kept to ∷ [])) (got (entryOf served service procedure (to .address)) next))
 
 -- service and procedure stand before it
 unfoldable pub codesIn : Number → List ℕ → ℕ → ℕ → ℕ → Got Entry
@@ -83,7 +84,7 @@ fieldsIn s start stop next =
     andThen (numberAt fieldDepth s start stop) (λ served place. codesIn served s place stop next)
 
 abbrev pub entryIn : List ℕ → Head → Got Entry
-entryIn s (head.Is tag start stop next) = pick (eqb tag 0x30) (fieldsIn s start stop next) wrong
+entryIn s (head.Is tag start stop next) = onlyIf (eqb tag 0x30) (fieldsIn s start stop next)
 entryIn s head.Bad = wrong
 
 -- the entry at `at`, of the octets of s before `end`

@@ -15,7 +15,7 @@ use Rattle.numbers.specs.Address.{subAt, addressAt, subOctets, addressOctets, a
 use Rattle.lists.specs.Entries.{entriesOctets, entriesFrom}
 use Rattle.lists.specs.Listed.{listOctets}
 use Rattle.answers.specs.Answer.{answerOctets}
-use Rattle.answers.specs.Reply.{failedAt, setAt, sequenceAt, listAt, resultAt, ownAt, reply, saidAt}
+use Rattle.answers.specs.Reply.{failedAt, setAt, sequenceAt, listAt, resultAt, ownAt, reply, saidAt, sameIdent}
 use Rattle.requests.specs.Heard.{replyTag, operationAt, identifierAt, heard}
 use Rattle.requests.specs.Request.{codeAt, serviceAt, servedAt, privates, lastIn, activationIn, interrogationIn, contentsIn, argumentAt}
 use Rattle.requests.specs.Sent.{servedOctets, toOctets, requestOctets}
@@ -41,7 +41,6 @@ use Rattle.listings.specs.Listing.{decimalIn, decimal, procedureName, kindText,
 use Rattle.nightly.specs.Instances.{instancesOf}
 use Rattle.nightly.specs.Record.{wroteSheet}
 use Rattle.promise.specs.Samples.{Each, samples}
-use Rattle.answers.specs.Part.{sameIdent}
 
 pub each-sample : Each samples
 unfolding fewestFrom wordAt wordOctets spanOf lengthAt headAt lengthHolds lengthWith lengthFewest enumeratedAt half twos bits identHolds identIn identAt identFewest fills groupsIn groupsAt groupsWith groups placeOf serviceCode procedureCode allDigits fair typeGood digitsGood digitsIn numberAt numberOctets subAt addressAt subOctets addressOctets replyTag operationAt identifierAt heard codeAt serviceAt servedAt privates lastIn activationIn interrogationIn contentsIn argumentAt servedOctets toOctets requestOctets answerOctets entriesOctets entriesFrom listOctets sameIdent failedAt setAt sequenceAt listAt resultAt ownAt reply everyTo countTo eachFrom changedFrom gathered numberGood addressGood numberFrom prefixFrom prefixesFrom profileFrom accessRead sameDigits sameNumber same placeIn numbersGood rising servicesGood prefixGood prefixesGood subscriptionsGood usesGood diversionGood profileGood active selected countWith activeOf putIn clearIn entryOfPlace entriesIn cellGood rowGood gridGood isSubscribed servedInvalid notProvided otherKind begins beginsAny selectedSame fits noRoom judge applied numberChosen serviceChosen selects placesOf tableGood notAbove duplicate known invoked question moved resultOf handled stepOf step done reasonOf optionAfter preferenceAfter originalShown callFrom namesGood valuesGood originalGood callGood applying servedOf noticed onward noOnward comes allGroups instanceOctets fieldAt fieldsAt addressFrom instanceFrom instancesOctets sheetOctets before follows runOf instancesFrom sheetIn decimalIn decimal procedureName kindText hexOf hexText subText lineOf headerLine instanceLine instanceLines listing listedSheet refusedLine printedSheet instancesOf wroteSheet saidAt

@@ -8,7 +8,7 @@ use mathlib.Core.Logic.{⊎-elim}
 use native.Mathlib.Omega.{arith}
 use lib.IntN.{pos}
 use lib.ListN.{length}
-use borrow.Author.Tests.{lt-leb, eq-eqb, ne-eqb}
+use borrow.Author.Tests.{lt-ltb, eq-eqb, ne-eqb}
 use Rattle.laws.specs.Got.{got}
 use Rattle.laws.specs.Stands.{Stands}
 use Rattle.laws.proofs.Stands.{stands-left, stands-right}
@@ -50,7 +50,7 @@ pub service-there :
     at + length (enumeratedOctets code) ≤ end → serviceAt depth s at end ≡ codeAt serviceCode depth s at end
 unfolding serviceAt
 service-there depth code s at end st fit =
-    rw (lt-leb end at (omega (arith, length-enumerated code)), element-first enumeratedTag (code ∷ []) s at st)
+    rw (lt-ltb at end (omega (arith, length-enumerated code)), element-first enumeratedTag (code ∷ []) s at st)
 
 -- ---- served numbers
 

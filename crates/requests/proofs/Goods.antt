@@ -2,12 +2,14 @@
 -- Assumes nothing.
 use Prim.Native.Nat.{ℕ}
 use mathlib.Core.Path.{_≡_, refl}
-use mathlib.Core.Bool.{Bool, true, false, false≢true}
+use mathlib.Core.Bool.{Bool, true, false}
+use mathlib.Core.List.{[], _∷_}
 use mathlib.Core.Logic.{_⊎_, inl, inr}
 use lib.Dec.{eqb}
 use borrow.Author.Tests.{eq-eqb, eqb-true, eqb-false}
 use Rattle.laws.specs.Pick.{pick}
-use Rattle.laws.proofs.Picks.{pick-ind, pick-then}
+use Rattle.laws.specs.Tests.{all}
+use Rattle.laws.proofs.Picks.{pick-ind, pick-then, pick-last}
 use Rattle.codes.specs.Codes.{procedureCode, serviceCode}
 use Rattle.numbers.specs.Number.{numberGood}
 use Rattle.numbers.specs.Address.{addressGood}
@@ -24,11 +26,12 @@ pub served-good-is :
     (v : Served) →
     servedGood v ≡ pick (eqb (v .all) 1) true (pick (eqb (v .all) 0) (numberGood (v .number)) false)
 unfolding servedGood
-served-good-is v = refl
+served-good-is v =
+    rw (pick-last (numberGood (v .number)), pick-last (pick (eqb (v .all) 0) (numberGood (v .number)) false))
 
 pub to-good-is : (to : Forwarded) → toGood to ≡ pick (eqb (to .user) 0) (addressGood (to .address)) false
 unfolding toGood
-to-good-is to = refl
+to-good-is to = rw (pick-last (addressGood (to .address)))
 
 module _ (operation : ℕ) (r : Request) where
   pub parts-good-is :
@@ -38,11 +41,11 @@ module _ (operation : ℕ) (r : Request) where
       (pick (eqb operation deactivation) (pick (serviceCode (r .service)) (servedGood (r .served)) false)
       (pick (eqb operation interrogation) (pick (eqb (r .service) 0) (eqb (r .served .all) 1) false) false))
   unfolding partsGood
-  parts-good-is = refl
+  parts-good-is = rw (pick-last (servedGood (r .served)), pick-last (eqb (r .served .all) 1))
 
   pub sendable-is : sendable operation r ≡ pick (procedureCode (r .procedure)) (partsGood operation r) false
   unfolding sendable
-  sendable-is = refl
+  sendable-is = rw (pick-last (partsGood operation r))
 
 -- ---- the parts
 
@@ -56,8 +59,9 @@ unfolding servedGood
 good-served v =
     pick-ind (λ t. t ≡ true → ServedIs v) (eqb (v .all) 1) (λ e _. inl (eqb-true (v .all) 1 e))
     (λ _ k.
-    let p = pick-then (eqb (v .all) 0) (numberGood (v .number)) k in
-    inr (eqb-true (v .all) 0 (p .0), p .1))
+    let one = pick-then (all (eqb (v .all) 0 ∷ numberGood (v .number) ∷ [])) true k .0 in
+    let p = pick-then (eqb (v .all) 0) (all (numberGood (v .number) ∷ [])) one in
+    inr (eqb-true (v .all) 0 (p .0), pick-then (numberGood (v .number)) true (p .1) .0))
 
 -- all numbers are good
 pub all-good : (v : Served) → v .all ≡ 1 → servedGood v ≡ true
@@ -73,8 +77,8 @@ pub record GoodTo (to : Forwarded) : Type 0 where
 pub good-to : (to : Forwarded) → toGood to ≡ true → GoodTo to
 unfolding toGood
 good-to to h =
-    let p = pick-then (eqb (to .user) 0) (addressGood (to .address)) h in
-    record { user = eqb-true (to .user) 0 (p .0); address = p .1 }
+    let p = pick-then (eqb (to .user) 0) (all (addressGood (to .address) ∷ [])) h in
+    record { user = eqb-true (to .user) 0 (p .0); address = pick-then (addressGood (to .address)) true (p .1) .0 }
 
 -- ---- requests
 
@@ -101,44 +105,43 @@ good-parts operation r code =
     let P : Bool → Type 0 = λ t. t ≡ true → GoodRequest operation r in
     pick-ind P (eqb operation activation)
     (λ e k.
-    let p = pick-then (serviceCode (r .service)) (pick (toGood (r .to)) (servedGood (r .served)) false) k in
-    let q = pick-then (toGood (r .to)) (servedGood (r .served)) (p .1) in
+    let p = pick-then (serviceCode (r .service)) (all (toGood (r .to) ∷ servedGood (r .served) ∷ [])) k in
+    let q = pick-then (toGood (r .to)) (all (servedGood (r .served) ∷ [])) (p .1) in
     record {
       procedure = code;
       service = p .0;
       to = λ _. q .0;
-      served = q .1;
+      served = pick-then (servedGood (r .served)) true (q .1) .0;
       asked = activates (eqb-true operation activation e);
     })
     (λ other.
     let fits : ToFits operation (r .to) = λ e. absurd (eqb-false operation activation other e) in
     pick-ind P (eqb operation deactivation)
     (λ e k.
-    let p = pick-then (serviceCode (r .service)) (servedGood (r .served)) k in
+    let p = pick-then (serviceCode (r .service)) (all (servedGood (r .served) ∷ [])) k in
     record {
       procedure = code;
       service = p .0;
       to = fits;
-      served = p .1;
+      served = pick-then (servedGood (r .served)) true (p .1) .0;
       asked = deactivates (eqb-true operation deactivation e);
     })
-    (λ _. pick-ind P (eqb operation interrogation)
-    (λ e k.
-    let p = pick-then (eqb (r .service) 0) (eqb (r .served .all) 1) k in
+    (λ _ k.
+    let o = pick-then (eqb operation interrogation) (all (eqb (r .service) 0 ∷ eqb (r .served .all) 1 ∷ [])) k in
+    let p = pick-then (eqb (r .service) 0) (all (eqb (r .served .all) 1 ∷ [])) (o .1) in
     let zero : r .service ≡ 0 = eqb-true (r .service) 0 (p .0) in
-    let every : r .served .all ≡ 1 = eqb-true (r .served .all) 1 (p .1) in
+    let every : r .served .all ≡ 1 = eqb-true (r .served .all) 1 (pick-then (eqb (r .served .all) 1) true (p .1) .0) in
     record {
       procedure = code;
       service = rw zero service-all;
       to = fits;
       served = all-good (r .served) every;
-      asked = interrogates (eqb-true operation interrogation e) zero every;
-    })
-    (λ _ k. absurd (false≢true k))))
+      asked = interrogates (eqb-true operation interrogation (o .0)) zero every;
+    }))
 
 -- all that is asked of a request that may be sent
 pub good-request : (operation : ℕ) (r : Request) → sendable operation r ≡ true → GoodRequest operation r
 unfolding sendable
 good-request operation r h =
-    let p = pick-then (procedureCode (r .procedure)) (partsGood operation r) h in
-    good-parts operation r (p .0) (p .1)
+    let p = pick-then (procedureCode (r .procedure)) (all (partsGood operation r ∷ [])) h in
+    good-parts operation r (p .0) (pick-then (partsGood operation r) true (p .1) .0)

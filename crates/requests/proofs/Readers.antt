@@ -14,15 +14,13 @@ use mir.Facts.{toZ-ofZ}
 use borrow.Author.Tests.{ltb-true}
 use Rattle.laws.specs.Got.{Got, got, wrong}
 use Rattle.laws.proofs.Picks.{pick-ind}
-use Rattle.octets.specs.Head.{headAt}
 use Rattle.skip.specs.Skip.{afterSkip, skipDepth}
 use Rattle.values.specs.declared.enumerated.Enumerated.{Enumerated}
 use Rattle.values.specs.declared.enumerated.Enumerated.the-variants as enumerated
 use Rattle.values.proofs.Signs.{positive}
 use Rattle.skip.proofs.Skips.{Further, further, fills-past, fills-step}
 use Rattle.numbers.specs.Number.{valueOf}
-use Rattle.requests.specs.Heard.{insideDepth}
-use Rattle.requests.specs.Request.{servedRead, privateAt, privates, argumentOf, localAt, argumentAt}
+use Rattle.requests.specs.Request.{servedRead, privateAt, privates, argumentIn, localAt, argumentAt}
 use Rattle.requests.specs.declared.heard.Operation.{Operation}
 use Rattle.requests.specs.declared.request.Served.{Served}
 use Rattle.requests.specs.declared.request.ServedRead.{ServedRead}
@@ -87,6 +85,6 @@ module _ (operation : Operation) (fits : SFits w16 (operation .value)) (s : List
   -- any other is its own number
   pub argument-local :
       ltZ (toZ w16 (ofZ w16 (operation .value))) (pos 0) ≡ false →
-      argumentAt operation s at end ≡ argumentOf (mag (operation .value)) s end (headAt insideDepth s at end)
+      argumentAt operation s at end ≡ argumentIn (mag (operation .value)) s at end
   unfolding argumentAt
   argument-local e = ap (localAt s at end) (positive (operation .value) (rw (toZ-ofZ fits) at e))

@@ -2,27 +2,26 @@
 use Prim.Native.Nat.{ℕ, _<_}
 use mathlib.Core.Path.{_≡_, sym, ap, _∙_}
 use mathlib.Core.Bool.{Bool, true}
-use mathlib.Core.List.{List}
+use mathlib.Core.List.{List, [], _∷_}
 use lib.IntN.{ℤ, pos, negsuc}
 use lib.ListN.{getD}
 use lib.Signed.{mag}
-use lib.Dec.{leb, eqb}
+use lib.Dec.{ltb, eqb}
 use borrow.Author.Tests.{eqb-false, ltb-true}
+use Rattle.laws.specs.Tests.{all}
 use Rattle.laws.specs.Got.{Got, got}
 use Rattle.laws.proofs.Gots.{Something, found-then, found-is}
 use Rattle.laws.proofs.Picks.{pick-ind}
 use Rattle.values.specs.Enumerated.{enumeratedTag, enumeratedAt}
-use Rattle.octets.specs.Head.{headAt}
-use Rattle.octets.specs.declared.head.Head.{Head}
-use Rattle.octets.specs.declared.head.Head.the-variants as head
 use Rattle.codes.specs.Codes.{procedureCode, serviceCode}
 use Rattle.numbers.specs.Number.{valueOf}
 use Rattle.numbers.specs.Address.{addressAt}
 use Rattle.numbers.specs.declared.address.Forwarded.{Forwarded}
 use Rattle.numbers.proofs.Goods.{ToUnless, address-read}
 use Rattle.codes.proofs.Tables.{procedure-code, service-all}
+use Rattle.requests.specs.Part.{lastAt, tagIs}
 use Rattle.requests.specs.Heard.{argumentDepth, insideDepth}
-use Rattle.requests.specs.Request.{activation, deactivation, interrogation, codeAt, serviceAt, servedAt, noForwarded, privates, lastIn, activationIn, deactivationIn, interrogationIn, contentsIn, argumentOf, localAt, argumentAt}
+use Rattle.requests.specs.Request.{activation, deactivation, interrogation, codeAt, serviceAt, servedAt, noForwarded, privates, lastIn, activationIn, deactivationIn, interrogationIn, contentsIn, argumentIn, localAt, argumentAt}
 use Rattle.requests.specs.declared.heard.Operation.{Operation}
 use Rattle.requests.specs.declared.request.Request.{Request}
 
@@ -47,9 +46,8 @@ code-read good depth s at end =
 service-read : (depth : ℕ) (s : List ℕ) (at end : ℕ) → Something (In serviceCode) (serviceAt depth s at end)
 unfolding serviceAt
 service-read depth s at end =
-    let P : Got ℕ → Type 0 = Something (In serviceCode) in
-    pick-ind P (leb end at) (λ _. service-all) (λ _.
-    pick-ind P (eqb (getD s at 0) enumeratedTag) (λ _. code-read serviceCode depth s at end) (λ _. service-all))
+    pick-ind (Something (In serviceCode)) (all (ltb at end ∷ eqb (getD s at 0) enumeratedTag ∷ []))
+    (λ _. code-read serviceCode depth s at end) (λ _. service-all)
 
 -- ---- requests
 
@@ -115,17 +113,14 @@ contents-read operation s at end =
     pick-ind P (eqb operation deactivation) (λ _. deactivation-read (pos operation) s not at end) (λ _.
     pick-ind P (eqb operation interrogation) (λ _. interrogation-read (pos operation) s not at end) (λ _. tt)))
 
-argument-of-read :
-    (operation : ℕ) (s : List ℕ) (end : ℕ) (h : Head) → Something (ReadRequest (pos operation)) (argumentOf operation s end h)
-argument-of-read operation s end (head.Is tag start stop next) =
-    let P : Got Request → Type 0 = Something (ReadRequest (pos operation)) in
-    pick-ind P (eqb tag 0x30)
-    (λ _. pick-ind P (eqb next end) (λ _. contents-read operation s start stop) (λ _. tt))
-    (λ _. tt)
-argument-of-read operation s end head.Bad = tt
+argument-in-read :
+    (operation : ℕ) (s : List ℕ) (at end : ℕ) → Something (ReadRequest (pos operation)) (argumentIn operation s at end)
+argument-in-read operation s at end =
+    found-then (ReadRequest (pos operation)) (lastAt (tagIs 0x30) insideDepth s at end) _
+    (λ argument next _. contents-read operation s (argument .start) (argument .stop))
 
 local-read : (s : List ℕ) (at end : ℕ) (operation : ℤ) → Something (ReadRequest operation) (localAt s at end operation)
-local-read s at end (pos operation) = argument-of-read operation s end (headAt insideDepth s at end)
+local-read s at end (pos operation) = argument-in-read operation s at end
 local-read s at end (negsuc n) = tt
 
 -- what is known of a request that was read

@@ -1,12 +1,13 @@
 -- What an arriving component says, down to where its argument stands (document 01, "Replies, in the order checked").
 use Prim.Native.Nat.{ℕ, _+_}
 use mathlib.Core.Path.{_≡_}
-use mathlib.Core.Bool.{Bool, true}
+use mathlib.Core.Bool.{Bool}
 use mathlib.Core.List.{List, [], _∷_}
 use lib.IntN.{ℤ, pos}
 use lib.ListN.{length}
 use lib.Dec.{eqb}
 use Rattle.laws.specs.Pick.{pick}
+use Rattle.laws.specs.Tests.{any}
 use Rattle.octets.specs.Head.{headAt}
 use Rattle.values.specs.Ident.{identAt}
 use Rattle.skip.specs.Skip.{skipDepth}
@@ -31,7 +32,7 @@ componentDepth = 1 + insideDepth
 
 -- "outer tag A2, A3, A4"
 unfoldable pub replyTag : ℕ → Bool
-replyTag tag = pick (eqb tag 0xA2) true (pick (eqb tag 0xA3) true (eqb tag 0xA4))
+replyTag tag = any (eqb tag 0xA2 ∷ eqb tag 0xA3 ∷ eqb tag 0xA4 ∷ [])
 
 -- an operation is a local value
 abbrev pub local : ℤ → Operation

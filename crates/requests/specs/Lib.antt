@@ -1,3 +1,4 @@
+pub mod Part
 pub mod Heard
 pub mod Request
 pub mod Sent

@@ -2,11 +2,12 @@
 use Prim.Native.Nat.{ℕ, _-_, _/_}
 use mathlib.Core.Path.{_≡_}
 use mathlib.Core.Bool.{Bool, true, false}
-use mathlib.Core.List.{List, []}
+use mathlib.Core.List.{List, [], _∷_}
 use lib.IntN.{ℤ, pos, negsuc}
 use lib.ListN.{getD}
-use lib.Dec.{leb, eqb}
+use lib.Dec.{ltb, eqb}
 use Rattle.laws.specs.Pick.{pick}
+use Rattle.laws.specs.Tests.{all}
 use Rattle.laws.specs.Got.{Got, got, wrong, andThen}
 use Rattle.octets.specs.Head.{headAt}
 use Rattle.values.specs.Enumerated.{enumeratedTag, enumeratedAt}
@@ -20,6 +21,7 @@ use Rattle.numbers.specs.Number.{valueOf, numberOf, numberAt}
 use Rattle.numbers.specs.Address.{subOf, forwardedOf, addressAt}
 use Rattle.numbers.specs.declared.number.Number.{Number}
 use Rattle.numbers.specs.declared.address.Forwarded.{Forwarded}
+use Rattle.requests.specs.Part.{onlyIf, lastAt, tagIs}
 use Rattle.requests.specs.Heard.{argumentDepth, insideDepth}
 use Rattle.requests.specs.declared.request.Served.{Served}
 use Rattle.requests.specs.declared.request.ServedRead.{ServedRead}
@@ -40,13 +42,12 @@ interrogation = 11
 -- an enumerated code that `good` lets in
 unfoldable pub codeAt : (ℕ → Bool) → ℕ → List ℕ → ℕ → ℕ → Got ℕ
 codeAt good depth s at end =
-    andThen (valueOf (enumeratedAt depth s at end)) (λ code place. pick (good code) (got code place) wrong)
+    andThen (valueOf (enumeratedAt depth s at end)) (λ code place. onlyIf (good code) (got code place))
 
 -- "Interrogation may omit the basic service, meaning 0": it is there if the next tag is that of an enumerated value
 unfoldable pub serviceAt : ℕ → List ℕ → ℕ → ℕ → Got ℕ
 serviceAt depth s at end =
-    pick (leb end at) (got 0 at)
-    (pick (eqb (getD s at 0) enumeratedTag) (codeAt serviceCode depth s at end) (got 0 at))
+    pick (all (ltb at end ∷ eqb (getD s at 0) enumeratedTag ∷ [])) (codeAt serviceCode depth s at end) (got 0 at)
 
 -- a served user number: one of its own, or NULL, all of them
 abbrev pub individual : Number → Served
@@ -57,7 +58,7 @@ allNumbers = record { all = 1; number = numberOf 0 0 [] }
 
 abbrev pub servedIn : ℕ → List ℕ → ℕ → ℕ → Head → Got Served
 servedIn depth s at end (head.Is tag start stop next) =
-    pick (eqb tag 0x05) (pick (eqb start stop) (got allNumbers next) wrong)
+    pick (eqb tag 0x05) (onlyIf (eqb start stop) (got allNumbers next))
     (andThen (numberAt depth s at end) (λ number place. got (individual number) place))
 servedIn depth s at end head.Bad = wrong
 
@@ -86,7 +87,7 @@ requestOf procedure service to served = record { procedure = procedure; service 
 unfoldable pub lastIn : ℕ → ℕ → Forwarded → List ℕ → ℕ → ℕ → Got Request
 lastIn procedure service to s at end =
     andThen (servedAt argumentDepth s at end)
-    (λ served place. pick (privates s place end) (got (requestOf procedure service to served) end) wrong)
+    (λ served place. onlyIf (privates s place end) (got (requestOf procedure service to served) end))
 
 -- "procedure, basicService, forwardedToAddress, servedUserNr"
 unfoldable pub activationIn : List ℕ → ℕ → ℕ → Got Request
@@ -112,16 +113,16 @@ unfoldable pub contentsIn : ℕ → List ℕ → ℕ → ℕ → Got Request
 contentsIn operation s at end =
     pick (eqb operation activation) (activationIn s at end)
     (pick (eqb operation deactivation) (deactivationIn s at end)
-    (pick (eqb operation interrogation) (interrogationIn s at end) wrong))
+    (onlyIf (eqb operation interrogation) (interrogationIn s at end)))
 
 -- "argument not one last element as in clause 7.1"
-abbrev pub argumentOf : ℕ → List ℕ → ℕ → Head → Got Request
-argumentOf operation s end (head.Is tag start stop next) =
-    pick (eqb tag 0x30) (pick (eqb next end) (contentsIn operation s start stop) wrong) wrong
-argumentOf operation s end head.Bad = wrong
+abbrev pub argumentIn : ℕ → List ℕ → ℕ → ℕ → Got Request
+argumentIn operation s at end =
+    andThen (lastAt (tagIs 0x30) insideDepth s at end)
+    (λ argument next. contentsIn operation s (argument .start) (argument .stop))
 
 abbrev pub localAt : List ℕ → ℕ → ℕ → ℤ → Got Request
-localAt s at end (pos operation) = argumentOf operation s end (headAt insideDepth s at end)
+localAt s at end (pos operation) = argumentIn operation s at end
 localAt s at end (negsuc n) = wrong
 
 -- the request that stands at `at`, of the octets of s before `end`, by the operation that was heard

@@ -2,11 +2,12 @@
 -- "Reading a component"; refusal 10 says which requests those are).
 use Prim.Native.Nat.{ℕ}
 use mathlib.Core.Path.{_≡_}
-use mathlib.Core.Bool.{Bool, true, false}
-use mathlib.Core.List.{List, [], _++_}
+use mathlib.Core.Bool.{Bool, true}
+use mathlib.Core.List.{List, [], _∷_, _++_}
 use lib.IntN.{ℤ, pos}
 use lib.Dec.{eqb}
 use Rattle.laws.specs.Pick.{pick}
+use Rattle.laws.specs.Tests.{all, any}
 use Rattle.octets.specs.Element.{element}
 use Rattle.values.specs.Enumerated.{enumeratedOctets}
 use Rattle.values.specs.Ident.{identOctets}
@@ -20,23 +21,22 @@ use Rattle.requests.specs.declared.request.Request.{Request}
 
 -- a served user number that the end may name
 unfoldable pub servedGood : Served → Bool
-servedGood served = pick (eqb (served .all) 1) true (pick (eqb (served .all) 0) (numberGood (served .number)) false)
+servedGood served = any (eqb (served .all) 1 ∷ all (eqb (served .all) 0 ∷ numberGood (served .number) ∷ []) ∷ [])
 
 -- a forwarded-to address that a table holds: no user-specified subaddress
 unfoldable pub toGood : Forwarded → Bool
-toGood to = pick (eqb (to .user) 0) (addressGood (to .address)) false
+toGood to = all (eqb (to .user) 0 ∷ addressGood (to .address) ∷ [])
 
 -- service and numbers, by the operation: "The end interrogates only all services and all numbers"
 unfoldable pub partsGood : ℕ → Request → Bool
 partsGood operation r =
-    pick (eqb operation activation)
-    (pick (serviceCode (r .service)) (pick (toGood (r .to)) (servedGood (r .served)) false) false)
-    (pick (eqb operation deactivation) (pick (serviceCode (r .service)) (servedGood (r .served)) false)
-    (pick (eqb operation interrogation) (pick (eqb (r .service) 0) (eqb (r .served .all) 1) false) false))
+    pick (eqb operation activation) (all (serviceCode (r .service) ∷ toGood (r .to) ∷ servedGood (r .served) ∷ []))
+    (pick (eqb operation deactivation) (all (serviceCode (r .service) ∷ servedGood (r .served) ∷ []))
+    (all (eqb operation interrogation ∷ eqb (r .service) 0 ∷ eqb (r .served .all) 1 ∷ [])))
 
 -- whether the end may send the request: procedure and service are codes of document 01, numbers and subaddress such as a table holds
 unfoldable pub sendable : ℕ → Request → Bool
-sendable operation r = pick (procedureCode (r .procedure)) (partsGood operation r) false
+sendable operation r = all (procedureCode (r .procedure) ∷ partsGood operation r ∷ [])
 
 unfoldable pub servedOctets : Served → List ℕ
 servedOctets served = pick (eqb (served .all) 1) (element 0x05 []) (numberOctets (served .number))

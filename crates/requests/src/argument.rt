@@ -286,10 +286,10 @@ pub fn argument_at(s: &[u8], at: usize, end: usize, operation: Operation) -> Req
             stop,
             next,
         } => {
-            if tag != 0x30 {
+            if next != end {
                 return no_request();
             }
-            if next != end {
+            if tag != 0x30 {
                 return no_request();
             }
             contents_in(number, s, start, stop)

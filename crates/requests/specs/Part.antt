@@ -1,8 +1,8 @@
--- The parts of a reply, each as what a reader finds: an identifier or an operation's value, and an element that is the last one.
+-- The parts of a component, each as what a reader finds: an identifier or an operation's value, and an element that is the last one.
 use Prim.Native.Nat.{ℕ}
-use mathlib.Core.Bool.{Bool, false}
+use mathlib.Core.Bool.{Bool}
 use mathlib.Core.List.{List, [], _∷_}
-use lib.IntN.{ℤ, pos, negsuc}
+use lib.IntN.{ℤ}
 use lib.Dec.{eqb}
 use Rattle.laws.specs.Pick.{pick}
 use Rattle.laws.specs.Tests.{all}
@@ -22,13 +22,6 @@ orElse otherwise wrong = otherwise
 -- what is found, where the test passes
 abbrev pub onlyIf : {A : Type 0} → Bool → Got A → Got A
 onlyIf passed g = pick passed g wrong
-
--- whether two identifiers are the same
-unfoldable pub sameIdent : ℤ → ℤ → Bool
-sameIdent (pos a) (pos b) = eqb a b
-sameIdent (pos a) (negsuc b) = false
-sameIdent (negsuc a) (pos b) = false
-sameIdent (negsuc a) (negsuc b) = eqb a b
 
 abbrev pub signedOf : Ident → Got ℤ
 signedOf (ident.Is value next) = got value next
