@@ -7,18 +7,27 @@ use native.Mathlib.Numerals.{add-one}
 use native.Mathlib.Omega.{arith}
 use lib.ListN.{length, take, drop, getD, length-take, drop-of-length-le}
 use lib.Seq.{drop-cons, getD-take, slice, slice-cons, slice-empty, take-all}
-use lib.Dec.{ltb, eqb}
-use borrow.Author.Tests.{eq-eqb, le-ltb, ltb-true, ltb-false, eqb-true}
+use lib.Dec.{ltb, leb, eqb}
+use borrow.Author.Tests.{eq-eqb, le-leb, ltb-true, leb-true, eqb-true}
 use Rattle.laws.specs.Pick.{pick}
+use Rattle.laws.specs.Tests.{all}
 use Rattle.laws.specs.Places.{everyTo}
-use Rattle.laws.proofs.Picks.{pick-ind, pick-then, pick-else}
+use Rattle.laws.proofs.Picks.{pick-ind, pick-then, pick-last}
 use Rattle.laws.proofs.Walks.{every-at}
 use Rattle.codes.specs.Codes.{serviceCode}
 use Rattle.numbers.specs.Number.{most, digitsOf, numberGood, tidyNumber}
 use Rattle.numbers.specs.declared.number.Number.{Number}
-use Rattle.profile.specs.Profile.{numbersMost, servicesMost, prefixesMost, servedNumbers, subscribedServices, sameDigits, sameNumber, same, placeIn, noNumber, numbersGood, noPrefix, prefixGood, rising, servicesGood, flag, subscriptionsGood, usesGood, diversionGood, prefixesGood, profileGood}
+use Rattle.profile.specs.Profile.{numbersMost, servicesMost, prefixesMost, servedNumbers, subscribedServices, sameDigits, sameNumber, same, placeIn, noNumber, numbersGood, noPrefix, prefixGood, rising, servicesGood, flag, subscriptionsGood, prefixesGood, profileRules, profileGood}
 use Rattle.profile.specs.declared.profile.Prefix.{Prefix}
 use Rattle.profile.specs.declared.profile.Profile.{Profile}
+
+-- ---- tests that must all pass
+
+-- where all of them pass, the one at a place does
+pub all-at : (bs : List Bool) (k : ℕ) → all bs ≡ true → getD bs k true ≡ true
+all-at [] k h = refl
+all-at (b ∷ bs) zero h = pick-then b (all bs) h .0
+all-at (b ∷ bs) (suc k) h = all-at bs k (pick-then b (all bs) h .1)
 
 -- ---- the digits of two numbers
 
@@ -28,7 +37,7 @@ pub same-step :
     sameDigits (slice i n a) (slice i n b)
     ≡ pick (eqb (getD a i 0) (getD b i 0)) (sameDigits (slice (i + 1) n a) (slice (i + 1) n b)) false
 unfolding sameDigits
-same-step a b n i h la lb = rw (slice-cons i n a 0 h la, slice-cons i n b 0 h lb, add-one)
+same-step a b n i h la lb = rw (slice-cons i n a 0 h la, slice-cons i n b 0 h lb, add-one, pick-last)
 
 -- nothing is left
 pub same-end : (a b : List ℕ) (n : ℕ) → sameDigits (slice n n a) (slice n n b) ≡ true
@@ -58,12 +67,13 @@ same-left a b form kind count =
       eq-eqb (a .kind) (b .kind) kind,
       eq-eqb (a .count) (b .count) count,
       ← count,
+      pick-last,
     )
 
 digits-refl : (a : List ℕ) → sameDigits a a ≡ true
 unfolding sameDigits
 digits-refl [] = refl
-digits-refl (x ∷ xs) = rw (eq-eqb x x refl) (digits-refl xs)
+digits-refl (x ∷ xs) = rw (eq-eqb x x refl, digits-refl xs)
 
 digits-same : (a b : List ℕ) → sameDigits a b ≡ true → a ≡ b
 unfolding sameDigits
@@ -71,29 +81,32 @@ digits-same [] [] h = refl
 digits-same [] (y ∷ ys) h = absurd (false≢true h)
 digits-same (x ∷ xs) [] h = absurd (false≢true h)
 digits-same (x ∷ xs) (y ∷ ys) h =
-    let p = pick-then (eqb x y) (sameDigits xs ys) h in
-    rw (eqb-true x y (p .0), digits-same xs ys (p .1))
+    let each = all-at (eqb x y ∷ sameDigits xs ys ∷ []) in
+    rw (eqb-true x y (each 0 h), digits-same xs ys (each 1 h))
 
 -- a number is the same as itself
 pub same-refl : (a : Number) → sameNumber a a ≡ true
 unfolding sameNumber
 same-refl a =
-    rw (eq-eqb (a .form) (a .form) refl, eq-eqb (a .kind) (a .kind) refl, eq-eqb (a .count) (a .count) refl)
-    (digits-refl (digitsOf a))
+    rw (
+      eq-eqb (a .form) (a .form) refl,
+      eq-eqb (a .kind) (a .kind) refl,
+      eq-eqb (a .count) (a .count) refl,
+      digits-refl (digitsOf a),
+    )
 
 -- numbers that are the same differ at most past their digits
 pub same-tidy : (a b : Number) → sameNumber a b ≡ true → tidyNumber a ≡ tidyNumber b
 unfolding sameNumber
 same-tidy a b h =
     let digits : Bool = sameDigits (digitsOf a) (digitsOf b) in
-    let counts : Bool = pick (eqb (a .count) (b .count)) digits false in
-    let p = pick-then (eqb (a .form) (b .form)) (pick (eqb (a .kind) (b .kind)) counts false) h in
-    let q = pick-then (eqb (a .kind) (b .kind)) counts (p .1) in
-    let r = pick-then (eqb (a .count) (b .count)) digits (q .1) in
+    let form : Bool = eqb (a .form) (b .form) in
+    let kind : Bool = eqb (a .kind) (b .kind) in
+    let each = all-at (form ∷ kind ∷ eqb (a .count) (b .count) ∷ digits ∷ []) in
     rw (
-      eqb-true (a .form) (b .form) (p .0),
-      eqb-true (a .kind) (b .kind) (q .0),
-      digits-same (digitsOf a) (digitsOf b) (r .1),
+      eqb-true (a .form) (b .form) (each 0 h),
+      eqb-true (a .kind) (b .kind) (each 1 h),
+      digits-same (digitsOf a) (digitsOf b) (each 3 h),
     )
 
 -- an access takes for the same what is the same
@@ -158,9 +171,10 @@ module _ (p : Profile) (n : Number) (count : ℕ) (numbers : List Number) where
 -- whether the number at a place is one that a table holds and the first of its kind
 abbrev pub numberFits : Profile → ℕ → List Number → ℕ → Bool
 numberFits p count numbers k =
-    pick (numberGood (getD numbers k noNumber))
-    (eqb (placeIn p (getD numbers k noNumber) (take count numbers)) k)
-    false
+    all
+    (numberGood (getD numbers k noNumber)
+    ∷ eqb (placeIn p (getD numbers k noNumber) (take count numbers)) k
+    ∷ [])
 
 abbrev pub numbersFit : Profile → ℕ → Bool
 numbersFit p = everyTo (numberFits p (p .numbercount) (p .numbers))
@@ -172,19 +186,19 @@ pub numbers-fair :
     (p : Profile) → 1 ≤ p .numbercount → p .numbercount ≤ numbersMost →
     numbersGood p ≡ numbersFit p (p .numbercount)
 unfolding numbersGood
-numbers-fair p some few = rw (le-ltb (p .numbercount) 1 some, le-ltb numbersMost (p .numbercount) few)
+numbers-fair p some few = rw (le-leb 1 (p .numbercount) some, le-leb (p .numbercount) numbersMost few, pick-last)
 
 pub services-fair :
     (p : Profile) → 1 ≤ p .servicecount → p .servicecount ≤ servicesMost →
     servicesGood p ≡ rising 0 (subscribedServices p)
 unfolding servicesGood
-services-fair p some few = rw (le-ltb (p .servicecount) 1 some, le-ltb servicesMost (p .servicecount) few)
+services-fair p some few = rw (le-leb 1 (p .servicecount) some, le-leb (p .servicecount) servicesMost few, pick-last)
 
 pub prefixes-fair :
     (p : Profile) → p .prefixcount ≤ prefixesMost →
     prefixesGood p ≡ everyTo (prefixFits (p .prefixes)) (p .prefixcount)
 unfolding prefixesGood
-prefixes-fair p few = rw (le-ltb prefixesMost (p .prefixcount) few)
+prefixes-fair p few = rw (le-leb (p .prefixcount) prefixesMost few, pick-last)
 
 -- ---- services that ascend
 
@@ -196,24 +210,34 @@ pub rising-step :
     (pick (serviceCode (getD l k 0)) (rising (getD l k 0) (slice (k + 1) n l)) false)
     false
 unfolding rising
-rising-step below l n k h long = rw (slice-cons k n l 0 h long, add-one)
+rising-step below l n k h long = rw (slice-cons k n l 0 h long, add-one, pick-last)
 
 -- nothing is left
 pub rising-end : (below : ℕ) (l : List ℕ) (n : ℕ) → rising below (slice n n l) ≡ true
 unfolding rising
 rising-end below l n = rw (slice-empty n l)
 
+-- the first of several: it is above `below`, one of the sixteen, and the others rise above it
+pub record First (below code : ℕ) (codes : List ℕ) : Type 0 where
+  pub above : below < code
+  pub known : serviceCode code ≡ true
+  pub rest : rising code codes ≡ true
+
+pub rising-first :
+    (below code : ℕ) (codes : List ℕ) → rising below (code ∷ codes) ≡ true → First below code codes
+unfolding rising
+rising-first below code codes h =
+    let each = all-at (ltb below code ∷ serviceCode code ∷ rising code codes ∷ []) in
+    record { above = ltb-true below code (each 0 h); known = each 1 h; rest = each 2 h }
+
 -- each service is above `below`
 pub rising-above :
     (below : ℕ) (cs : List ℕ) (k : ℕ) → rising below cs ≡ true → k < length cs → below < getD cs k 0
-unfolding rising
 rising-above below [] k h lt = absurd (omega arith)
-rising-above below (c ∷ cs) zero h lt =
-    ltb-true below c (pick-then (ltb below c) (pick (serviceCode c) (rising c cs) false) h .0)
+rising-above below (c ∷ cs) zero h lt = rising-first below c cs h .above
 rising-above below (c ∷ cs) (suc k) h lt =
-    let p = pick-then (ltb below c) (pick (serviceCode c) (rising c cs) false) h in
-    let rest = pick-then (serviceCode c) (rising c cs) (p .1) .1 in
-    omega (arith, ltb-true below c (p .0), rising-above c cs k rest (omega arith))
+    let first = rising-first below c cs h in
+    omega (arith, first .above, rising-above c cs k (first .rest) (omega arith))
 
 -- ---- what a good profile gives
 
@@ -223,10 +247,8 @@ numbers-each :
 unfolding numbersGood
 numbers-each p h =
     let n : ℕ = p .numbercount in
-    let each : Bool = numbersFit p n in
-    let a = pick-else (ltb n 1) (pick (ltb numbersMost n) false each) h in
-    let b = pick-else (ltb numbersMost n) each (a .1) in
-    (ltb-false n 1 (a .0), ltb-false numbersMost n (b .0), b .1)
+    let each = all-at (leb 1 n ∷ leb n numbersMost ∷ numbersFit p n ∷ []) in
+    (leb-true 1 n (each 0 h), leb-true n numbersMost (each 1 h), each 2 h)
 
 services-rise :
     (p : Profile) → servicesGood p ≡ true →
@@ -234,10 +256,8 @@ services-rise :
 unfolding servicesGood
 services-rise p h =
     let n : ℕ = p .servicecount in
-    let rises : Bool = rising 0 (subscribedServices p) in
-    let a = pick-else (ltb n 1) (pick (ltb servicesMost n) false rises) h in
-    let b = pick-else (ltb servicesMost n) rises (a .1) in
-    (ltb-false n 1 (a .0), ltb-false servicesMost n (b .0), b .1)
+    let each = all-at (leb 1 n ∷ leb n servicesMost ∷ rising 0 (subscribedServices p) ∷ []) in
+    (leb-true 1 n (each 0 h), leb-true n servicesMost (each 1 h), each 2 h)
 
 -- what holds of cfu, cfb and cfnr holds of every procedure
 three : (P : ℕ → Type 0) → P 0 → P 1 → P 2 → (k : ℕ) → k < 3 → P k
@@ -247,15 +267,23 @@ three P a b c (suc (suc zero)) h = c
 three P a b c (suc (suc (suc k))) h = absurd (omega arith)
 
 subscriptions-each :
-    (p : Profile) → subscriptionsGood p ≡ true → (k : ℕ) → k < 3 → getD (p .subscribed) k 0 < 2
+    (p : Profile) → subscriptionsGood p ≡ true → (k : ℕ) → k < 3 → getD (p .subscribed) k 0 ≤ 1
 unfolding subscriptionsGood
 subscriptions-each p h =
     let cfu : ℕ = getD (p .subscribed) 0 0 in
     let cfb : ℕ = getD (p .subscribed) 1 0 in
     let cfnr : ℕ = getD (p .subscribed) 2 0 in
-    let a = pick-then (flag cfu) (pick (flag cfb) (flag cfnr) false) h in
-    let b = pick-then (flag cfb) (flag cfnr) (a .1) in
-    three (λ k. getD (p .subscribed) k 0 < 2) (ltb-true cfu 2 (a .0)) (ltb-true cfb 2 (b .0)) (ltb-true cfnr 2 (b .1))
+    let each = all-at (flag cfu ∷ flag cfb ∷ flag cfnr ∷ []) in
+    three (λ k. getD (p .subscribed) k 0 ≤ 1)
+    (leb-true cfu 1 (each 0 h))
+    (leb-true cfb 1 (each 1 h))
+    (leb-true cfnr 1 (each 2 h))
+
+-- a rule of a good profile, by its place in the list of them
+pub rule-at :
+    (p : Profile) (k : ℕ) → profileGood p ≡ true → getD (profileRules p) k true ≡ true
+unfolding profileGood
+rule-at p = all-at (profileRules p)
 
 -- a good profile: its numbers, its services and its subscriptions
 pub record GoodProfile (p : Profile) : Type 0 where
@@ -265,27 +293,21 @@ pub record GoodProfile (p : Profile) : Type 0 where
   pub services-some : 1 ≤ p .servicecount
   pub services-few : p .servicecount ≤ servicesMost
   pub rises : rising 0 (subscribedServices p) ≡ true
-  pub flags : (k : ℕ) → k < 3 → getD (p .subscribed) k 0 < 2
+  pub flags : (k : ℕ) → k < 3 → getD (p .subscribed) k 0 ≤ 1
 
 pub good-profile : (p : Profile) → profileGood p ≡ true → GoodProfile p
-unfolding profileGood
 good-profile p h =
-    let diversions : Bool = pick (diversionGood p) (prefixesGood p) false in
-    let uses : Bool = pick (usesGood p) diversions false in
-    let rest : Bool = pick (subscriptionsGood p) uses false in
-    let q = pick-then (numbersGood p) (pick (servicesGood p) rest false) h in
-    let o = pick-then (servicesGood p) rest (q .1) in
-    let n = numbers-each p (q .0) in
-    let s = services-rise p (o .0) in
+    let n = numbers-each p (rule-at p 0 h) in
+    let s = services-rise p (rule-at p 1 h) in
     record {
       some = n .0;
       few = n .1;
-      numbers = λ k lt. pick-then
-          (numberGood (getD (p .numbers) k noNumber))
-          (eqb (placeIn p (getD (p .numbers) k noNumber) (servedNumbers p)) k)
-          (every-at (numberFits p (p .numbercount) (p .numbers)) (p .numbercount) k lt (n .2)) .0;
+      numbers = λ k lt.
+          let number : Number = getD (p .numbers) k noNumber in
+          all-at (numberGood number ∷ eqb (placeIn p number (servedNumbers p)) k ∷ []) 0
+          (every-at (numberFits p (p .numbercount) (p .numbers)) (p .numbercount) k lt (n .2));
       services-some = s .0;
       services-few = s .1;
       rises = s .2;
-      flags = subscriptions-each p (pick-then (subscriptionsGood p) uses (o .1) .0);
+      flags = subscriptions-each p (rule-at p 2 h);
     }

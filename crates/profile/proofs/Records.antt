@@ -1,7 +1,7 @@
 -- Laws of the access record's reader, over plain values. Assumes nothing.
 use Prim.Native.Nat.{ℕ, _+_, _*_, _-_, _≤_, _<_}
 use mathlib.Core.Path.{_≡_, refl, sym, _∙_}
-use mathlib.Core.Bool.{true, false≢true}
+use mathlib.Core.Bool.{Bool, true, false≢true}
 use mathlib.Core.List.{List, [], _∷_}
 use native.Mathlib.Nat.{add-assoc}
 use native.Mathlib.Omega.{arith}
@@ -11,6 +11,7 @@ use lib.Seq.{take-length, slice, length-slice}
 use borrow.Author.Tests.{eqb-true}
 use Rattle.laws.specs.Over.{Puts, over}
 use Rattle.laws.specs.Places.{eachFrom}
+use Rattle.laws.specs.Tests.{all}
 use Rattle.laws.proofs.Each.{spelled, each-spelled, each-set, each-done, slice-each}
 use Rattle.laws.proofs.Picks.{pick-ind}
 use Rattle.laws.proofs.Over.{wrote, take-over, length-over}
@@ -18,10 +19,11 @@ use Rattle.laws.proofs.Parts.{part-slice}
 use Rattle.numbers.specs.Number.{most}
 use Rattle.numbers.specs.declared.number.Number.{Number}
 use Rattle.profile.specs.Profile.{servicesMost, prefixesMost, profileGood}
-use Rattle.profile.specs.Access.{numbersAt, numberSize, servicesAt, subscribedAt, flagsAt, prefixesAt, prefixSize, accessSize, numberFrom, prefixFrom, prefixesFrom, profileFrom, accessRead}
+use Rattle.profile.specs.Access.{numbersAt, numberSize, servicesAt, subscribedAt, flagsAt, prefixesAt, prefixSize, accessSize, numberFrom, prefixFrom, prefixesFrom, profileFrom, noAccess, accessRead}
 use Rattle.profile.specs.declared.profile.Prefix.{Prefix}
 use Rattle.profile.specs.declared.profile.Profile.{Profile}
 use Rattle.profile.specs.declared.access.AccessRead.{AccessRead}
+use Rattle.profile.proofs.Profiles.{all-at}
 
 -- ---- digits
 
@@ -122,32 +124,34 @@ profile-made s a b c d prefixes long first second third fourth rest =
 
 -- ---- what is read
 
+-- what holds of no record, and of a profile that breaks no rule in a record of the right size, holds of what is read
+access-ind :
+    (s : List ℕ) (P : AccessRead → Type 0) → P noAccess →
+    (length s ≡ accessSize → profileGood (profileFrom s) ≡ true → P (record { ok = true; profile = profileFrom s })) →
+    P (accessRead s)
+unfolding accessRead
+access-ind s P none good =
+    let size : Bool = eqb (length s) accessSize in
+    let fair : Bool = profileGood (profileFrom s) in
+    pick-ind P (all (size ∷ fair ∷ []))
+    (λ h. let each = all-at (size ∷ fair ∷ []) in good (eqb-true (length s) accessSize (each 0 h)) (each 1 h))
+    (λ _. none)
+
 -- a profile that was read breaks no rule
 pub access-good : (s : List ℕ) → accessRead s .ok ≡ true → profileGood (accessRead s .profile) ≡ true
-unfolding accessRead
 access-good s =
-    let P : AccessRead → Type 0 = λ r. r .ok ≡ true → profileGood (r .profile) ≡ true in
-    pick-ind P (eqb (length s) accessSize)
-    (λ _. pick-ind P (profileGood (profileFrom s)) (λ good _. good) (λ _ h. absurd (false≢true h)))
-    (λ _ h. absurd (false≢true h))
+    access-ind s (λ r. r .ok ≡ true → profileGood (r .profile) ≡ true)
+    (λ h. absurd (false≢true h))
+    (λ _ good _. good)
 
 -- and its record has the record's size
 pub access-size : (s : List ℕ) → accessRead s .ok ≡ true → length s ≡ accessSize
-unfolding accessRead
 access-size s =
-    pick-ind (λ (r : AccessRead). r .ok ≡ true → length s ≡ accessSize) (eqb (length s) accessSize)
-    (λ e _. eqb-true (length s) accessSize e)
-    (λ _ h. absurd (false≢true h))
+    access-ind s (λ r. r .ok ≡ true → length s ≡ accessSize) (λ h. absurd (false≢true h)) (λ long _ _. long)
 
 -- its array of services has all its places
 pub access-services : (s : List ℕ) → length (accessRead s .profile .services) ≡ servicesMost
-unfolding accessRead profileFrom
+unfolding profileFrom
 access-services s =
-    let P : AccessRead → Type 0 = λ r. length (r .profile .services) ≡ servicesMost in
-    pick-ind P (eqb (length s) accessSize)
-    (λ e.
-    let long : length s ≡ accessSize = eqb-true (length s) accessSize e in
-    pick-ind P (profileGood (profileFrom s))
-    (λ _. omega (arith, length-slice servicesAt (servicesAt + servicesMost) s (omega arith)))
-    (λ _. refl))
-    (λ _. refl)
+    access-ind s (λ r. length (r .profile .services) ≡ servicesMost) refl
+    (λ long _. omega (arith, length-slice servicesAt (servicesAt + servicesMost) s (omega arith)))

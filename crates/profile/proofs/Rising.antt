@@ -2,7 +2,7 @@
 -- place. Assumes nothing.
 use Prim.Native.Nat.{ℕ, zero, suc, _<_}
 use mathlib.Core.Path.{_≡_, refl}
-use mathlib.Core.Bool.{Bool, true, false}
+use mathlib.Core.Bool.{Bool, true}
 use mathlib.Core.List.{List, [], _∷_}
 use mathlib.Core.Logic.{⊎-elim}
 use native.Mathlib.Nat.{eq-or-lt-of-le}
@@ -10,29 +10,19 @@ use native.Mathlib.Omega.{arith}
 use lib.ListN.{length, getD}
 use lib.Dec.{ltb}
 use borrow.Author.Tests.{ltb-true, ltb-false}
-use Rattle.laws.specs.Pick.{pick}
-use Rattle.laws.proofs.Picks.{pick-ind, pick-then}
+use Rattle.laws.proofs.Picks.{pick-ind}
 use Rattle.codes.specs.Codes.{placeOf, serviceCode}
 use Rattle.codes.proofs.Tables.{place-first, place-stands}
 use Rattle.profile.specs.Profile.{rising}
-use Rattle.profile.proofs.Profiles.{rising-above}
-
--- the first service, and that the others rise above it
-rising-parts :
-    (below code : ℕ) (codes : List ℕ) → rising below (code ∷ codes) ≡ true →
-    (serviceCode code ≡ true) × (rising code codes ≡ true)
-unfolding rising
-rising-parts below code codes h =
-    pick-then (serviceCode code) (rising code codes)
-    (pick-then (ltb below code) (pick (serviceCode code) (rising code codes) false) h .1)
+use Rattle.profile.proofs.Profiles.{rising-first, rising-above}
 
 pub rising-code :
     (below : ℕ) (codes : List ℕ) (k : ℕ) → rising below codes ≡ true → k < length codes →
     serviceCode (getD codes k 0) ≡ true
 rising-code below [] k h lt = absurd (omega arith)
-rising-code below (code ∷ codes) zero h lt = rising-parts below code codes h .0
+rising-code below (code ∷ codes) zero h lt = rising-first below code codes h .known
 rising-code below (code ∷ codes) (suc k) h lt =
-    rising-code code codes k (rising-parts below code codes h .1) (omega arith)
+    rising-code code codes k (rising-first below code codes h .rest) (omega arith)
 
 pub rising-later :
     (below : ℕ) (codes : List ℕ) (i k : ℕ) → rising below codes ≡ true → i < k → k < length codes →
@@ -40,9 +30,9 @@ pub rising-later :
 rising-later below [] i k h less lt = absurd (omega arith)
 rising-later below (code ∷ codes) i zero h less lt = absurd (omega arith)
 rising-later below (code ∷ codes) zero (suc k) h less lt =
-    rising-above code codes k (rising-parts below code codes h .1) (omega arith)
+    rising-above code codes k (rising-first below code codes h .rest) (omega arith)
 rising-later below (code ∷ codes) (suc i) (suc k) h less lt =
-    rising-later code codes i k (rising-parts below code codes h .1) (omega arith) (omega arith)
+    rising-later code codes i k (rising-first below code codes h .rest) (omega arith) (omega arith)
 
 -- the place of a service that is offered is where it stands
 pub rising-place :

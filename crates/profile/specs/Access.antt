@@ -2,11 +2,12 @@
 use Prim.Native.Nat.{ℕ, _+_, _*_}
 use mathlib.Core.Path.{_≡_}
 use mathlib.Core.Bool.{true, false}
-use mathlib.Core.List.{List, []}
+use mathlib.Core.List.{List, [], _∷_}
 use lib.ListN.{length, getD, replicate}
 use lib.Seq.{slice}
 use lib.Dec.{eqb}
 use Rattle.laws.specs.Pick.{pick}
+use Rattle.laws.specs.Tests.{all}
 use Rattle.laws.specs.Places.{eachFrom}
 use Rattle.numbers.specs.Number.{most, numberOf}
 use Rattle.numbers.specs.declared.number.Number.{Number}
@@ -99,8 +100,8 @@ noAccess = record { ok = false; profile = noProfile }
 -- a record of another size is none, and one whose profile breaks a rule: refusal 3
 unfoldable pub accessRead : List ℕ → AccessRead
 accessRead s =
-    pick (eqb (length s) accessSize)
-    (pick (profileGood (profileFrom s)) (record { ok = true; profile = profileFrom s }) noAccess)
+    pick (all (eqb (length s) accessSize ∷ profileGood (profileFrom s) ∷ []))
+    (record { ok = true; profile = profileFrom s })
     noAccess
 
 -- what `read_access` promises

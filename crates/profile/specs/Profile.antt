@@ -4,8 +4,9 @@ use mathlib.Core.Path.{_≡_}
 use mathlib.Core.Bool.{Bool, true, false}
 use mathlib.Core.List.{List, [], _∷_}
 use lib.ListN.{take, getD}
-use lib.Dec.{ltb, eqb}
+use lib.Dec.{ltb, leb, eqb}
 use Rattle.laws.specs.Pick.{pick}
+use Rattle.laws.specs.Tests.{all, any}
 use Rattle.laws.specs.Places.{everyTo}
 use Rattle.codes.specs.Codes.{placeOf, serviceCode}
 use Rattle.numbers.specs.Number.{digitsOf, numberGood}
@@ -39,16 +40,17 @@ unfoldable pub sameDigits : List ℕ → List ℕ → Bool
 sameDigits [] [] = true
 sameDigits [] (y ∷ ys) = false
 sameDigits (x ∷ xs) [] = false
-sameDigits (x ∷ xs) (y ∷ ys) = pick (eqb x y) (sameDigits xs ys) false
+sameDigits (x ∷ xs) (y ∷ ys) = all (eqb x y ∷ sameDigits xs ys ∷ [])
 
 -- "Two numbers are the same if form, type and digits agree."
 unfoldable pub sameNumber : Number → Number → Bool
 sameNumber a b =
-    pick (eqb (a .form) (b .form))
-    (pick (eqb (a .kind) (b .kind))
-    (pick (eqb (a .count) (b .count)) (sameDigits (digitsOf a) (digitsOf b)) false)
-    false)
-    false
+    all
+    (eqb (a .form) (b .form)
+    ∷ eqb (a .kind) (b .kind)
+    ∷ eqb (a .count) (b .count)
+    ∷ sameDigits (digitsOf a) (digitsOf b)
+    ∷ [])
 
 -- whether an access takes two numbers for the same
 unfoldable pub same : Profile → Number → Number → Bool
@@ -62,28 +64,32 @@ placeIn p n (x ∷ xs) = pick (same p x n) 0 (1 + placeIn p n xs)
 abbrev pub noNumber : Number
 noNumber = record { form = 0; kind = 0; count = 0; digits = [] }
 
--- "all different": each is the first of its kind
+-- "1 to 4 served numbers, all different": each is the first of its kind
 unfoldable pub numbersGood : Profile → Bool
 numbersGood p =
-    pick (ltb (p .numbercount) 1) false
-    (pick (ltb numbersMost (p .numbercount)) false
-    (everyTo
+    all
+    (leb 1 (p .numbercount)
+    ∷ leb (p .numbercount) numbersMost
+    ∷ everyTo
     (λ k.
-    pick (numberGood (getD (p .numbers) k noNumber))
-    (eqb (placeIn p (getD (p .numbers) k noNumber) (servedNumbers p)) k)
-    false)
-    (p .numbercount)))
+    all
+    (numberGood (getD (p .numbers) k noNumber)
+    ∷ eqb (placeIn p (getD (p .numbers) k noNumber) (servedNumbers p)) k
+    ∷ []))
+    (p .numbercount)
+    ∷ [])
 
 -- ---- services
 
 -- "codes ascending", each one of the sixteen and above `below`
 unfoldable pub rising : ℕ → List ℕ → Bool
 rising below [] = true
-rising below (code ∷ codes) = pick (ltb below code) (pick (serviceCode code) (rising code codes) false) false
+rising below (code ∷ codes) = all (ltb below code ∷ serviceCode code ∷ rising code codes ∷ [])
 
+-- "1 to 6 subscribed basic services, codes ascending"
 unfoldable pub servicesGood : Profile → Bool
 servicesGood p =
-    pick (ltb (p .servicecount) 1) false (pick (ltb servicesMost (p .servicecount)) false (rising 0 (subscribedServices p)))
+    all (leb 1 (p .servicecount) ∷ leb (p .servicecount) servicesMost ∷ rising 0 (subscribedServices p) ∷ [])
 
 -- ---- prefixes
 
@@ -96,46 +102,51 @@ noPrefix = record { count = 0; digits = [] }
 
 unfoldable pub prefixesGood : Profile → Bool
 prefixesGood p =
-    pick (ltb prefixesMost (p .prefixcount)) false
-    (everyTo (λ k. prefixGood (getD (p .prefixes) k noPrefix)) (p .prefixcount))
+    all
+    (leb (p .prefixcount) prefixesMost
+    ∷ everyTo (λ k. prefixGood (getD (p .prefixes) k noPrefix)) (p .prefixcount)
+    ∷ [])
 
 -- ---- the rest
 
 -- "yes or no"
 abbrev pub flag : ℕ → Bool
-flag x = ltb x 2
+flag x = leb x 1
 
 -- "three subscribed flags (cfu, cfb, cfnr)"
 unfoldable pub subscriptionsGood : Profile → Bool
 subscriptionsGood p =
-    pick (flag (getD (p .subscribed) 0 0))
-    (pick (flag (getD (p .subscribed) 1 0)) (flag (getD (p .subscribed) 2 0)) false)
-    false
+    all (flag (getD (p .subscribed) 0 0) ∷ flag (getD (p .subscribed) 1 0) ∷ flag (getD (p .subscribed) 2 0) ∷ [])
 
 -- "MSN yes or no (no needs exactly one number); 'all numbers' option yes or no; in use yes or no; counted end yes or no"
 unfoldable pub usesGood : Profile → Bool
 usesGood p =
-    pick (flag (p .all))
-    (pick (flag (p .inuse))
-    (pick (flag (p .counted)) (pick (eqb (p .msn) 0) (eqb (p .numbercount) 1) (eqb (p .msn) 1)) false)
-    false)
-    false
+    all
+    (flag (p .all)
+    ∷ flag (p .inuse)
+    ∷ flag (p .counted)
+    ∷ flag (p .msn)
+    ∷ any (eqb (p .msn) 1 ∷ eqb (p .numbercount) 1 ∷ [])
+    ∷ [])
 
 -- "notification option 0 to 2; release own number yes or no; diversion limit 1 to 5"
 unfoldable pub diversionGood : Profile → Bool
 diversionGood p =
-    pick (ltb (p .option) 3)
-    (pick (flag (p .release)) (pick (ltb (p .limit) 1) false (ltb (p .limit) 6)) false)
-    false
+    all (leb (p .option) 2 ∷ flag (p .release) ∷ leb 1 (p .limit) ∷ leb (p .limit) 5 ∷ [])
+
+abbrev pub profileRules : Profile → List Bool
+profileRules p =
+    numbersGood p
+    ∷ servicesGood p
+    ∷ subscriptionsGood p
+    ∷ usesGood p
+    ∷ diversionGood p
+    ∷ prefixesGood p
+    ∷ []
 
 -- whether a profile breaks no rule
 unfoldable pub profileGood : Profile → Bool
-profileGood p =
-    pick (numbersGood p)
-    (pick (servicesGood p)
-    (pick (subscriptionsGood p) (pick (usesGood p) (pick (diversionGood p) (prefixesGood p) false) false) false)
-    false)
-    false
+profileGood p = all (profileRules p)
 
 -- what `same_number` promises
 abbrev pub SameNumber : Number → Number → Bool → Type 0

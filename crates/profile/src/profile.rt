@@ -233,7 +233,7 @@ fn subscriptions_good(p: Profile) -> bool
     if 1 < subscribed[1] {
         return false;
     }
-    subscribed[2] < 2
+    subscribed[2] <= 1
 }
 
 fn uses_good(p: Profile) -> bool
@@ -248,10 +248,13 @@ fn uses_good(p: Profile) -> bool
     if 1 < p.counted {
         return false;
     }
-    if p.msn == 0 {
-        return p.numbercount == 1;
+    if 1 < p.msn {
+        return false;
     }
-    p.msn == 1
+    if p.msn == 1 {
+        return true;
+    }
+    p.numbercount == 1
 }
 
 fn diversion_good(p: Profile) -> bool
@@ -266,7 +269,7 @@ fn diversion_good(p: Profile) -> bool
     if p.limit < 1 {
         return false;
     }
-    p.limit < 6
+    p.limit <= 5
 }
 
 // Whether a profile breaks no rule.

@@ -1,3 +1,4 @@
+use Rattle.laws.proofs.Cases.{cases}
 use Rattle.profile.proofs.Profiles.{numberFits, numbersFit, numbers-fair}
 use Rattle.profile.proofs.Firsts.{first-here, later-not}
 use Rattle.profile.specs.Profile.{numbersMost, numbersGood}
@@ -5,7 +6,7 @@ use Rattle.profile.specs.declared.profile.Profile.{Profile}
 use Rattle.laws.specs.Places.{everyTo}
 use Rattle.laws.proofs.Parts.{unmapped}
 use Rattle.laws.proofs.Walks.{every-none, every-more, every-fails}
-use borrow.Author.Tests.{lt-ltb, le-ltb, eq-eqb, ne-eqb, not-true, not-false}
+use borrow.Author.Tests.{eq-eqb, ne-eqb, not-true, not-false}
 use borrow.Author.Needs.{needs}
 use native.Mathlib.Omega.{arith}
 use lib.ListN.{length}
@@ -27,11 +28,11 @@ cast-count c = search needs
 
 returns : tie.Need-returns Inv-loop μ-loop
 unfolding numbersGood
-returns c = rw (lt-ltb _ _ (c .if1 .taken))
+returns c = search cases
 
 returns-2 : tie.Need-returns-2 Inv-loop μ-loop
 unfolding numbersGood
-returns-2 c = rw (le-ltb _ 1 (c .before .if1 .left), lt-ltb _ _ (c .if2 .taken))
+returns-2 c = search cases
 
 loop-holds : tie.Need-loop-holds Inv-loop μ-loop
 loop-holds c =

@@ -1,8 +1,9 @@
+use Rattle.laws.proofs.Cases.{cases}
 use Rattle.profile.proofs.Profiles.{prefixFits, prefixes-fair}
 use Rattle.profile.specs.Profile.{prefixesGood}
 use Rattle.laws.specs.Places.{everyTo}
 use Rattle.laws.proofs.Walks.{every-none, every-more, every-fails}
-use borrow.Author.Tests.{lt-ltb, not-true, not-false}
+use borrow.Author.Tests.{not-true, not-false}
 use borrow.Author.Needs.{needs}
 use native.Mathlib.Omega.{arith}
 use Prim.Native.Nat.{_-_, _≤_}
@@ -25,7 +26,7 @@ returns c = let s = c .before .before .args .p in let e : s .prefixcount ≡ 0 =
 
 returns-2 : tie.Need-returns-2 Inv-loop μ-loop
 unfolding prefixesGood
-returns-2 c = rw (lt-ltb _ _ (c .if2 .taken))
+returns-2 c = search cases
 
 loop-holds : tie.Need-loop-holds Inv-loop μ-loop
 loop-holds c = (omega arith, every-none (prefixFits (c .before .before .before .before .args .p .prefixes)))

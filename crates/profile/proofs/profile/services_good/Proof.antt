@@ -1,3 +1,4 @@
+use Rattle.laws.proofs.Cases.{cases}
 use Rattle.profile.proofs.Profiles.{services-fair, rising-step, rising-end}
 use Rattle.profile.specs.Profile.{servicesMost, rising, servicesGood}
 use borrow.Author.Tests.{lt-ltb, le-ltb, not-true, not-false}
@@ -22,11 +23,11 @@ cast-count c = search needs
 
 returns : tie.Need-returns Inv-loop μ-loop
 unfolding servicesGood
-returns c = rw (lt-ltb _ _ (c .if1 .taken))
+returns c = search cases
 
 returns-2 : tie.Need-returns-2 Inv-loop μ-loop
 unfolding servicesGood
-returns-2 c = rw (le-ltb _ 1 (c .before .if1 .left), lt-ltb _ _ (c .if2 .taken))
+returns-2 c = search cases
 
 loop-holds : tie.Need-loop-holds Inv-loop μ-loop
 loop-holds c = (omega arith, refl)

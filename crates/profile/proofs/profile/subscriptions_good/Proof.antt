@@ -1,7 +1,6 @@
+use Rattle.laws.proofs.Cases.{cases}
+use Rattle.laws.proofs.Picks.{pick-last}
 use Rattle.profile.specs.Profile.{subscriptionsGood}
-use native.Mathlib.Omega.{arith}
-use lib.ListN.{getD}
-use borrow.Author.Tests.{lt-ltb, le-ltb}
 use borrow.Author.Needs.{needs}
 use Rattle.profile.proofs.profile.subscriptions_good.Statement.{statement}
 use Rattle.profile.proofs.profile.subscriptions_good.Tie as tie
@@ -11,21 +10,21 @@ array-read-if1 c = search needs
 
 returns : tie.Need-returns
 unfolding subscriptionsGood
-returns c = rw (le-ltb _ 2 (c .if1 .taken))
+returns c = search (cases, pick-last)
 
 array-read-if2 : tie.Need-array-read-if2
 array-read-if2 c = search needs
 
 returns-2 : tie.Need-returns-2
 unfolding subscriptionsGood
-returns-2 c = let p = c .before .before .before .args .p in rw (lt-ltb (getD (p .subscribed) 0 0) 2 (omega arith), le-ltb _ 2 (c .if2 .taken))
+returns-2 c = search (cases, pick-last)
 
 array-read-result : tie.Need-array-read-result
 array-read-result c = search needs
 
 returns-3 : tie.Need-returns-3
 unfolding subscriptionsGood
-returns-3 c = let p = c .before .before .before .args .p in rw (lt-ltb (getD (p .subscribed) 0 0) 2 (omega arith), lt-ltb (getD (p .subscribed) 1 0) 2 (omega arith))
+returns-3 c = search (cases, pick-last)
 
 pub subscriptions-good-spec : {M : Type 1} → statement M
 subscriptions-good-spec =
