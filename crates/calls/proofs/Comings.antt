@@ -1,15 +1,16 @@
 -- What comes of a call: its refusals, lowest first, and its instance. Assumes nothing.
 use Prim.Native.Nat.{ℕ, _+_, _-_, _≤_}
 use mathlib.Core.Path.{_≡_, refl, _∙_}
-use mathlib.Core.Bool.{Bool, true, false, false≢true}
+use mathlib.Core.Bool.{Bool, true, false, not, false≢true}
 use mathlib.Core.List.{List, []}
 use mathlib.Core.Option.{Option, none, some}
 use native.Mathlib.Omega.{arith}
 use lib.ListN.{length, take, drop}
 use lib.Dec.{ltb}
-use borrow.Author.Tests.{eq-eqb, ne-eqb}
+use borrow.Author.Tests.{eq-eqb, ne-eqb, not-false}
 use Rattle.laws.proofs.Picks.{pick-ind}
 use Rattle.laws.proofs.Parts.{part-slice}
+use Rattle.refusals.specs.declared.refusal.Refusal.the-variants.{BadProfile, BadTable, BadCall}
 use Rattle.numbers.specs.Number.{most}
 use Rattle.numbers.specs.declared.address.Address.{Address}
 use Rattle.numbers.proofs.Goods.{good-number}
@@ -22,26 +23,25 @@ use Rattle.exchange.specs.Table.{tableGood}
 use Rattle.exchange.specs.declared.table.Table.{Table}
 use Rattle.calls.specs.declared.call.Call.{Call}
 use Rattle.calls.specs.Call.{originalAt, callFrom, callGood}
-use Rattle.calls.specs.Divert.{servedOf, onward, Comes, refused, byInstance, byCall, applying, comes}
+use Rattle.calls.specs.Divert.{servedOf, onward, Comes, callRefused, byInstance, byCall, applying, comes}
 use Rattle.calls.specs.Original.{servedDigitsAt, handedOn, goesOn, originalIn}
-use Rattle.calls.specs.declared.diverting.Refusal.the-variants.{BadProfile, BadTable, BadCall}
 use Rattle.calls.proofs.Records.{good-call}
 
 -- ---- the refusals, lowest first
 
 module _ (access : List ℕ) (t : Table) (s : List ℕ) where
-  pub comes-profile : accessRead access .ok ≡ false → comes access t s ≡ refused BadProfile
+  pub comes-profile : accessRead access .ok ≡ false → comes access t s ≡ callRefused BadProfile
   unfolding comes
   comes-profile bad = rw bad
 
   module _ (ok : accessRead access .ok ≡ true) where
     pub comes-table :
-        tableGood instancesMost (accessRead access .profile) t ≡ false → comes access t s ≡ refused BadTable
+        tableGood instancesMost (accessRead access .profile) t ≡ false → comes access t s ≡ callRefused BadTable
     unfolding comes
     comes-table bad = rw (ok, bad)
 
     module _ (table : tableGood instancesMost (accessRead access .profile) t ≡ true) where
-      pub comes-call : callGood (accessRead access .profile) s ≡ false → comes access t s ≡ refused BadCall
+      pub comes-call : callGood (accessRead access .profile) s ≡ false → comes access t s ≡ callRefused BadCall
       unfolding comes
       comes-call bad = rw (ok, table, bad)
 
@@ -60,9 +60,9 @@ redirects :
 unfolding onward
 redirects p c none h = absurd (false≢true h)
 redirects p c (some called) h =
-    pick-ind (λ (x : Comes). goesOn (x .told) ≡ true → x .call .redirecting ≡ servedOf p c) (ltb (c .counter) (p .limit))
-    (λ _ _. refl)
+    pick-ind (λ (x : Comes). goesOn (x .told) ≡ true → x .call .redirecting ≡ servedOf p c) (not (ltb (c .counter) (p .limit)))
     (λ _ e. absurd (false≢true e))
+    (λ _ _. refl)
     h
 
 -- neither its profile nor its record breaks a rule
@@ -78,17 +78,13 @@ unfolding comes
 goes-good access t s =
     let p : Profile = accessRead access .profile in
     let P : Comes → Type 0 = λ x. goesOn (x .told) ≡ true → GoesOn access s x in
-    pick-ind P (accessRead access .ok)
-    (λ ok. pick-ind P (tableGood instancesMost p t)
-    (λ _. pick-ind P (callGood p s)
-    (λ good h. record {
-      ok = ok;
-      good = good;
+    pick-ind P (not (accessRead access .ok)) (λ _ h. absurd (false≢true h)) (λ ok.
+    pick-ind P (not (tableGood instancesMost p t)) (λ _ h. absurd (false≢true h)) (λ _.
+    pick-ind P (not (callGood p s)) (λ _ h. absurd (false≢true h)) (λ good h. record {
+      ok = not-false _ ok;
+      good = not-false _ good;
       redirecting = redirects p (callFrom s) (applying p (t .grid) (callFrom s)) h;
-    })
-    (λ _ h. absurd (false≢true h)))
-    (λ _ h. absurd (false≢true h)))
-    (λ _ h. absurd (false≢true h))
+    })))
 
 -- the digits of its number stand within the access record
 pub served-within :

@@ -2,7 +2,7 @@ pub mod Records
 pub mod Instances
 pub mod Onwards
 pub mod Comings
-pub mod Outcomes
+pub mod Courses
 pub mod Limits
 pub mod Withheld
 pub mod Reasons

@@ -11,7 +11,7 @@ use Rattle.calls.specs.declared.call.Call.{Call}
 use Rattle.calls.specs.declared.onward.Reason.{Reason}
 use Rattle.calls.specs.Divert.{noticeNo, servedOf, noticed, onward, goes, Becomes}
 use Rattle.calls.specs.declared.diverting.Notice.{Notice}
-use Rattle.calls.specs.declared.diverting.Outcome.the-variants.{Diverts}
+use Rattle.calls.specs.declared.diverting.Coming.the-variants.{Diverts}
 
 -- the parts of a diverted call, as the code finds them one by one
 pub goes-on :

@@ -2,7 +2,7 @@
 -- same notice, counter and reason" (document 01, "Calls"). Assumes nothing.
 use Prim.Native.Nat.{ℕ, _<_}
 use mathlib.Core.Path.{_≡_, refl, sym, _∙_}
-use mathlib.Core.Bool.{Bool, true, false}
+use mathlib.Core.Bool.{Bool, true, false, not}
 use mathlib.Core.List.{List, []}
 use mathlib.Core.Option.{some}
 use native.Mathlib.Omega.{arith}
@@ -28,9 +28,9 @@ pub record SameButDigits (x y : Comes) : Type 0 where
   pub noticed : x .call .noticed ≡ y .call .noticed
 
 -- the same test of both
-alike-both : (b : Bool) (x y z : Comes) → SameButDigits x y → SameButDigits (pick b x z) (pick b y z)
-alike-both true x y z so = so
-alike-both false x y z so = record { told = refl; counter = refl; noticed = refl }
+alike-both : (b : Bool) (x y z : Comes) → SameButDigits x y → SameButDigits (pick b z x) (pick b z y)
+alike-both true x y z so = record { told = refl; counter = refl; noticed = refl }
+alike-both false x y z so = so
 
 -- a notice without number
 noticed-none : (option : ℕ) (called : Address) → option < 2 → noticed option called ≡ numberOf 0 0 []
@@ -50,7 +50,7 @@ module _ (p : Profile) (c : Call) (low : optionAfter p c < 2) where
   pub instances-alike :
       (t u : Table) (a b : Address) → applying p (t .grid) c ≡ some a → applying p (u .grid) c ≡ some b →
       SameButDigits (byCall p t c) (byCall p u c)
-  instances-alike t u a b first second = rw (first, second) (alike-both (ltb (c .counter) (p .limit)) _ _ _ (goes-alike a b))
+  instances-alike t u a b first second = rw (first, second) (alike-both (not (ltb (c .counter) (p .limit))) _ _ _ (goes-alike a b))
 
 -- the same of a call as it comes, for two tables that break no rule
 pub digits-withheld :
@@ -65,5 +65,5 @@ unfolding comes
 digits-withheld access s t u a b low one two first second =
     let p : Profile = accessRead access .profile in
     rw (one, two)
-    (alike-both (accessRead access .ok) _ _ _
-    (alike-both (callGood p s) _ _ _ (instances-alike p (callFrom s) low t u a b first second)))
+    (alike-both (not (accessRead access .ok)) _ _ _
+    (alike-both (not (callGood p s)) _ _ _ (instances-alike p (callFrom s) low t u a b first second)))

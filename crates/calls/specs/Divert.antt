@@ -1,17 +1,22 @@
 -- What becomes of a call: diverted, not diverted or refused (document 01, "Calls"; Q.732.2-5, 2.5.2.5.1.2).
 use Prim.Native.Nat.{ℕ, _+_, _*_}
 use mathlib.Core.Path.{_≡_}
-use mathlib.Core.List.{List, []}
+use mathlib.Core.Bool.{not}
+use mathlib.Core.List.{List, [], _∷_}
 use mathlib.Core.Option.{Option, none, some}
 use lib.ListN.{getD, replicate}
 use lib.Dec.{ltb, leb, eqb}
 use Rattle.laws.specs.Pick.{pick}
+use Rattle.laws.specs.Tests.{test, first}
+use Rattle.refusals.specs.Refusal.{refusalNo, Told, refuses, tells}
+use Rattle.refusals.specs.declared.refusal.Refusal.{Refusal}
+use Rattle.refusals.specs.declared.refusal.Refusal.the-variants.{BadProfile, BadTable, BadCall, LimitReached}
 use Rattle.codes.specs.Codes.{placeOf}
 use Rattle.numbers.specs.Number.{numberOf}
 use Rattle.numbers.specs.declared.number.Number.{Number}
 use Rattle.numbers.specs.declared.address.Address.{Address}
 use Rattle.profile.specs.Access.{accessRead}
-use Rattle.profile.specs.Profile.{servicesMost, subscribedServices as subscribedServices, noNumber}
+use Rattle.profile.specs.Profile.{servicesMost, subscribedServices, noNumber}
 use Rattle.profile.specs.declared.profile.Profile.{Profile}
 use Rattle.lists.specs.Entries.{instancesMost}
 use Rattle.store.specs.Row.{cellAt, active}
@@ -24,10 +29,8 @@ use Rattle.calls.specs.declared.call.Call.{Call}
 use Rattle.calls.specs.Call.{callFrom, callGood}
 use Rattle.calls.specs.declared.diverting.Notice.{Notice}
 use Rattle.calls.specs.declared.diverting.Notice.the-variants as notice
-use Rattle.calls.specs.declared.diverting.Refusal.{Refusal}
-use Rattle.calls.specs.declared.diverting.Refusal.the-variants as refusal
-use Rattle.calls.specs.declared.diverting.Outcome.{Outcome}
-use Rattle.calls.specs.declared.diverting.Outcome.the-variants.{Refuses, Passes, Diverts}
+use Rattle.calls.specs.declared.diverting.Coming.{Coming}
+use Rattle.calls.specs.declared.diverting.Coming.the-variants.{Refuses, Passes, Diverts}
 use Rattle.calls.specs.declared.diverting.Onward.{Onward}
 use Rattle.calls.specs.declared.diverting.Diversion.{Diversion}
 
@@ -39,23 +42,16 @@ noticeNo notice.Silent = 0
 noticeNo notice.Diverting = 1
 noticeNo notice.DivertingTo = 2
 
--- the numbers of "Local refusals"
-abbrev pub refusalNo : Refusal → ℕ
-refusalNo refusal.BadProfile = 3
-refusalNo refusal.BadTable = 4
-refusalNo refusal.BadCall = 5
-refusalNo refusal.LimitReached = 6
+-- what becomes of a call that is not refused: it is not diverted, or the numbers of the reason and of the notice
+pub data Course : Type 0 where
+  passes : Course
+  diverts : (reasonNumber noticeNumber : ℕ) → Course
 
--- what is told, by these numbers: a refusal, that the call is not diverted, or the reason and the notice
-pub data Told : Type 0 where
-  refuses : (number : ℕ) → Told
-  passes : Told
-  diverts : (reasonNumber noticeNumber : ℕ) → Told
-
-abbrev pub toldBy : Outcome → Told
-toldBy (Refuses r) = refuses (refusalNo r)
-toldBy Passes = passes
-toldBy (Diverts r n) = diverts (reasonNo r) (noticeNo n)
+-- what is told of a call
+abbrev pub comingTold : Coming → Told Course
+comingTold (Refuses refusal) = refuses (refusalNo refusal)
+comingTold Passes = tells passes
+comingTold (Diverts reason notice) = tells (diverts (reasonNo reason) (noticeNo notice))
 
 -- ---- which instance applies
 
@@ -107,7 +103,7 @@ onward p c called = record {
 
 -- what comes of a call: what is told, and the call that goes on; nothing of it where none does
 pub record Comes : Type 0 where
-  pub told : Told
+  pub told : Told Course
   pub call : Onward
 
 unfoldable pub noOnward : Onward
@@ -122,20 +118,21 @@ noOnward = record {
   noticed = numberOf 0 0 [];
 }
 
-abbrev pub staysHere : Outcome → Comes
-staysHere outcome = record { told = toldBy outcome; call = noOnward }
+abbrev pub noneGoes : Told Course → Comes
+noneGoes told = record { told = told; call = noOnward }
 
-abbrev pub refused : Refusal → Comes
-refused r = staysHere (Refuses r)
+abbrev pub callRefused : Refusal → Comes
+callRefused refusal = noneGoes (refuses (refusalNo refusal))
 
 -- the reason, and the notice whose number is the resulting option
 abbrev pub goes : Profile → Call → Address → Comes
-goes p c called = record { told = diverts (reasonOf (c .event)) (optionAfter p c); call = onward p c called }
+goes p c called = record { told = tells (diverts (reasonOf (c .event)) (optionAfter p c)); call = onward p c called }
 
 -- "No instance .. : not diverted, whatever the counter. An instance and counter not below the limit: refusal 6."
 abbrev pub byInstance : Profile → Call → Option Address → Comes
-byInstance p c none = staysHere Passes
-byInstance p c (some called) = pick (ltb (c .counter) (p .limit)) (goes p c called) (refused refusal.LimitReached)
+byInstance p c none = noneGoes (tells passes)
+byInstance p c (some called) =
+    first (test (not (ltb (c .counter) (p .limit))) LimitReached ∷ []) callRefused (goes p c called)
 
 abbrev pub byCall : Profile → Table → Call → Comes
 byCall p t c = byInstance p c (applying p (t .grid) c)
@@ -143,15 +140,17 @@ byCall p t c = byInstance p c (applying p (t .grid) c)
 -- "Lowest number first, 6 last"
 unfoldable pub comes : List ℕ → Table → List ℕ → Comes
 comes access t s =
-    pick (accessRead access .ok)
-    (pick (tableGood instancesMost (accessRead access .profile) t)
-    (pick (callGood (accessRead access .profile) s) (byCall (accessRead access .profile) t (callFrom s)) (refused refusal.BadCall))
-    (refused refusal.BadTable))
-    (refused refusal.BadProfile)
+    first
+    (test (not (accessRead access .ok)) BadProfile
+    ∷ test (not (tableGood instancesMost (accessRead access .profile) t)) BadTable
+    ∷ test (not (callGood (accessRead access .profile) s)) BadCall
+    ∷ [])
+    callRefused
+    (byCall (accessRead access .profile) t (callFrom s))
 
 -- what the functions promise: what is told by its numbers, and all of the call that goes on
 pub record Becomes (x : Comes) (d : Diversion) : Type 0 where
-  pub told : toldBy (d .outcome) ≡ x .told
+  pub told : comingTold (d .outcome) ≡ x .told
   pub call : d .call ≡ x .call
 
 -- what `divert` promises

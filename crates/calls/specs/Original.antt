@@ -6,12 +6,13 @@ use mathlib.Core.List.{List, []}
 use lib.Seq.{slice}
 use lib.Dec.{eqb}
 use Rattle.laws.specs.Pick.{pick}
+use Rattle.refusals.specs.Refusal.{Told, refuses, tells}
 use Rattle.profile.specs.Access.{accessRead, numbersAt, numberSize}
 use Rattle.profile.specs.declared.profile.Profile.{Profile}
 use Rattle.exchange.specs.declared.table.Table.{Table}
 use Rattle.calls.specs.declared.call.Call.{Call}
 use Rattle.calls.specs.Call.{originalAt, callFrom}
-use Rattle.calls.specs.Divert.{Told, refuses, passes, diverts, servedOf, comes}
+use Rattle.calls.specs.Divert.{Course, passes, diverts, servedOf, comes}
 
 -- where the digits of a number stand in the access record: after its form, type and count
 abbrev pub servedDigitsAt : ℕ → ℕ
@@ -24,10 +25,10 @@ handedOn access s p c =
     (slice (servedDigitsAt (c .number)) (servedDigitsAt (c .number) + servedOf p c .count) access)
     (slice originalAt (originalAt + c .count) s)
 
-abbrev pub goesOn : Told → Bool
+abbrev pub goesOn : Told Course → Bool
 goesOn (refuses number) = false
-goesOn passes = false
-goesOn (diverts reasonNumber noticeNumber) = true
+goesOn (tells passes) = false
+goesOn (tells (diverts reasonNumber noticeNumber)) = true
 
 -- no stretch where no call goes on
 unfoldable pub originalIn : List ℕ → Table → List ℕ → List ℕ

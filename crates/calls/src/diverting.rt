@@ -16,13 +16,14 @@ use profile::Profile;
 use profile::SERVICES;
 use profile::read_access;
 use profile::service_slot;
+use refusals::Refusal;
 use store::Grid;
 ghost use mathlib.Core.Path.{_≡_};
 ghost use mathlib.Core.List.{[]};
 ghost use Prim.Native.Nat.{_<_, _≤_};
 ghost use Rattle.numbers.specs.Number.{numberOf};
 ghost use Rattle.profile.specs.Profile.{numbersMost};
-ghost use Rattle.calls.specs.Divert.{noticeNo, procedureOf, noticed, staysHere, refused, goes, applying, byInstance, Becomes, DivertsTo};
+ghost use Rattle.calls.specs.Divert.{noticeNo, comingTold, procedureOf, noticed, noneGoes, callRefused, goes, applying, byInstance, Becomes, DivertsTo};
 
 // What the caller is told: nothing, that the call is diverting, or to which number too.
 pub enum Notice {
@@ -31,15 +32,8 @@ pub enum Notice {
     DivertingTo,
 }
 
-// Why a call is not looked at, or goes no further.
-pub enum Refusal {
-    BadProfile,
-    BadTable,
-    BadCall,
-    LimitReached,
-}
-
-pub enum Outcome {
+// What comes of a call: it is refused, it is not diverted, or it is.
+pub enum Coming {
     Refuses { refusal: Refusal },
     Passes,
     Diverts { reason: Reason, notice: Notice },
@@ -61,7 +55,7 @@ pub struct Onward {
 
 // What becomes of a call, and the call that goes on where one does.
 pub struct Diversion {
-    pub outcome: Outcome,
+    pub outcome: Coming,
     pub call: Onward,
 }
 
@@ -77,8 +71,8 @@ fn no_number() -> Number
 }
 
 // No call goes on.
-fn stays_here(outcome: Outcome) -> Diversion
-    ensures { λ d. ⌜ Becomes (staysHere outcome) d ⌝ }
+fn stays_here(outcome: Coming) -> Diversion
+    ensures { λ d. ⌜ Becomes (noneGoes (comingTold outcome)) d ⌝ }
 {
     let none = no_number();
     Diversion {
@@ -101,9 +95,9 @@ fn stays_here(outcome: Outcome) -> Diversion
 }
 
 fn refuses(refusal: Refusal) -> Diversion
-    ensures { λ d. ⌜ Becomes (refused refusal) d ⌝ }
+    ensures { λ d. ⌜ Becomes (callRefused refusal) d ⌝ }
 {
-    stays_here(Outcome::Refuses { refusal })
+    stays_here(Coming::Refuses { refusal })
 }
 
 // The procedure that the event looks at.
@@ -154,7 +148,7 @@ fn go_on(p: Profile, c: Call, called: Address) -> Diversion
     let reason = reason_of(c.event);
     let notice = notice_of(option);
     Diversion {
-        outcome: Outcome::Diverts { reason, notice },
+        outcome: Coming::Diverts { reason, notice },
         call: Onward {
             counter: c.counter + 1,
             called,
@@ -174,16 +168,16 @@ fn divert_by(p: Profile, grid: Grid, c: Call) -> Diversion
     ensures { λ d. ⌜ Becomes (byInstance p c (applying p grid c)) d ⌝ }
 {
     if p.inuse == 0 {
-        return stays_here(Outcome::Passes);
+        return stays_here(Coming::Passes);
     }
     let slot = service_slot(p, c.service);
     if p.servicecount as usize <= slot {
-        return stays_here(Outcome::Passes);
+        return stays_here(Coming::Passes);
     }
     let row = grid.rows[procedure_of(c.event)];
     let held = row.held_at(SERVICES * c.number as usize + slot);
     if !held.ok {
-        return stays_here(Outcome::Passes);
+        return stays_here(Coming::Passes);
     }
     if p.limit <= c.counter {
         return refuses(Refusal::LimitReached);

@@ -5,11 +5,10 @@ mod onward;
 mod originals;
 
 pub use call::Call;
+pub use diverting::Coming;
 pub use diverting::Diversion;
 pub use diverting::Notice;
 pub use diverting::Onward;
-pub use diverting::Outcome;
-pub use diverting::Refusal;
 pub use diverting::divert;
 pub use onward::Reason;
 pub use originals::original;

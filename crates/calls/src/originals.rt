@@ -1,25 +1,25 @@
 // The original called number handed on, as it stands in the call's record or the access's (document 01, "Calls").
 use crate::call::ORIGINALAT;
 use crate::call::call_of;
-use crate::diverting::Outcome;
+use crate::diverting::Coming;
 use crate::diverting::divert;
 use exchange::Table;
 use profile::NUMBERSAT;
 use profile::NUMBERSIZE;
 ghost use mathlib.Core.Path.{_≡_};
-ghost use Rattle.calls.specs.Divert.{toldBy};
+ghost use Rattle.calls.specs.Divert.{comingTold};
 ghost use Rattle.calls.specs.Original.{goesOn, OriginalIn};
 
 // Where the digits stand in a number's record: after its form, type and count.
 const DIGITSAT: usize = 3;
 
-fn goes_on(outcome: Outcome) -> bool
-    ensures { λ r. ⌜ r ≡ goesOn (toldBy outcome) ⌝ }
+fn goes_on(outcome: Coming) -> bool
+    ensures { λ r. ⌜ r ≡ goesOn (comingTold outcome) ⌝ }
 {
     match outcome {
-        Outcome::Refuses { refusal: _ } => false,
-        Outcome::Passes => false,
-        Outcome::Diverts {
+        Coming::Refuses { refusal: _ } => false,
+        Coming::Passes => false,
+        Coming::Diverts {
             reason: _,
             notice: _,
         } => true,

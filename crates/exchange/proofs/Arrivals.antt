@@ -11,6 +11,9 @@ use lib.ListN.{length, take}
 use lib.Seq.{take-all, take-append-seam}
 use lib.Dec.{eqb}
 use borrow.Author.Tests.{lt-ltb, le-ltb}
+use Rattle.refusals.specs.Refusal.{tells}
+use Rattle.refusals.specs.declared.refusal.Refusal.{Refusal}
+use Rattle.refusals.specs.declared.refusal.Refusal.the-variants.{ShortOutput, LongComponent, BadProfile, BadTable}
 use Rattle.laws.specs.Over.{over}
 use Rattle.laws.proofs.Over.{over-nil, wrote}
 use Rattle.laws.proofs.Picks.{pick-ind}
@@ -37,12 +40,11 @@ use Rattle.answers.proofs.Fits.{EntriesFit, answer-most}
 use Rattle.exchange.specs.Table.{tableGood, withRow, withLast}
 use Rattle.exchange.specs.Question.{question}
 use Rattle.exchange.specs.Step.{Step, resultOf, verdictOf, handled, stepOf, step, Stepping}
-use Rattle.exchange.specs.Arrive.{toldBy, outputLeast, componentMost, Done, refused, answered, done, refusedBy, Arrives}
+use Rattle.exchange.specs.Arrive.{answeredBy, outputLeast, componentMost, refused, answered, done, Arrives}
+use Rattle.exchange.specs.inner.Refused.{arrivedRefused}
 use Rattle.exchange.specs.declared.table.Table.{Table}
 use Rattle.exchange.specs.declared.step.Stepped.{Stepped}
-use Rattle.exchange.specs.declared.arrive.Refusal.{Refusal}
-use Rattle.exchange.specs.declared.arrive.Refusal.the-variants.{ShortOutput, LongComponent, BadProfile, BadTable}
-use Rattle.exchange.specs.declared.arrive.Outcome.the-variants.{Answers}
+use Rattle.exchange.specs.declared.arrive.Arriving.the-variants.{Answers}
 use Rattle.exchange.specs.declared.arrive.Arrived.{Arrived}
 use Rattle.exchange.proofs.Questions.{question-asks, question-range}
 use Rattle.exchange.proofs.Tables.{table-good}
@@ -80,7 +82,7 @@ module _ (access : List ℕ) (t : Table) (s : List ℕ) (size : ℕ) where
 -- what is refused is handed back, and nothing is written
 pub refused-arrives :
     (access : List ℕ) (t : Table) (s xs : List ℕ) (refusal : Refusal) (r : Arrived) →
-    done access t s (length xs) ≡ refused t refusal → r ≡ refusedBy t refusal →
+    done access t s (length xs) ≡ refused t refusal → r ≡ arrivedRefused t refusal →
     Arrives access t s xs r xs
 refused-arrives access t s xs refusal r is e = record {
   table = rw (is, e);
@@ -156,7 +158,7 @@ answered-arrives access t s xs x procedure d n ys is fits so room put =
     let w = wrote (rw (same, zero-add) (omega arith)) put in
     record {
       table = rw is (so .next);
-      told = rw is (ap (λ (a : Answer). toldBy (Answers a)) (so .answer));
+      told = rw is (ap (λ (a : Answer). tells (answeredBy a)) (so .answer));
       count = rw is (w .moved ∙ zero-add _ ∙ ap length same);
       lent = rw is (w .holds ∙ ap (over xs 0) same);
     }

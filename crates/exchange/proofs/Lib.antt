@@ -3,7 +3,7 @@ pub mod Steps
 pub mod Arrivals
 pub mod Shapes
 pub mod Kept
-pub mod Outcomes
+pub mod Arrivings
 pub mod Nexts
 pub mod Registered
 pub mod Questions

@@ -2,15 +2,20 @@
 -- the order checked", "Local refusals"). Assumes nothing.
 use Prim.Native.Nat.{ℕ, _≤_, _<_}
 use mathlib.Core.Path.{_≡_, refl, sym, ap, _∙_}
-use mathlib.Core.Bool.{true}
+use mathlib.Core.Bool.{true, not}
 use mathlib.Core.List.{List, []}
 use native.Mathlib.Omega.{arith}
 use lib.IntN.{ℤ}
 use lib.Signed.{mag}
 use lib.ListN.{length}
 use lib.Dec.{eqb, ltb}
+use borrow.Author.Tests.{not-false}
 use Rattle.laws.specs.Pick.{pick}
 use Rattle.laws.proofs.Picks.{pick-ind}
+use Rattle.refusals.specs.Refusal.{Told, refuses, tells}
+use Rattle.refusals.specs.declared.refusal.Refusal.{Refusal}
+use Rattle.refusals.specs.declared.refusal.Refusal.the-variants.{ShortOutput, LongComponent, BadProfile, BadTable}
+use Rattle.refusals.proofs.Refusals.{tells-same, refuses-not}
 use Rattle.profile.specs.Access.{accessRead}
 use Rattle.profile.specs.Profile.{servicesMost, profileGood}
 use Rattle.profile.specs.declared.profile.Profile.{Profile}
@@ -34,15 +39,12 @@ use Rattle.exchange.specs.Table.{tableGood}
 use Rattle.exchange.specs.Question.{question}
 use Rattle.exchange.specs.declared.question.Question.{Question}
 use Rattle.exchange.specs.Step.{Step, stays, moved, resultOf, verdictOf, handled, stepOf, step}
-use Rattle.exchange.specs.Arrive.{Told, refuses, answers, outputLeast, componentMost, Done, refused, answered, done}
+use Rattle.exchange.specs.Arrive.{Answered, answeredBy, outputLeast, componentMost, Done, refused, answered, done}
 use Rattle.exchange.specs.declared.table.Table.{Table}
-use Rattle.exchange.specs.declared.arrive.Refusal.{Refusal}
-use Rattle.exchange.specs.declared.arrive.Refusal.the-variants.{ShortOutput, LongComponent, BadProfile, BadTable}
 use Rattle.exchange.proofs.Questions.{RequestAsked, AtOnce, silence, reject, question-asks, question-range, question-says}
 use Rattle.exchange.proofs.Arrivals.{step-fits}
 use Rattle.exchange.proofs.Shapes.{Shaped, shaped-row, shaped-moved, cells-applied}
 use Rattle.exchange.proofs.Kept.{changed, handled-good, moved-grid, moved-last}
-use Rattle.exchange.proofs.Outcomes.{kindOf, numberTold, whoseOf}
 
 -- the answers that move the last handled identifier
 pub data Moves (n : ℕ) : Type 0 where
@@ -165,6 +167,13 @@ module _ (p : Profile) (t : Table) (s : List ℕ) where
 
 -- ---- what arrives
 
+-- the number of an answer that is told, and whose it is
+number-told : (a b : Answered) → _≡_ {A = Told Answered} (tells a) (tells b) → a .number ≡ b .number
+number-told a b h = ap (λ (x : Answered). x .number) (tells-same a b h)
+
+whose-told : (a b : Answered) → _≡_ {A = Told Answered} (tells a) (tells b) → a .whose ≡ b .whose
+whose-told a b h = ap (λ (x : Answered). x .whose) (tells-same a b h)
+
 module _ (access : List ℕ) (t : Table) (s : List ℕ) (size : ℕ) where
   abbrev profile : Profile
   profile = accessRead access .profile
@@ -178,9 +187,9 @@ module _ (access : List ℕ) (t : Table) (s : List ℕ) (size : ℕ) where
   done-ind P refuse answer =
       pick-ind P (ltb size outputLeast) (λ _. refuse ShortOutput) (λ _.
       pick-ind P (ltb componentMost (length s)) (λ _. refuse LongComponent) (λ _.
-      pick-ind P (accessRead access .ok)
-      (λ ok. pick-ind P (tableGood instancesMost profile t) (answer ok) (λ _. refuse BadTable))
-      (λ _. refuse BadProfile)))
+      pick-ind P (not (accessRead access .ok)) (λ _. refuse BadProfile) (λ ok.
+      pick-ind P (not (tableGood instancesMost profile t)) (λ _. refuse BadTable) (λ good.
+      answer (not-false _ ok) (not-false _ good)))))
 
   -- a table that breaks no rule breaks none afterwards
   pub done-good :
@@ -198,39 +207,38 @@ module _ (access : List ℕ) (t : Table) (s : List ℕ) (size : ℕ) where
   refusal-nothing n =
       done-ind (λ d. d .told ≡ refuses n → (d .table ≡ t) × (d .octets ≡ []))
       (λ _ _. (refl, refl))
-      (λ _ _ h. absurd (omega (arith, ap kindOf h)))
+      (λ _ _ h. absurd (refuses-not _ _ (sym h)))
 
   -- rejects and silence change nothing
   pub reject-nothing :
-      (n : ℕ) (values : List ℕ) (whose : Whose) → done access t s size .told ≡ answers n values whose →
-      (n ≡ 0xA2 → ⊥) → (n ≡ 0xA3 → ⊥) →
+      (x : Answered) → done access t s size .told ≡ tells x → (x .number ≡ 0xA2 → ⊥) → (x .number ≡ 0xA3 → ⊥) →
       done access t s size .table ≡ t
-  reject-nothing n values whose =
-      done-ind (λ d. d .told ≡ answers n values whose → (n ≡ 0xA2 → ⊥) → (n ≡ 0xA3 → ⊥) → d .table ≡ t)
+  reject-nothing x =
+      done-ind (λ d. d .told ≡ tells x → (x .number ≡ 0xA2 → ⊥) → (x .number ≡ 0xA3 → ⊥) → d .table ≡ t)
       (λ _ _ _ _. refl)
-      (λ _ _ h result error. step-same profile t s (λ e. result (sym (ap numberTold h) ∙ e)) (λ e. error (sym (ap numberTold h) ∙ e)))
+      (λ _ _ h result error. step-same profile t s (λ e. result (sym (number-told _ x h) ∙ e)) (λ e. error (sym (number-told _ x h) ∙ e)))
 
   -- "A refused request alters no registration": no answer but a result does
   pub error-nothing :
-      (n : ℕ) (values : List ℕ) (whose : Whose) → done access t s size .told ≡ answers n values whose → (n ≡ 0xA2 → ⊥) →
+      (x : Answered) → done access t s size .told ≡ tells x → (x .number ≡ 0xA2 → ⊥) →
       done access t s size .table .grid ≡ t .grid
-  error-nothing n values whose =
-      done-ind (λ d. d .told ≡ answers n values whose → (n ≡ 0xA2 → ⊥) → d .table .grid ≡ t .grid)
+  error-nothing x =
+      done-ind (λ d. d .told ≡ tells x → (x .number ≡ 0xA2 → ⊥) → d .table .grid ≡ t .grid)
       (λ _ _ _. refl)
-      (λ _ _ h result. step-grid profile t s (λ e. result (sym (ap numberTold h) ∙ e)))
+      (λ _ _ h result. step-grid profile t s (λ e. result (sym (number-told _ x h) ∙ e)))
 
   -- a result or an error moves the last handled identifier on a counted end, and no other answer does
   pub last-moves :
-      (n : ℕ) (values : List ℕ) (whose : Whose) → done access t s size .told ≡ answers n values whose → Moves n →
-      done access t s size .table .last ≡ pick (eqb (profile .counted) 1) (ownLast whose) (t .last)
-  last-moves n values whose =
+      (x : Answered) → done access t s size .told ≡ tells x → Moves (x .number) →
+      done access t s size .table .last ≡ pick (eqb (profile .counted) 1) (ownLast (x .whose)) (t .last)
+  last-moves x =
       done-ind
       (λ d.
-      d .told ≡ answers n values whose → Moves n →
-      d .table .last ≡ pick (eqb (profile .counted) 1) (ownLast whose) (t .last))
-      (λ _ h. absurd (omega (arith, ap kindOf h)))
+      d .told ≡ tells x → Moves (x .number) →
+      d .table .last ≡ pick (eqb (profile .counted) 1) (ownLast (x .whose)) (t .last))
+      (λ _ h. absurd (refuses-not _ _ h))
       (λ _ _ h moves.
-      rw (ap whoseOf h) at (step-last profile t s (rw (sym (ap numberTold h)) at moves)))
+      rw (whose-told _ x h) at (step-last profile t s (rw (sym (number-told _ x h)) at moves)))
 
   -- every reply fits the least output there may be
   pub reply-fits : length (done access t s size .octets) ≤ outputLeast

@@ -5,25 +5,19 @@ use crate::table::Table;
 use answers::Answer;
 use answers::put_answer;
 use profile::read_access;
+use refusals::Refusal;
 use store::Grid;
 ghost use mathlib.Core.Path.{_≡_};
-ghost use Rattle.exchange.specs.declared.arrive.Outcome.the-variants.{Refuses};
-ghost use Rattle.exchange.specs.Arrive.{refusedBy, Arrives};
+ghost use Rattle.exchange.specs.Arrive.{Arrives};
+ghost use Rattle.exchange.specs.inner.Refused.{arrivedRefused};
 
 // The least output, and the longest component.
 const OUTPUTLEAST: usize = 707;
 
 const COMPONENTMOST: usize = 1024;
 
-// Why a component is not looked at.
-pub enum Refusal {
-    ShortOutput,
-    LongComponent,
-    BadProfile,
-    BadTable,
-}
-
-pub enum Outcome {
+// What comes of an arriving component: it is not looked at, or it is answered.
+pub enum Arriving {
     Refuses { refusal: Refusal },
     Answers { answer: Answer },
 }
@@ -31,16 +25,16 @@ pub enum Outcome {
 // The next table, the answer or the refusal, and how many octets the reply has.
 pub struct Arrived {
     pub table: Table,
-    pub outcome: Outcome,
+    pub outcome: Arriving,
     pub count: usize,
 }
 
 fn refuses(last: u16, grid: Grid, refusal: Refusal) -> Arrived
-    ensures { λ r. ⌜ r ≡ refusedBy (record { last = last; grid = grid }) refusal ⌝ }
+    ensures { λ r. ⌜ r ≡ arrivedRefused (record { last = last; grid = grid }) refusal ⌝ }
 {
     Arrived {
         table: Table { last, grid },
-        outcome: Outcome::Refuses { refusal },
+        outcome: Arriving::Refuses { refusal },
         count: 0,
     }
 }
@@ -80,7 +74,7 @@ impl Table {
                 last: done.last,
                 grid,
             },
-            outcome: Outcome::Answers { answer },
+            outcome: Arriving::Answers { answer },
             count,
         }
     }

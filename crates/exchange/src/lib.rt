@@ -5,8 +5,7 @@ mod step;
 mod table;
 
 pub use arrive::Arrived;
-pub use arrive::Outcome;
-pub use arrive::Refusal;
+pub use arrive::Arriving;
 pub use question::Question;
 pub use question::question_of;
 pub use table::Table;

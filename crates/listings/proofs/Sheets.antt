@@ -13,22 +13,22 @@ use Rattle.laws.specs.Over.{Wrote, Puts}
 use Rattle.laws.proofs.Over.{wrote, wrote-length, length-over, over-nil, then}
 use Rattle.laws.proofs.Gots.{found-is}
 use Rattle.laws.proofs.Picks.{pick-ind}
+use Rattle.refusals.specs.declared.refusal.Refusal.the-variants.{ShortOutput, BadSheet}
 use Rattle.forms.specs.Form.{form1}
 use Rattle.forms.specs.declared.instance.Instance.{Instance}
 use Rattle.sheet.specs.Sheet.{Sheet, instancesFrom, noInstance, sheetIn}
 use Rattle.sheet.specs.Formed.{formedBy, Holds, OpeningOf}
-use Rattle.sheet.specs.Outcome.{notWritten}
+use Rattle.sheet.specs.Handling.{notWritten}
 use Rattle.sheet.specs.declared.form.Opening.{Opening}
-use Rattle.sheet.specs.declared.record.Refusal.the-variants.{ShortOutput, BadSheet}
-use Rattle.sheet.specs.declared.record.Outcome.the-variants.{Done}
+use Rattle.sheet.specs.declared.record.Handling.the-variants.{Done}
 use Rattle.sheet.specs.declared.record.Written.{Written}
 use Rattle.sheet.proofs.Bounds.{AllBounded}
 use Rattle.sheet.proofs.Formed.{Formed, formed-parts, opened-instances, opened-holds, opened-last, opened-count}
 use Rattle.sheet.proofs.Counts.{formed-count, formed-few, formed-last, formed-bounded}
 use Rattle.sheet.proofs.SheetTrips.{countOf}
 use Rattle.sheet.proofs.AcceptedSheets.{Allowed, sheet-allowed}
-use Rattle.listings.specs.Listing.{procedureName, lineOf, headerLine, instanceLines, headerMost, linesMost, listing, listingMost, listedSheet, ListsSheet, refusedLine, printedAs, printedSheet, PrintsSheet}
-use Rattle.listings.specs.Write.{linesFound, listingFound}
+use Rattle.listings.specs.Listing.{procedureName, lineOf, headerLine, instanceLines, headerMost, linesMost, listing, listingMost, listingIn, listedSheet, ListsSheet, refusedLine, printedAs, printedSheet, PrintsSheet}
+use Rattle.listings.specs.Write.{linesFound}
 use Rattle.listings.proofs.Words.{decimal-one}
 use Rattle.listings.proofs.Lines.{header-most}
 use Rattle.listings.proofs.Lengths.{lines-most, more-most}
@@ -72,7 +72,7 @@ module _ (s : List ℕ) (ok : formedBy (sheetIn form1 s) .ok ≡ true) where
   few = found-is Allowed (formed .whole) (sheet-allowed s) .1 .few
 
   -- every listing fits in 1,811 octets
-  pub listing-fits : length (listingFound (sheetIn form1 s)) ≤ listingMost form1
+  pub listing-fits : length (listingIn (sheetIn form1 s)) ≤ listingMost form1
   listing-fits =
       rw (formed .whole)
       (omega (
@@ -89,7 +89,7 @@ module _ (s : List ℕ) (ok : formedBy (sheetIn form1 s) .ok ≡ true) where
     abbrev lines : List ℕ
     lines = linesFound (instancesFrom form1 (r .count) noInstance 0 s (r .next))
 
-    parts-long : length (headerLine 1 (r .last) (r .count)) + length lines ≡ length (listingFound (sheetIn form1 s))
+    parts-long : length (headerLine 1 (r .last) (r .count)) + length lines ≡ length (listingIn (sheetIn form1 s))
     parts-long =
         rw (opened-instances form1 s formed r told, opened-last form1 s formed r told, count-is, formed .whole, listing-parts sheet)
         (sym (length-append (headerLine 1 (formed .opened .last) (length (formed .instances))) (instanceLines (formed .instances))))
@@ -105,7 +105,7 @@ module _ (s : List ℕ) (ok : formedBy (sheetIn form1 s) .ok ≡ true) where
       lines-room = omega (arith, header .moved, parts-long, listing-fits, fits, wrote-length header)
 
       pub listing-wrote :
-          {q : ℕ} {zs : List ℕ} → Wrote ys p lines q zs → Wrote xs 0 (listingFound (sheetIn form1 s)) q zs
+          {q : ℕ} {zs : List ℕ} → Wrote ys p lines q zs → Wrote xs 0 (listingIn (sheetIn form1 s)) q zs
       listing-wrote {q} {zs} more =
           let rest : Wrote ys p (instanceLines (formed .instances)) q zs = rw (opened-instances form1 s formed r told) at more in
           let head : Wrote xs 0 (headerLine 1 (formed .opened .last) (length (formed .instances))) p ys =
@@ -124,7 +124,7 @@ module _ (s xs : List ℕ) where
   unfolding listedSheet
   lists-short short r e =
       let is = lt-ltb (length xs) (listingMost form1) short in
-      record { outcome = rw (is, e); count = rw (is, e); lent = rw is (sym (over-nil xs 0)) }
+      record { told = rw (is, e); count = rw (is, e); lent = rw is (sym (over-nil xs 0)) }
 
   pub prints-short : length xs < listingMost form1 → PrintsSheet s xs 0 xs
   unfolding printedSheet
@@ -139,7 +139,7 @@ module _ (s xs : List ℕ) where
     pub lists-none : sheetIn form1 s ≡ wrong → (r : Written) → r ≡ notWritten BadSheet → ListsSheet s xs r xs
     unfolding listedSheet
     lists-none none r e = record {
-      outcome = rw (room, none, e);
+      told = rw (room, none, e);
       count = rw (room, none, e);
       lent = rw (room, none) (sym (over-nil xs 0));
     }
@@ -154,14 +154,14 @@ module _ (s xs : List ℕ) where
         record { count = rw (room, none, refused-text) (w .moved ∙ zero-add _); lent = rw (room, none, refused-text) (w .holds) }
 
     module _ (ok : formedBy (sheetIn form1 s) .ok ≡ true) {n : ℕ} {ys : List ℕ}
-        (w : Wrote xs 0 (listingFound (sheetIn form1 s)) n ys) where
+        (w : Wrote xs 0 (listingIn (sheetIn form1 s)) n ys) where
       whole : Wrote xs 0 (listing form1 (sheet s ok)) n ys
       whole = rw (formed s ok .whole) at w
 
       pub lists-sheet : ListsSheet s xs (record { outcome = Done; count = n }) ys
       unfolding listedSheet
       lists-sheet = record {
-        outcome = rw (room, formed s ok .whole);
+        told = rw (room, formed s ok .whole);
         count = rw (room, formed s ok .whole) (whole .moved ∙ zero-add _);
         lent = rw (room, formed s ok .whole) (whole .holds);
       }

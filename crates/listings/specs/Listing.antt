@@ -2,21 +2,23 @@
 -- type (p1), digits, subaddress in lowercase hex or -. Otherwise `refused 9`." (document 01, "Samples")
 use Prim.Native.Nat.{ℕ, zero, suc, _+_, _*_, _/_, _%_}
 use mathlib.Core.Path.{_≡_}
+use mathlib.Core.Bool.{Bool, true, false, not}
 use mathlib.Core.List.{List, [], _∷_, _++_}
 use lib.ListN.{length, take}
 use lib.Dec.{ltb, eqb}
 use Rattle.laws.specs.Pick.{pick}
+use Rattle.laws.specs.Tests.{test, first}
 use Rattle.laws.specs.Got.{Got, got, wrong}
 use Rattle.laws.specs.Over.{over}
+use Rattle.refusals.specs.Refusal.{refusalNo}
+use Rattle.refusals.specs.declared.refusal.Refusal.the-variants.{ShortOutput, BadSheet}
 use Rattle.numbers.specs.Number.{unknown, digitsOf}
 use Rattle.numbers.specs.declared.address.Address.{Address}
 use Rattle.forms.specs.Form.{form1}
 use Rattle.forms.specs.declared.form.Form.{Form}
 use Rattle.forms.specs.declared.instance.Instance.{Instance}
 use Rattle.sheet.specs.Sheet.{Sheet, sheetIn}
-use Rattle.sheet.specs.Outcome.{refusalNo, outcomeNo}
-use Rattle.sheet.specs.declared.record.Refusal.{Refusal}
-use Rattle.sheet.specs.declared.record.Refusal.the-variants.{ShortOutput, BadSheet}
+use Rattle.sheet.specs.Handling.{handlingTold, Made, notMade, made}
 use Rattle.sheet.specs.declared.record.Written.{Written}
 
 -- ---- words
@@ -113,24 +115,28 @@ listingMost f = headerMost + linesMost (λ _. f .perprocedure) (f .procedures)
 
 -- ---- a sheet is listed
 
-pub record Listed : Type 0 where
-  pub number : ℕ
-  pub octets : List ℕ
+-- whether it is a sheet, and its listing
+abbrev pub isSheet : Got Sheet → Bool
+isSheet (got sheet next) = true
+isSheet wrong = false
 
-abbrev pub notListed : Refusal → Listed
-notListed refusal = record { number = refusalNo refusal; octets = [] }
+abbrev pub listingIn : Got Sheet → List ℕ
+listingIn (got sheet next) = listing form1 sheet
+listingIn wrong = []
 
-abbrev pub listedAs : Got Sheet → Listed
-listedAs (got sheet next) = record { number = 0; octets = listing form1 sheet }
-listedAs wrong = notListed BadSheet
-
--- "Lowest number first"; "writes nothing"
-unfoldable pub listedSheet : List ℕ → ℕ → Listed
-listedSheet s size = pick (ltb size (listingMost form1)) (notListed ShortOutput) (listedAs (sheetIn form1 s))
+-- "Lowest number first"
+unfoldable pub listedSheet : List ℕ → ℕ → Made
+listedSheet s size =
+    first
+    (test (ltb size (listingMost form1)) ShortOutput
+    ∷ test (not (isSheet (sheetIn form1 s))) BadSheet
+    ∷ [])
+    notMade
+    (made (listingIn (sheetIn form1 s)))
 
 -- what `list_sheet` promises: the refusal, how many octets the listing has, and every octet of the output
 pub record ListsSheet (s xs : List ℕ) (r : Written) (ys : List ℕ) : Type 0 where
-  pub outcome : outcomeNo (r .outcome) ≡ listedSheet s (length xs) .number
+  pub told : handlingTold (r .outcome) ≡ listedSheet s (length xs) .told
   pub count : r .count ≡ length (listedSheet s (length xs) .octets)
   pub lent : ys ≡ over xs 0 (listedSheet s (length xs) .octets)
 

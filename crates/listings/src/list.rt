@@ -3,8 +3,8 @@ use crate::line::write_header;
 use crate::line::write_lines;
 use forms::form_one;
 use octets::put_all;
-use sheet::Outcome;
-use sheet::Refusal;
+use refusals::Refusal;
+use sheet::Handling;
 use sheet::Written;
 use sheet::opening_of;
 use sheet::sheet_form;
@@ -16,9 +16,8 @@ ghost use Rattle.laws.specs.Over.{Wrote};
 ghost use Rattle.forms.specs.Form.{form1};
 ghost use Rattle.sheet.specs.Sheet.{sheetIn};
 ghost use Rattle.sheet.specs.Formed.{formedBy};
-ghost use Rattle.sheet.specs.Outcome.{notWritten};
-ghost use Rattle.listings.specs.Listing.{listingMost, ListsSheet, PrintsSheet};
-ghost use Rattle.listings.specs.Write.{listingFound};
+ghost use Rattle.sheet.specs.Handling.{notWritten};
+ghost use Rattle.listings.specs.Listing.{listingMost, listingIn, ListsSheet, PrintsSheet};
 
 // The most octets of a listing: 27 of its header, and at most 8 lines of each procedure, which have 74 for cfu, 74 for cfb and 75 for cfnr.
 const LISTINGMOST: usize = 27 + 8 * (74 + 74 + 75);
@@ -26,7 +25,7 @@ const LISTINGMOST: usize = 27 + 8 * (74 + 74 + 75);
 // The listing of a sheet that `sheet_form` has found, in two passes: nothing is written of what is no sheet.
 fn write_listing(out: &mut [u8], s: &[u8]) -> usize
     requires { ⌜ (listingMost form1 ≤ length (now out)) × (formedBy (sheetIn form1 (now s)) .ok ≡ true) ⌝ }
-    ensures { λ r. ⌜ Wrote (now (out .entry)) 0 (listingFound (sheetIn form1 (now (s .entry)))) r (now (out .exit)) ⌝ }
+    ensures { λ r. ⌜ Wrote (now (out .entry)) 0 (listingIn (sheetIn form1 (now (s .entry)))) r (now (out .exit)) ⌝ }
 {
     let f = form_one();
     let opening = opening_of(f, s);
@@ -38,7 +37,7 @@ fn refuses(refusal: Refusal) -> Written
     ensures { λ r. ⌜ r ≡ notWritten refusal ⌝ }
 {
     Written {
-        outcome: Outcome::Refuses { refusal },
+        outcome: Handling::Refuses { refusal },
         count: 0,
     }
 }
@@ -57,7 +56,7 @@ pub fn list_sheet(s: &[u8], out: &mut [u8]) -> Written
     }
     let count = write_listing(out, s);
     Written {
-        outcome: Outcome::Done,
+        outcome: Handling::Done,
         count,
     }
 }

@@ -9,6 +9,8 @@ use lib.Dec.{ltb}
 use borrow.Author.Tests.{ltb-true, ltb-false}
 use Rattle.laws.specs.Over.{over}
 use Rattle.laws.proofs.Over.{take-over}
+use Rattle.refusals.specs.Refusal.{tells}
+use Rattle.refusals.proofs.Refusals.{refuses-not}
 use Rattle.profile.specs.Access.{accessRead}
 use Rattle.profile.proofs.Records.{access-good, access-services}
 use Rattle.lists.specs.Entries.{instancesMost}
@@ -17,13 +19,13 @@ use Rattle.exchange.specs.declared.table.Table.{Table}
 use Rattle.forms.specs.Form.{form1}
 use Rattle.sheet.specs.Size.{sheetMost}
 use Rattle.sheet.specs.Sheet.{sheetOctets}
-use Rattle.sheet.specs.Outcome.{outcomeNo}
-use Rattle.sheet.specs.declared.record.Outcome.the-variants.{Done}
+use Rattle.sheet.specs.Handling.{Made, handlingTold}
+use Rattle.sheet.specs.declared.record.Handling.the-variants.{Done}
 use Rattle.sheet.specs.declared.record.Written.{Written}
 use Rattle.sheet.proofs.Parts.{by-test}
-use Rattle.sheet.proofs.Outcomes.{outcome-same}
+use Rattle.sheet.proofs.Handlings.{handling-same}
 use Rattle.nightly.specs.Instances.{instancesOf}
-use Rattle.nightly.specs.Record.{SheetMade, wroteSheet, WritesSheet, readSheet, ReadsSheet}
+use Rattle.nightly.specs.Record.{wroteSheet, WritesSheet, readSheet, ReadsSheet}
 use Rattle.nightly.specs.declared.table.SheetRead.{SheetRead}
 use Rattle.nightly.proofs.WrittenTables.{sheet-fits}
 use Rattle.nightly.proofs.WrittenSheets.{writes-short, writes-profile, writes-table, writes-sheet}
@@ -32,25 +34,25 @@ use Rattle.nightly.proofs.ReadTables.{read-ok, accepted-table, read-goo
 use Rattle.nightly.proofs.TableTrips.{SameInstances, ReadsAs, table-back}
 
 -- a table that is written: there was room, and neither the profile nor the table was refused
-module _ (access : List ℕ) (t : Table) (size : ℕ) (done : wroteSheet access t size .number ≡ 0) where
+module _ (access : List ℕ) (t : Table) (size : ℕ) (done : wroteSheet access t size .told ≡ tells tt) where
   written-room : sheetMost form1 ≤ size
   written-room =
       by-test (ltb size (sheetMost form1))
-      (λ e. absurd (omega (arith, done, ap (λ (w : SheetMade). w .number) (writes-short access t size (ltb-true size (sheetMost form1) e)))))
+      (λ e. absurd (refuses-not _ tt (sym (ap (λ (w : Made). w .told) (writes-short access t size (ltb-true size (sheetMost form1) e))) ∙ done)))
       (λ e. ltb-false size (sheetMost form1) e)
 
   written-ok : accessRead access .ok ≡ true
   written-ok =
       by-test (accessRead access .ok) (λ e. e)
-      (λ e. absurd (omega (arith, done, ap (λ (w : SheetMade). w .number) (writes-profile access t size written-room e))))
+      (λ e. absurd (refuses-not _ tt (sym (ap (λ (w : Made). w .told) (writes-profile access t size written-room e)) ∙ done)))
 
   written-good : tableGood instancesMost (accessRead access .profile) t ≡ true
   written-good =
       by-test (tableGood instancesMost (accessRead access .profile) t) (λ e. e)
-      (λ e. absurd (omega (arith, done, ap (λ (w : SheetMade). w .number) (writes-table access t size written-room written-ok e))))
+      (λ e. absurd (refuses-not _ tt (sym (ap (λ (w : Made). w .told) (writes-table access t size written-room written-ok e)) ∙ done)))
 
   written-octets : wroteSheet access t size .octets ≡ sheetOctets form1 (t .last) (instancesOf (t .grid))
-  written-octets = ap (λ (w : SheetMade). w .octets) (writes-sheet access t size written-room written-ok written-good)
+  written-octets = ap (λ (w : Made). w .octets) (writes-sheet access t size written-room written-ok written-good)
 
 -- what `write_sheet` wrote, `read_sheet` reads back as a table that holds the same
 module _ (access : List ℕ) (t : Table) (arrays : Arrays t) (xs : List ℕ) (w : Written) (ys : List ℕ)
@@ -58,19 +60,19 @@ module _ (access : List ℕ) (t : Table) (arrays : Arrays t) (xs : List ℕ) (w 
   abbrev s : List ℕ
   s = sheetOctets form1 (t .last) (instancesOf (t .grid))
 
-  number : wroteSheet access t (length xs) .number ≡ 0
-  number = sym (wrote .outcome) ∙ ap outcomeNo done
+  told : wroteSheet access t (length xs) .told ≡ tells tt
+  told = sym (wrote .told) ∙ ap handlingTold done
 
   octets : wroteSheet access t (length xs) .octets ≡ s
-  octets = written-octets access t (length xs) number
+  octets = written-octets access t (length xs) told
 
   fits : length s ≤ length xs
   fits =
-      let ok = written-ok access t (length xs) number in
+      let ok = written-ok access t (length xs) told in
       omega (
         arith,
-        written-room access t (length xs) number,
-        sheet-fits (accessRead access .profile) t (written-good access t (length xs) number) (access-good access ok)
+        written-room access t (length xs) told,
+        sheet-fits (accessRead access .profile) t (written-good access t (length xs) told) (access-good access ok)
             (access-services access) (arrays .octets),
       )
 
@@ -79,12 +81,12 @@ module _ (access : List ℕ) (t : Table) (arrays : Arrays t) (xs : List ℕ) (w 
 
   back : ReadsAs access s t
   back =
-      table-back access t (written-ok access t (length xs) number) (written-good access t (length xs) number) arrays
+      table-back access t (written-ok access t (length xs) told) (written-good access t (length xs) told) arrays
 
   pub written-back : (r : SheetRead) → ReadsSheet access (take (w .count) ys) r → (r .outcome ≡ Done) × SameInstances t (r .table)
   written-back r read =
       let same : readSheet access (take (w .count) ys) ≡ readSheet access s = ap (readSheet access) sheet-is in (
-        outcome-same (r .outcome) Done (read .outcome ∙ ap (λ q. q .number) same ∙ back .accepted),
+        handling-same (r .outcome) Done (read .told ∙ ap (λ q. q .told) same ∙ back .accepted),
         rw (read .table, same) (back .alike),
       )
 
@@ -94,11 +96,11 @@ pub accepted-again :
     (xs : List ℕ) → sheetMost form1 ≤ length xs → (w : Written) (ys : List ℕ) → WritesSheet access (r .table) xs w ys →
     (w .outcome ≡ Done) × (w .count ≡ length s) × (ys ≡ over xs 0 s)
 accepted-again access s small r read done xs room w ys wrote =
-    let number : readSheet access s .number ≡ 0 = sym (read .outcome) ∙ ap outcomeNo done in
-    let is = writes-sheet access (r .table) (length xs) room (read-ok access s number) (rw (read .table) (read-good access s number)) in
+    let told : readSheet access s .told ≡ tells tt = sym (read .told) ∙ ap handlingTold done in
+    let is = writes-sheet access (r .table) (length xs) room (read-ok access s told) (rw (read .table) (read-good access s told)) in
     let octets : wroteSheet access (r .table) (length xs) .octets ≡ s =
-    ap (λ (x : SheetMade). x .octets) is ∙ rw (read .table) (sym (accepted-table access s number small)) in (
-      outcome-same (w .outcome) Done (wrote .outcome ∙ ap (λ (x : SheetMade). x .number) is),
+    ap (λ (x : Made). x .octets) is ∙ rw (read .table) (sym (accepted-table access s told small)) in (
+      handling-same (w .outcome) Done (wrote .told ∙ ap (λ (x : Made). x .told) is),
       wrote .count ∙ ap length octets,
       wrote .lent ∙ ap (over xs 0) octets,
     )

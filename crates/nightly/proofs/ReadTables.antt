@@ -36,7 +36,10 @@ use Rattle.sheet.proofs.SheetTrips.{AllFit, countOf}
 use Rattle.sheet.proofs.Accepted.{sheet-only}
 use Rattle.sheet.proofs.AcceptedSheets.{Allowed, sheet-allowed}
 use Rattle.nightly.specs.Instances.{instancesOf}
-use Rattle.nightly.specs.Record.{allIn, placeOfInstance, placed, allPlaced, tableFrom, readSheet}
+use Rattle.refusals.specs.Refusal.{tells}
+use Rattle.refusals.proofs.Refusals.{refuses-not}
+use Rattle.nightly.proofs.Tables.{tableFrom}
+use Rattle.nightly.specs.Record.{allIn, placeOfInstance, placed, allPlaced, readSheet}
 use Rattle.nightly.proofs.InstanceCounts.{procedure-count}
 use Rattle.nightly.proofs.PlacedCells.{Fitting, fitting, all-parts, place-inside, place-number, place-slot, Shaped, shaped-none, none-active, placed-shaped, cell-here, cell-else}
 use Rattle.nightly.proofs.PlacedOrder.{placed-instances}
@@ -105,14 +108,14 @@ record Taken (p : Profile) (g : Got Sheet) : Type 0 where
   all : allIn p (sheet .instances) ≡ true
   table : tableFrom p g .table ≡ tableOf p sheet
 
-taken : (p : Profile) (g : Got Sheet) → tableFrom p g .number ≡ 0 → Taken p g
-taken p (got sheet next) zero =
+taken : (p : Profile) (g : Got Sheet) → tableFrom p g .told ≡ tells tt → Taken p g
+taken p (got sheet next) is =
     by-test (allIn p (sheet .instances))
     (λ e. record { sheet = sheet; next = next; found = refl; all = e; table = rw e })
-    (λ e. absurd (omega (arith, rw e at zero)))
-taken p wrong zero = absurd (omega (arith, zero))
+    (λ e. absurd (refuses-not _ tt (rw e at is)))
+taken p wrong is = absurd (refuses-not _ tt is)
 
-module _ (access s : List ℕ) (accepted : readSheet access s .number ≡ 0) where
+module _ (access s : List ℕ) (accepted : readSheet access s .told ≡ tells tt) where
   abbrev p : Profile
   p = accessRead access .profile
 
@@ -120,14 +123,14 @@ module _ (access s : List ℕ) (accepted : readSheet access s .number ≡ 0) whe
   unfolding readSheet
   read-ok =
       by-test (accessRead access .ok) (λ e. e)
-      (λ e. absurd (omega (arith, rw e at accepted)))
+      (λ e. absurd (refuses-not _ tt (rw e at accepted)))
 
   read-is : readSheet access s ≡ tableFrom p (sheetIn form1 s)
   unfolding readSheet
   read-is = rw read-ok
 
   was : Taken p (sheetIn form1 s)
-  was = taken p (sheetIn form1 s) (sym (ap (λ r. r .number) read-is) ∙ accepted)
+  was = taken p (sheetIn form1 s) (sym (ap (λ r. r .told) read-is) ∙ accepted)
 
   table-is : readSheet access s .table ≡ tableOf p (was .sheet)
   table-is = ap (λ r. r .table) read-is ∙ was .table
@@ -166,8 +169,8 @@ module _ (access s : List ℕ) (accepted : readSheet access s .number ≡ 0) whe
 -- two accepted sheets of one access that give the same table are the same octets
 pub sheets-apart :
     (access s u : List ℕ) → ((i : ℕ) → getD s i 0 < 256) → ((i : ℕ) → getD u i 0 < 256) →
-    readSheet access s .number ≡ 0 →
-    readSheet access u .number ≡ 0 →
+    readSheet access s .told ≡ tells tt →
+    readSheet access u .told ≡ tells tt →
     readSheet access s .table ≡ readSheet access u .table →
     s ≡ u
 sheets-apart access s u small little a b same =

@@ -38,6 +38,7 @@ use Rattle.sheet.proofs.Parts.{by-test}
 use Rattle.sheet.proofs.Trips.{tidyInstance, tidy-twice}
 use Rattle.sheet.proofs.SheetTrips.{sheet-back}
 use Rattle.nightly.specs.Instances.{instanceOf, instancesOf}
+use Rattle.refusals.specs.Refusal.{tells}
 use Rattle.nightly.specs.Record.{TableRead, placeOfInstance, placed, allPlaced, readSheet}
 use Rattle.nightly.specs.Write.{placeInstances}
 use Rattle.nightly.proofs.WrittenTables.{rowOf, rows-all}
@@ -194,7 +195,7 @@ pub record SameInstances (t u : Table) : Type 0 where
 
 -- a sheet that is read as a table like t
 pub record ReadsAs (access s : List ℕ) (t : Table) : Type 0 where
-  pub accepted : readSheet access s .number ≡ 0
+  pub accepted : readSheet access s .told ≡ tells tt
   pub alike : SameInstances t (readSheet access s .table)
 
 -- the octets of a table that breaks no rule are read as that table
@@ -212,9 +213,9 @@ table-back access t ok good arrays =
     sheet-back (t .last) (instancesOf (t .grid)) s (table-good instancesMost p t good .0) (table-sheeted p t good profile long arrays)
     (stands-whole s) refl in
     let again : Table = record { last = t .last; grid = allPlaced p noGrid (map tidyInstance (instancesOf (t .grid))) } in
-    let is : readSheet access s ≡ record { number = 0; table = again } = rw (ok, found, table-all p t good profile long) in
+    let is : readSheet access s ≡ record { told = tells tt; table = again } = rw (ok, found, table-all p t good profile long) in
     record {
-      accepted = ap (λ (r : TableRead). r .number) is;
+      accepted = ap (λ (r : TableRead). r .told) is;
       alike = record {
         last = ap (λ (r : TableRead). r .table .last) is;
         holds = λ k j h lt. ap (λ (r : TableRead). held (rowAt (r .table .grid) k) j) is ∙ all-held p t good profile long k j h lt;

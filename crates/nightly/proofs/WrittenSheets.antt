@@ -9,6 +9,8 @@ use lib.ListN.{length}
 use borrow.Author.Tests.{lt-ltb, le-ltb}
 use Rattle.laws.specs.Over.{Wrote}
 use Rattle.laws.proofs.Over.{over-nil}
+use Rattle.refusals.specs.declared.refusal.Refusal.{Refusal}
+use Rattle.refusals.specs.declared.refusal.Refusal.the-variants.{ShortOutput, BadProfile, BadTable}
 use Rattle.profile.specs.Access.{accessRead}
 use Rattle.profile.proofs.Records.{access-good, access-services}
 use Rattle.lists.specs.Entries.{instancesMost}
@@ -18,62 +20,55 @@ use Rattle.exchange.proofs.Tables.{table-good}
 use Rattle.forms.specs.Form.{form1}
 use Rattle.sheet.specs.Size.{sheetMost}
 use Rattle.sheet.specs.Sheet.{sheetOctets}
-use Rattle.sheet.specs.Outcome.{refusalNo, notWritten}
+use Rattle.sheet.specs.Handling.{notMade, made, notWritten}
 use Rattle.nightly.specs.Instances.{instancesOf}
 use Rattle.nightly.specs.Record.{wroteSheet, WritesSheet}
-use Rattle.nightly.specs.Record as record-specs
 use Rattle.nightly.specs.Write.{Space, GridWritable}
-use Rattle.sheet.specs.declared.record.Refusal.{Refusal}
-use Rattle.sheet.specs.declared.record.Refusal.the-variants.{ShortOutput, BadProfile, BadTable}
-use Rattle.sheet.specs.declared.record.Outcome.the-variants.{Done}
+use Rattle.sheet.specs.declared.record.Handling.the-variants.{Done}
 use Rattle.sheet.specs.declared.record.Written.{Written}
 use Rattle.nightly.proofs.WrittenTables.{instances-few, grid-writable}
 
--- what a refusal and a sheet leave
-abbrev refused : Refusal → record-specs.SheetMade
-refused refusal = record { number = refusalNo refusal; octets = [] }
-
-abbrev sheet : Table → record-specs.SheetMade
-sheet t = record { number = 0; octets = sheetOctets form1 (t .last) (instancesOf (t .grid)) }
-
 module _ (access : List ℕ) (t : Table) (size : ℕ) where
-  pub writes-short : size < sheetMost form1 → wroteSheet access t size ≡ refused ShortOutput
+  pub writes-short : size < sheetMost form1 → wroteSheet access t size ≡ notMade ShortOutput
   unfolding wroteSheet
   writes-short short = rw (lt-ltb size (sheetMost form1) short)
 
   module _ (room : sheetMost form1 ≤ size) where
-    pub writes-profile : accessRead access .ok ≡ false → wroteSheet access t size ≡ refused BadProfile
+    pub writes-profile : accessRead access .ok ≡ false → wroteSheet access t size ≡ notMade BadProfile
     unfolding wroteSheet
     writes-profile bad = rw (le-ltb size (sheetMost form1) room, bad)
 
     module _ (ok : accessRead access .ok ≡ true) where
       pub writes-table :
-          tableGood instancesMost (accessRead access .profile) t ≡ false → wroteSheet access t size ≡ refused BadTable
+          tableGood instancesMost (accessRead access .profile) t ≡ false → wroteSheet access t size ≡ notMade BadTable
       unfolding wroteSheet
       writes-table bad = rw (le-ltb size (sheetMost form1) room, ok, bad)
 
-      pub writes-sheet : tableGood instancesMost (accessRead access .profile) t ≡ true → wroteSheet access t size ≡ sheet t
+      pub writes-sheet :
+          tableGood instancesMost (accessRead access .profile) t ≡ true →
+          wroteSheet access t size ≡ made (sheetOctets form1 (t .last) (instancesOf (t .grid)))
       unfolding wroteSheet
       writes-sheet good = rw (le-ltb size (sheetMost form1) room, ok, good)
 
 -- what is refused writes nothing
 pub refused-writes :
     (access : List ℕ) (t : Table) (xs : List ℕ) (refusal : Refusal) (r : Written) →
-    wroteSheet access t (length xs) ≡ refused refusal → r ≡ notWritten refusal →
+    wroteSheet access t (length xs) ≡ notMade refusal → r ≡ notWritten refusal →
     WritesSheet access t xs r xs
 refused-writes access t xs refusal r is e = record {
-  outcome = rw (is, e);
+  told = rw (is, e);
   count = rw (is, e);
   lent = rw is (sym (over-nil xs 0));
 }
 
 -- what is not refused is written whole
 pub sheet-writes :
-    (access : List ℕ) (t : Table) (xs : List ℕ) (n : ℕ) (ys : List ℕ) → wroteSheet access t (length xs) ≡ sheet t →
+    (access : List ℕ) (t : Table) (xs : List ℕ) (n : ℕ) (ys : List ℕ) →
+    wroteSheet access t (length xs) ≡ made (sheetOctets form1 (t .last) (instancesOf (t .grid))) →
     Wrote xs 0 (sheetOctets form1 (t .last) (instancesOf (t .grid))) n ys →
     WritesSheet access t xs (record { outcome = Done; count = n }) ys
 sheet-writes access t xs n ys is w = record {
-  outcome = rw is;
+  told = rw is;
   count = rw is (w .moved ∙ zero-add _);
   lent = rw is (w .holds);
 }

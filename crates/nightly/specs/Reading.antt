@@ -3,12 +3,12 @@ use mathlib.Core.Bool.{true, false}
 use mathlib.Core.List.{List}
 use Rattle.laws.specs.Pick.{pick}
 use Rattle.laws.specs.Got.{Got, got, wrong}
+use Rattle.refusals.specs.declared.refusal.Refusal.{Refusal}
 use Rattle.profile.specs.declared.profile.Profile.{Profile}
 use Rattle.store.specs.Grid.{noGrid}
 use Rattle.exchange.specs.Table.{freshTable}
 use Rattle.forms.specs.declared.instance.Instance.{Instance}
-use Rattle.sheet.specs.declared.record.Refusal.{Refusal}
-use Rattle.sheet.specs.declared.record.Outcome.the-variants.{Refuses}
+use Rattle.sheet.specs.declared.record.Handling.the-variants.{Refuses}
 use Rattle.nightly.specs.Record.{allIn, allPlaced}
 use Rattle.nightly.specs.declared.table.GridRead.{GridRead}
 use Rattle.nightly.specs.declared.table.SheetRead.{SheetRead}
@@ -22,5 +22,5 @@ gridRead p (got is next) = pick (allIn p is) (record { ok = true; grid = allPlac
 gridRead p wrong = notPlaced
 
 -- what is handed back where a sheet is refused
-abbrev pub refusedBy : Refusal → SheetRead
-refusedBy refusal = record { outcome = Refuses refusal; table = freshTable }
+abbrev pub sheetRefused : Refusal → SheetRead
+sheetRefused refusal = record { outcome = Refuses refusal; table = freshTable }

@@ -1,13 +1,17 @@
 -- Night sheets against a profile: a table is written as one, and one is read as a table (document 01, "Night sheet", "Local refusals").
 use Prim.Native.Nat.{ℕ, _+_, _*_}
 use mathlib.Core.Path.{_≡_}
-use mathlib.Core.Bool.{Bool, true, false}
+use mathlib.Core.Bool.{Bool, true, false, not}
 use mathlib.Core.List.{List, [], _∷_}
 use lib.ListN.{length, getD, set}
 use lib.Dec.{ltb, eqb}
 use Rattle.laws.specs.Pick.{pick}
+use Rattle.laws.specs.Tests.{test, first}
 use Rattle.laws.specs.Got.{Got, got, wrong}
 use Rattle.laws.specs.Over.{over}
+use Rattle.refusals.specs.Refusal.{refusalNo, Told, refuses, tells}
+use Rattle.refusals.specs.declared.refusal.Refusal.{Refusal}
+use Rattle.refusals.specs.declared.refusal.Refusal.the-variants.{ShortOutput, BadProfile, BadTable, BadSheet}
 use Rattle.codes.specs.Codes.{placeOf}
 use Rattle.profile.specs.Access.{accessRead}
 use Rattle.profile.specs.Profile.{servicesMost, subscribedServices}
@@ -22,32 +26,27 @@ use Rattle.forms.specs.Form.{form1}
 use Rattle.forms.specs.declared.instance.Instance.{Instance}
 use Rattle.sheet.specs.Size.{sheetMost}
 use Rattle.sheet.specs.Sheet.{Sheet, sheetOctets, sheetIn}
-use Rattle.sheet.specs.Outcome.{refusalNo, outcomeNo}
-use Rattle.sheet.specs.declared.record.Refusal.{Refusal}
-use Rattle.sheet.specs.declared.record.Refusal.the-variants.{ShortOutput, BadProfile, BadTable, BadSheet}
+use Rattle.sheet.specs.Handling.{handlingTold, Made, notMade, made}
 use Rattle.sheet.specs.declared.record.Written.{Written}
 use Rattle.nightly.specs.Instances.{instancesOf}
 use Rattle.nightly.specs.declared.table.SheetRead.{SheetRead}
 
 -- ---- a table is written
 
-pub record SheetMade : Type 0 where
-  pub number : ℕ
-  pub octets : List ℕ
-
--- "Lowest number first"; "writes nothing"
-unfoldable pub wroteSheet : List ℕ → Table → ℕ → SheetMade
+-- "Lowest number first"
+unfoldable pub wroteSheet : List ℕ → Table → ℕ → Made
 wroteSheet access t size =
-    pick (ltb size (sheetMost form1)) (record { number = refusalNo ShortOutput; octets = [] })
-    (pick (accessRead access .ok)
-    (pick (tableGood instancesMost (accessRead access .profile) t)
-    (record { number = 0; octets = sheetOctets form1 (t .last) (instancesOf (t .grid)) })
-    (record { number = refusalNo BadTable; octets = [] }))
-    (record { number = refusalNo BadProfile; octets = [] }))
+    first
+    (test (ltb size (sheetMost form1)) ShortOutput
+    ∷ test (not (accessRead access .ok)) BadProfile
+    ∷ test (not (tableGood instancesMost (accessRead access .profile) t)) BadTable
+    ∷ [])
+    notMade
+    (made (sheetOctets form1 (t .last) (instancesOf (t .grid))))
 
 -- what `write_sheet` promises: the refusal, how many octets the sheet has, and every octet of the output
 pub record WritesSheet (access : List ℕ) (t : Table) (xs : List ℕ) (r : Written) (ys : List ℕ) : Type 0 where
-  pub outcome : outcomeNo (r .outcome) ≡ wroteSheet access t (length xs) .number
+  pub told : handlingTold (r .outcome) ≡ wroteSheet access t (length xs) .told
   pub count : r .count ≡ length (wroteSheet access t (length xs) .octets)
   pub lent : ys ≡ over xs 0 (wroteSheet access t (length xs) .octets)
 
@@ -78,25 +77,34 @@ unfoldable pub allPlaced : Profile → Grid → List Instance → Grid
 allPlaced p grid [] = grid
 allPlaced p grid (i ∷ is) = allPlaced p (placed p grid i) is
 
+-- whether it is a sheet, and a table of the profile can hold it; and the table that it holds
+abbrev pub sheetAllowed : Profile → Got Sheet → Bool
+sheetAllowed p (got sheet next) = allIn p (sheet .instances)
+sheetAllowed p wrong = false
+
+abbrev pub tableIn : Profile → Got Sheet → Table
+tableIn p (got sheet next) = record { last = sheet .last; grid = allPlaced p noGrid (sheet .instances) }
+tableIn p wrong = freshTable
+
+-- what is told, and the table that is read
 pub record TableRead : Type 0 where
-  pub number : ℕ
+  pub told : Told (Unit {0})
   pub table : Table
 
 abbrev pub notRead : Refusal → TableRead
-notRead r = record { number = refusalNo r; table = freshTable }
+notRead refusal = record { told = refuses (refusalNo refusal); table = freshTable }
 
-abbrev pub tableFrom : Profile → Got Sheet → TableRead
-tableFrom p (got sheet next) =
-    pick (allIn p (sheet .instances))
-    (record { number = 0; table = record { last = sheet .last; grid = allPlaced p noGrid (sheet .instances) } })
-    (notRead BadSheet)
-tableFrom p wrong = notRead BadSheet
-
+-- "Lowest number first"
 unfoldable pub readSheet : List ℕ → List ℕ → TableRead
 readSheet access s =
-    pick (accessRead access .ok) (tableFrom (accessRead access .profile) (sheetIn form1 s)) (notRead BadProfile)
+    first
+    (test (not (accessRead access .ok)) BadProfile
+    ∷ test (not (sheetAllowed (accessRead access .profile) (sheetIn form1 s))) BadSheet
+    ∷ [])
+    notRead
+    (record { told = tells tt; table = tableIn (accessRead access .profile) (sheetIn form1 s) })
 
--- what `read_sheet` promises: the refusal and the table, a fresh one where it is refused
+-- what `read_sheet` promises: the refusal and the table, a fresh one where the sheet is refused
 pub record ReadsSheet (access s : List ℕ) (r : SheetRead) : Type 0 where
-  pub outcome : outcomeNo (r .outcome) ≡ readSheet access s .number
+  pub told : handlingTold (r .outcome) ≡ readSheet access s .told
   pub table : r .table ≡ readSheet access s .table

@@ -7,8 +7,8 @@ use profile::Profile;
 use profile::SERVICES;
 use profile::read_access;
 use profile::service_slot;
-use sheet::Outcome;
-use sheet::Refusal;
+use refusals::Refusal;
+use sheet::Handling;
 use sheet::instance_at;
 use sheet::opening_of;
 use sheet::sheet_form;
@@ -23,11 +23,11 @@ ghost use Rattle.forms.specs.Form.{form1};
 ghost use Rattle.sheet.specs.Sheet.{instancesFrom, noInstance};
 ghost use Rattle.sheet.specs.Formed.{Holds};
 ghost use Rattle.nightly.specs.Record.{inProfile, placeOfInstance, ReadsSheet};
-ghost use Rattle.nightly.specs.Reading.{gridRead, notPlaced, refusedBy};
+ghost use Rattle.nightly.specs.Reading.{gridRead, notPlaced, sheetRefused};
 
 // The table that was read; a fresh one where the sheet is refused.
 pub struct SheetRead {
-    pub outcome: Outcome,
+    pub outcome: Handling,
     pub table: Table,
 }
 
@@ -100,11 +100,11 @@ fn placed_from(p: Profile, s: &[u8], at: usize, count: u32) -> GridRead
 }
 
 fn refuses(refusal: Refusal) -> SheetRead
-    ensures { λ r. ⌜ r ≡ refusedBy refusal ⌝ }
+    ensures { λ r. ⌜ r ≡ sheetRefused refusal ⌝ }
 {
     let table = fresh_table();
     SheetRead {
-        outcome: Outcome::Refuses { refusal },
+        outcome: Handling::Refuses { refusal },
         table,
     }
 }
@@ -130,7 +130,7 @@ pub fn read_sheet(access: &[u8], s: &[u8]) -> SheetRead
     }
     let grid = placed.grid;
     SheetRead {
-        outcome: Outcome::Done,
+        outcome: Handling::Done,
         table: Table {
             last: opening.last,
             grid,

@@ -6,8 +6,8 @@ use lists::LIMIT;
 use numbers::Address;
 use profile::SERVICES;
 use profile::read_access;
-use sheet::Outcome;
-use sheet::Refusal;
+use refusals::Refusal;
+use sheet::Handling;
 use sheet::Written;
 use store::Cell;
 use store::Grid;
@@ -22,7 +22,7 @@ ghost use Rattle.laws.specs.Over.{Wrote};
 ghost use Rattle.numbers.specs.Number.{most};
 ghost use Rattle.numbers.specs.Address.{addressGood};
 ghost use Rattle.sheet.specs.Instance.{allGroups, addressFields};
-ghost use Rattle.sheet.specs.Outcome.{notWritten};
+ghost use Rattle.sheet.specs.Handling.{notWritten};
 ghost use Rattle.nightly.specs.Instances.{instancesOf};
 ghost use Rattle.nightly.specs.Record.{WritesSheet};
 ghost use Rattle.nightly.specs.Write.{Room, above, NoneBelow, Space, WroteInstances, cellInstances, rowInstances, Writable, RowWritable, GridWritable};
@@ -129,7 +129,7 @@ fn refuses(refusal: Refusal) -> Written
     ensures { λ r. ⌜ r ≡ notWritten refusal ⌝ }
 {
     Written {
-        outcome: Outcome::Refuses { refusal },
+        outcome: Handling::Refuses { refusal },
         count: 0,
     }
 }
@@ -157,7 +157,7 @@ pub fn write_sheet(table: Table, access: &[u8], out: &mut [u8]) -> Written
     let k = put_groups(out, q, instances as u32);
     let count = write_grid(out, k, grid);
     Written {
-        outcome: Outcome::Done,
+        outcome: Handling::Done,
         count,
     }
 }

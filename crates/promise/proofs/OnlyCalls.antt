@@ -6,18 +6,18 @@ use Rattle.laws.proofs.Picks.{both}
 use Rattle.exchange.specs.declared.table.Table.{Table}
 use Rattle.calls.specs.Divert.{DivertsTo}
 use Rattle.calls.specs.Original.{OriginalIn}
-use Rattle.calls.specs.declared.diverting.Outcome.{Outcome}
+use Rattle.calls.specs.declared.diverting.Coming.{Coming}
 use Rattle.calls.specs.declared.diverting.Onward.{Onward}
 use Rattle.calls.specs.declared.diverting.Diversion.{Diversion}
-use Rattle.calls.proofs.Outcomes.{told-same}
+use Rattle.calls.proofs.Courses.{coming-same}
 
-abbrev diversionOf : Outcome → Onward → Diversion
+abbrev diversionOf : Coming → Onward → Diversion
 diversionOf outcome call = record { outcome = outcome; call = call }
 
 pub only-divert :
     (access : List ℕ) (t : Table) (s : List ℕ) {d e : Diversion} → DivertsTo access t s d → DivertsTo access t s e → d ≡ e
 only-divert access t s {d} {e} a b =
-    ap (λ (o : Outcome). diversionOf o (d .call)) (told-same (d .outcome) (e .outcome) (both (a .told) (b .told)))
+    ap (λ (o : Coming). diversionOf o (d .call)) (coming-same (d .outcome) (e .outcome) (both (a .told) (b .told)))
     ∙ ap (λ (c : Onward). diversionOf (e .outcome) c) (both (a .call) (b .call))
 
 pub only-original :

@@ -8,9 +8,9 @@ use Rattle.profile.specs.declared.profile.Profile.{Profile}
 use Rattle.exchange.specs.Table.{FreshTable, TableGood}
 use Rattle.exchange.specs.Arrive.{Arrives}
 use Rattle.exchange.specs.declared.table.Table.{Table}
-use Rattle.exchange.specs.declared.arrive.Outcome.{Outcome}
+use Rattle.exchange.specs.declared.arrive.Arriving.{Arriving}
 use Rattle.exchange.specs.declared.arrive.Arrived.{Arrived}
-use Rattle.exchange.proofs.Outcomes.{told-same}
+use Rattle.exchange.proofs.Arrivings.{arriving-same}
 use Rattle.exchange.specs.Question.{QuestionOf}
 use Rattle.exchange.specs.declared.question.Question.{Question}
 
@@ -20,14 +20,14 @@ only-fresh-table = both
 pub only-good : (p : Profile) (t : Table) {a b : Bool} → TableGood p t a → TableGood p t b → a ≡ b
 only-good p t = both
 
-abbrev arrivedOf : Table → Outcome → ℕ → Arrived
+abbrev arrivedOf : Table → Arriving → ℕ → Arrived
 arrivedOf table outcome count = record { table = table; outcome = outcome; count = count }
 
 -- an answer is its parts
 arrived-same : (r q : Arrived) → r .table ≡ q .table → r .outcome ≡ q .outcome → r .count ≡ q .count → r ≡ q
 arrived-same r q table outcome count =
     ap (λ (t : Table). arrivedOf t (r .outcome) (r .count)) table
-    ∙ ap (λ (o : Outcome). arrivedOf (q .table) o (r .count)) outcome
+    ∙ ap (λ (o : Arriving). arrivedOf (q .table) o (r .count)) outcome
     ∙ ap (λ (n : ℕ). arrivedOf (q .table) (q .outcome) n) count
 
 pub only-arrive :
@@ -35,7 +35,10 @@ pub only-arrive :
     Arrives access t s xs q zs →
     (r ≡ q) × (ys ≡ zs)
 only-arrive access t s xs {r} {q} a b = (
-  arrived-same r q (both (a .table) (b .table)) (told-same (r .outcome) (q .outcome) (both (a .told) (b .told))) (both (a .count) (b .count)),
+  arrived-same r q
+      (both (a .table) (b .table))
+      (arriving-same (r .outcome) (q .outcome) (both (a .told) (b .told)))
+      (both (a .count) (b .count)),
   both (a .lent) (b .lent),
 )
 

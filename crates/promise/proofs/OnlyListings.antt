@@ -4,13 +4,13 @@ use mathlib.Core.List.{List}
 use mathlib.Core.Path.{_≡_}
 use Rattle.laws.proofs.Picks.{both}
 use Rattle.sheet.specs.declared.record.Written.{Written}
-use Rattle.sheet.proofs.Outcomes.{outcome-same, written-same}
+use Rattle.sheet.proofs.Handlings.{handling-same, written-same}
 use Rattle.listings.specs.Listing.{ListsSheet, PrintsSheet}
 
 pub only-list-sheet :
     (s xs : List ℕ) {r q : Written} {ys zs : List ℕ} → ListsSheet s xs r ys → ListsSheet s xs q zs → (r ≡ q) × (ys ≡ zs)
 only-list-sheet s xs {r} {q} a b = (
-  written-same r q (outcome-same (r .outcome) (q .outcome) (both (a .outcome) (b .outcome))) (both (a .count) (b .count)),
+  written-same r q (handling-same (r .outcome) (q .outcome) (both (a .told) (b .told))) (both (a .count) (b .count)),
   both (a .lent) (b .lent),
 )
 

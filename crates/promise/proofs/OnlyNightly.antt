@@ -4,9 +4,9 @@ use mathlib.Core.List.{List}
 use mathlib.Core.Path.{_≡_, ap, _∙_}
 use Rattle.laws.proofs.Picks.{both}
 use Rattle.exchange.specs.declared.table.Table.{Table}
-use Rattle.sheet.specs.declared.record.Outcome.{Outcome}
+use Rattle.sheet.specs.declared.record.Handling.{Handling}
 use Rattle.sheet.specs.declared.record.Written.{Written}
-use Rattle.sheet.proofs.Outcomes.{outcome-same, written-same}
+use Rattle.sheet.proofs.Handlings.{handling-same, written-same}
 use Rattle.nightly.specs.Record.{WritesSheet, ReadsSheet}
 use Rattle.nightly.specs.declared.table.SheetRead.{SheetRead}
 
@@ -15,15 +15,15 @@ pub only-write-sheet :
     WritesSheet access t xs q zs →
     (r ≡ q) × (ys ≡ zs)
 only-write-sheet access t xs {r} {q} a b = (
-  written-same r q (outcome-same (r .outcome) (q .outcome) (both (a .outcome) (b .outcome))) (both (a .count) (b .count)),
+  written-same r q (handling-same (r .outcome) (q .outcome) (both (a .told) (b .told))) (both (a .count) (b .count)),
   both (a .lent) (b .lent),
 )
 
-abbrev readOf : Outcome → Table → SheetRead
+abbrev readOf : Handling → Table → SheetRead
 readOf outcome table = record { outcome = outcome; table = table }
 
 pub only-read-sheet :
     (access s : List ℕ) {r q : SheetRead} → ReadsSheet access s r → ReadsSheet access s q → r ≡ q
 only-read-sheet access s {r} {q} a b =
-    ap (λ (o : Outcome). readOf o (r .table)) (outcome-same (r .outcome) (q .outcome) (both (a .outcome) (b .outcome)))
+    ap (λ (o : Handling). readOf o (r .table)) (handling-same (r .outcome) (q .outcome) (both (a .told) (b .told)))
     ∙ ap (λ (t : Table). readOf (q .outcome) t) (both (a .table) (b .table))

@@ -7,6 +7,7 @@ use lib.IntN.{ℤ, pos, negsuc}
 use lib.ListN.{length, set, replicate}
 use Rattle.laws.specs.Got.{got}
 use Rattle.laws.specs.Places.{gathered}
+use Rattle.refusals.specs.Refusal.{Told, refuses, tells}
 use Rattle.values.specs.Ident.{identAt, identOctets}
 use Rattle.groups.specs.Groups.{groupsAt, groups}
 use Rattle.values.specs.declared.ident.Ident.{Ident}
@@ -30,7 +31,7 @@ use Rattle.forms.specs.Form.{form1}
 use Rattle.sheet.specs.Size.{sheetMost}
 use Rattle.listings.specs.Listing.{listingMost, listedSheet, printedSheet}
 use Rattle.nightly.specs.Record.{wroteSheet}
-use Rattle.calls.specs.Divert.{Told, refuses, passes, diverts, comes}
+use Rattle.calls.specs.Divert.{Course, passes, diverts, comes}
 use Rattle.requests.specs.Heard.{local, heard}
 use Rattle.requests.specs.Request.{activation, interrogation, allNumbers, noForwarded, requestOf, argumentAt}
 use Rattle.requests.specs.Sent.{requestOctets}
@@ -54,7 +55,7 @@ pub data Sample : Type 0 where
   told : (identifier : ℤ) (operation : ℕ) → List ℕ → Reply → Sample
   lists-entries : List ℕ → (at end : ℕ) → List Entry → Sample
   arrives : (access : List ℕ) → Table → List ℕ → (reply : List ℕ) → (next : Table) → Sample
-  diverts-to : (access : List ℕ) → Table → (call : List ℕ) → Told → (counter option : ℕ) → Sample
+  diverts-to : (access : List ℕ) → Table → (call : List ℕ) → Told Course → (counter option : ℕ) → Sample
   writes-sheet : (access : List ℕ) → Table → (sheet : List ℕ) → Sample
   prints-sheet : (sheet text : List ℕ) → Sample
   fills-listing : (sheet : List ℕ) → Sample
@@ -198,11 +199,11 @@ samples =
     (0xA3 ∷ 0x06 ∷ 0x02 ∷ 0x01 ∷ 0x01 ∷ 0x02 ∷ 0x01 ∷ 0x00 ∷ []) (withLast 1 freshTable)
     ∷ arrives sampleAccess freshTable [] (0xA4 ∷ 0x05 ∷ 0x05 ∷ 0x00 ∷ 0x80 ∷ 0x01 ∷ 0x02 ∷ []) freshTable
     -- "counter 4, limit 5: diverted, counter 5"; "counter 5: refusal 6; no instance: not diverted"
-    ∷ diverts-to sampleAccess activatedTable (callWith 4 0) (diverts 2 0) 5 0
+    ∷ diverts-to sampleAccess activatedTable (callWith 4 0) (tells (diverts 2 0)) 5 0
     ∷ diverts-to sampleAccess activatedTable (callWith 5 0) (refuses 6) 0 0
-    ∷ diverts-to sampleAccess freshTable (callWith 5 0) passes 0 0
+    ∷ diverts-to sampleAccess freshTable (callWith 5 0) (tells passes) 0 0
     -- "option 2 received, profile 1, counter 1: 1"
-    ∷ diverts-to (accessWith 1) activatedTable (callWith 1 2) (diverts 2 1) 2 1
+    ∷ diverts-to (accessWith 1) activatedTable (callWith 1 2) (tells (diverts 2 1)) 2 1
     -- the table that the activation left as a night sheet, its listing, and that of no sheet
     ∷ writes-sheet sampleAccess activatedTable nightSheet
     ∷ prints-sheet nightSheet nightListing

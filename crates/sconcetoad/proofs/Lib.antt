@@ -1,4 +1,4 @@
 pub mod Saids
-pub mod Tolds
+pub mod ListTolds
 pub mod Diversions
 pub mod OnlyBorder

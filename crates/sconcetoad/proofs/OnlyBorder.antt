@@ -8,10 +8,10 @@ use Rattle.laws.proofs.Picks.{both}
 use Rattle.lists.specs.Listed.{PutList}
 use Rattle.lists.specs.declared.entries.Entries.{Entries}
 use Rattle.sconcetoad.specs.Said.{SaidBy}
-use Rattle.sconcetoad.specs.Told.{ToldBy}
+use Rattle.sconcetoad.specs.ListTold.{ListToldBy}
 use Rattle.sconcetoad.specs.Arrival.{ArrivedBy}
 use Rattle.sconcetoad.specs.declared.said.Said.{Said}
-use Rattle.sconcetoad.specs.declared.list.Told.{Told}
+use Rattle.sconcetoad.specs.declared.list.ListTold.{ListTold}
 use Rattle.sconcetoad.specs.declared.arrival.Arrival.{Arrival}
 use Rattle.sconcetoad.specs.Diversion.{DivertedBy, CopiesOriginal}
 use Rattle.sconcetoad.specs.declared.diversion.Diverted.{Diverted}
@@ -25,7 +25,8 @@ use Rattle.exchange.specs.declared.table.Table.{Table}
 pub only-sconcetoad-said : (s : List ℕ) {a b : Said} → SaidBy s a → SaidBy s b → a ≡ b
 only-sconcetoad-said s = both
 
-pub only-sconcetoad-list : (s : List ℕ) (identifier : ℤ) {a b : Told} → ToldBy s identifier a → ToldBy s identifier b → a ≡ b
+pub only-sconcetoad-list :
+    (s : List ℕ) (identifier : ℤ) {a b : ListTold} → ListToldBy s identifier a → ListToldBy s identifier b → a ≡ b
 only-sconcetoad-list s identifier = both
 
 pub only-sconcetoad-put-list :

@@ -4,14 +4,10 @@ use mathlib.Core.Path.{_≡_}
 use mathlib.Core.List.{List}
 use lib.ListN.{length}
 use Rattle.laws.specs.Over.{over}
-use Rattle.exchange.specs.Arrive.{Told, refuses, answers, done}
+use Rattle.refusals.specs.Refusal.{refusalIn}
+use Rattle.exchange.specs.Arrive.{done}
 use Rattle.exchange.specs.declared.table.Table.{Table}
 use Rattle.sconcetoad.specs.declared.arrival.Arrival.{Arrival}
-
--- the number of a refusal, 0 for an answer
-abbrev pub refusalIn : Told → ℕ
-refusalIn (refuses number) = number
-refusalIn (answers number values whose) = 0
 
 -- what `sconcetoad_arrive` promises: the refusal, how many octets the reply has, the next table, and every octet of the output
 pub record ArrivedBy (access : List ℕ) (t : Table) (s xs : List ℕ) (r : Arrival) (ys : List ℕ) : Type 0 where

@@ -1,5 +1,5 @@
 pub mod Said
-pub mod Told
+pub mod ListTold
 pub mod Arrival
 pub mod Diversion
 pub mod Sheets

@@ -1,12 +1,13 @@
 // The exchange, as C drives it.
-use exchange::Outcome;
-use exchange::Refusal;
+use exchange::Arriving;
 use exchange::Table;
 use exchange::fresh_table;
+use refusals::refusal_no;
 ghost use mathlib.Core.Path.{_≡_};
+ghost use Rattle.refusals.specs.Refusal.{refusalIn};
 ghost use Rattle.exchange.specs.Table.{FreshTable};
-ghost use Rattle.exchange.specs.Arrive.{toldBy};
-ghost use Rattle.sconcetoad.specs.Arrival.{refusalIn, ArrivedBy};
+ghost use Rattle.exchange.specs.Arrive.{arrivingTold};
+ghost use Rattle.sconcetoad.specs.Arrival.{ArrivedBy};
 
 // The number of the refusal, 0 where the component is answered; how many octets the reply has; and the next table.
 #[repr(C)]
@@ -24,18 +25,12 @@ pub extern "C" fn sconcetoad_fresh_table() -> Table
     fresh_table()
 }
 
-// The numbers of document 01, "Local refusals".
-fn refusal_no(outcome: Outcome) -> u8
-    ensures { λ r. ⌜ r ≡ refusalIn (toldBy outcome) ⌝ }
+fn refusal_in(outcome: Arriving) -> u8
+    ensures { λ r. ⌜ r ≡ refusalIn (arrivingTold outcome) ⌝ }
 {
     match outcome {
-        Outcome::Refuses { refusal } => match refusal {
-            Refusal::ShortOutput => 1,
-            Refusal::LongComponent => 2,
-            Refusal::BadProfile => 3,
-            Refusal::BadTable => 4,
-        },
-        Outcome::Answers { answer: _ } => 0,
+        Arriving::Refuses { refusal } => refusal_no(refusal),
+        Arriving::Answers { answer: _ } => 0,
     }
 }
 
@@ -53,7 +48,7 @@ pub extern "C" fn sconcetoad_arrive(
     let outcome = arrived.outcome;
     let table = arrived.table;
     Arrival {
-        refusal: refusal_no(outcome),
+        refusal: refusal_in(outcome),
         count: arrived.count,
         table,
     }

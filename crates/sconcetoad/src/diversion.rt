@@ -1,16 +1,16 @@
 // Calls, as C puts them.
+use calls::Coming;
 use calls::Notice;
 use calls::Onward;
-use calls::Outcome;
 use calls::Reason;
-use calls::Refusal;
 use calls::divert;
 use calls::original;
 use exchange::Table;
 use octets::put_all;
+use refusals::refusal_no;
 ghost use mathlib.Core.Path.{_≡_};
 ghost use Rattle.calls.specs.Onward.{reasonNo};
-ghost use Rattle.calls.specs.Divert.{noticeNo, refusalNo};
+ghost use Rattle.calls.specs.Divert.{noticeNo};
 ghost use Rattle.sconcetoad.specs.Diversion.{DivertedBy, CopiesOriginal};
 
 // The numbers of the refusal, of the reason and of the notice, each 0 where there is none; and the call that goes on.
@@ -20,17 +20,6 @@ pub struct Diverted {
     pub reason: u8,
     pub notice: u8,
     pub call: Onward,
-}
-
-fn refusal_no(refusal: Refusal) -> u8
-    ensures { λ r. ⌜ r ≡ refusalNo refusal ⌝ }
-{
-    match refusal {
-        Refusal::BadProfile => 3,
-        Refusal::BadTable => 4,
-        Refusal::BadCall => 5,
-        Refusal::LimitReached => 6,
-    }
 }
 
 fn reason_no(reason: Reason) -> u8
@@ -62,19 +51,19 @@ pub extern "C" fn sconcetoad_divert(table: Table, access: &[u8], call: &[u8]) ->
     let outcome = diversion.outcome;
     let call = diversion.call;
     match outcome {
-        Outcome::Refuses { refusal } => Diverted {
+        Coming::Refuses { refusal } => Diverted {
             refusal: refusal_no(refusal),
             reason: 0,
             notice: 0,
             call,
         },
-        Outcome::Passes => Diverted {
+        Coming::Passes => Diverted {
             refusal: 0,
             reason: 0,
             notice: 0,
             call,
         },
-        Outcome::Diverts { reason, notice } => Diverted {
+        Coming::Diverts { reason, notice } => Diverted {
             refusal: 0,
             reason: reason_no(reason),
             notice: notice_no(notice),

@@ -11,7 +11,7 @@ pub use arrival::sconcetoad_fresh_table;
 pub use diversion::Diverted;
 pub use diversion::sconcetoad_divert;
 pub use diversion::sconcetoad_original;
-pub use list::Told;
+pub use list::ListTold;
 pub use list::sconcetoad_list;
 pub use list::sconcetoad_put_list;
 pub use said::Said;

@@ -8,41 +8,41 @@ use lists::put_list;
 use requests::INTERROGATION;
 ghost use mathlib.Core.Path.{_≡_};
 ghost use Rattle.lists.specs.Listed.{PutList};
-ghost use Rattle.sconcetoad.specs.Told.{nothingTold, ToldBy};
+ghost use Rattle.sconcetoad.specs.ListTold.{nothingListed, ListToldBy};
 
 // What a reply lists: `lists` is 1 where it is a list, and then `list` holds its entries.
 #[repr(C)]
-pub struct Told {
+pub struct ListTold {
     pub lists: u8,
     pub list: Entries,
 }
 
-fn nothing_told() -> Told
-    ensures { λ r. ⌜ r ≡ nothingTold ⌝ }
+fn nothing_listed() -> ListTold
+    ensures { λ r. ⌜ r ≡ nothingListed ⌝ }
 {
     let list = no_entries();
-    Told { lists: 0, list }
+    ListTold { lists: 0, list }
 }
 
 // What `component` lists to the end whose interrogation has this identifier.
 #[no_mangle]
-pub extern "C" fn sconcetoad_list(component: &[u8], identifier: i16) -> Told
-    ensures { λ r. ⌜ ToldBy (now (component .entry)) identifier r ⌝ }
+pub extern "C" fn sconcetoad_list(component: &[u8], identifier: i16) -> ListTold
+    ensures { λ r. ⌜ ListToldBy (now (component .entry)) identifier r ⌝ }
 {
     match reply_to(component, identifier, INTERROGATION) {
-        Reply::Dropped => nothing_told(),
-        Reply::Rejected => nothing_told(),
-        Reply::Failed { value: _ } => nothing_told(),
-        Reply::Done => nothing_told(),
+        Reply::Dropped => nothing_listed(),
+        Reply::Rejected => nothing_listed(),
+        Reply::Failed { value: _ } => nothing_listed(),
+        Reply::Done => nothing_listed(),
         Reply::Listed { at, end } => {
             let read = entries_at(component, at, end);
             if !read.ok {
-                return nothing_told();
+                return nothing_listed();
             }
             let list = read.list;
-            Told { lists: 1, list }
+            ListTold { lists: 1, list }
         }
-        Reply::Wrong => nothing_told(),
+        Reply::Wrong => nothing_listed(),
     }
 }
 

@@ -3,10 +3,11 @@ use exchange::Table;
 use listings::list_sheet;
 use nightly::read_sheet;
 use nightly::write_sheet;
-use sheet::Outcome;
-use sheet::Refusal;
+use refusals::refusal_no;
+use sheet::Handling;
 ghost use mathlib.Core.Path.{_≡_};
-ghost use Rattle.sheet.specs.Outcome.{outcomeNo};
+ghost use Rattle.refusals.specs.Refusal.{refusalIn};
+ghost use Rattle.sheet.specs.Handling.{handlingTold};
 ghost use Rattle.sconcetoad.specs.Sheets.{SheetWrittenBy, SheetTakenBy, SheetListedBy};
 
 // The number of the refusal, 0 where there is none; and how many octets were written.
@@ -23,18 +24,12 @@ pub struct SheetTaken {
     pub table: Table,
 }
 
-// The numbers of document 01, "Local refusals".
-fn refusal_no(outcome: Outcome) -> u8
-    ensures { λ r. ⌜ r ≡ outcomeNo outcome ⌝ }
+fn refusal_in(outcome: Handling) -> u8
+    ensures { λ r. ⌜ r ≡ refusalIn (handlingTold outcome) ⌝ }
 {
     match outcome {
-        Outcome::Refuses { refusal } => match refusal {
-            Refusal::ShortOutput => 1,
-            Refusal::BadProfile => 3,
-            Refusal::BadTable => 4,
-            Refusal::BadSheet => 9,
-        },
-        Outcome::Done => 0,
+        Handling::Refuses { refusal } => refusal_no(refusal),
+        Handling::Done => 0,
     }
 }
 
@@ -50,7 +45,7 @@ pub extern "C" fn sconcetoad_write_sheet(
     let written = write_sheet(table, access, out);
     let outcome = written.outcome;
     SheetWritten {
-        refusal: refusal_no(outcome),
+        refusal: refusal_in(outcome),
         count: written.count,
     }
 }
@@ -64,7 +59,7 @@ pub extern "C" fn sconcetoad_read_sheet(access: &[u8], sheet: &[u8]) -> SheetTak
     let outcome = read.outcome;
     let table = read.table;
     SheetTaken {
-        refusal: refusal_no(outcome),
+        refusal: refusal_in(outcome),
         table,
     }
 }
@@ -77,7 +72,7 @@ pub extern "C" fn sconcetoad_list_sheet(sheet: &[u8], out: &mut [u8]) -> SheetWr
     let written = list_sheet(sheet, out);
     let outcome = written.outcome;
     SheetWritten {
-        refusal: refusal_no(outcome),
+        refusal: refusal_in(outcome),
         count: written.count,
     }
 }

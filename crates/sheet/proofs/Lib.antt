@@ -11,4 +11,4 @@ pub mod Trips
 pub mod SheetTrips
 pub mod Accepted
 pub mod AcceptedSheets
-pub mod Outcomes
+pub mod Handlings

@@ -2,5 +2,5 @@ pub mod Size
 pub mod Instance
 pub mod Sheet
 pub mod Formed
-pub mod Outcome
+pub mod Handling
 pub mod Reading

@@ -10,6 +10,5 @@ pub use form::opening_of;
 pub use form::sheet_form;
 pub use read::InstanceRead;
 pub use read::instance_at;
-pub use record::Outcome;
-pub use record::Refusal;
+pub use record::Handling;
 pub use record::Written;

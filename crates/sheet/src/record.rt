@@ -1,18 +1,14 @@
 // What is answered where night sheets are written, read and listed (document 01, "Local refusals").
-pub enum Refusal {
-    ShortOutput,
-    BadProfile,
-    BadTable,
-    BadSheet,
-}
+use refusals::Refusal;
 
-pub enum Outcome {
+// What comes of it: a refusal, or it is done.
+pub enum Handling {
     Refuses { refusal: Refusal },
     Done,
 }
 
 // How many octets were written.
 pub struct Written {
-    pub outcome: Outcome,
+    pub outcome: Handling,
     pub count: usize,
 }

@@ -1,25 +1,16 @@
 // What is printed of a call: what becomes of it, and the original number that it hands on.
+use crate::said::refusal_digit;
 use crate::say;
+use calls::Coming;
 use calls::Diversion;
 use calls::Notice;
 use calls::Onward;
-use calls::Outcome;
 use calls::Reason;
-use calls::Refusal;
 use calls::divert;
 use calls::original;
 use exchange::Table;
 use numbers::Address;
 use numbers::Number;
-
-fn refusal_digit(refusal: Refusal) -> u8 {
-    match refusal {
-        Refusal::BadProfile => b'3',
-        Refusal::BadTable => b'4',
-        Refusal::BadCall => b'5',
-        Refusal::LimitReached => b'6',
-    }
-}
 
 fn reason_digit(reason: Reason) -> u8 {
     match reason {
@@ -84,15 +75,15 @@ fn say_original(digits: &[u8]) {
 fn say_diversion(diversion: Diversion) -> bool {
     let outcome = diversion.outcome;
     match outcome {
-        Outcome::Refuses { refusal } => {
+        Coming::Refuses { refusal } => {
             say::refused(refusal_digit(refusal));
             false
         }
-        Outcome::Passes => {
+        Coming::Passes => {
             say::text(b"passed");
             false
         }
-        Outcome::Diverts { reason, notice } => {
+        Coming::Diverts { reason, notice } => {
             say_diverted(reason, notice);
             let onward = diversion.call;
             say_onward(onward);

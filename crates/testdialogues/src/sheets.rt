@@ -5,6 +5,7 @@ use crate::lent::MARGIN;
 use crate::lent::OUTPUTMOST;
 use crate::lent::kept;
 use crate::lent::say_lent;
+use crate::said::refusal_digit;
 use crate::say;
 use crate::tables::say_table;
 use check::same;
@@ -12,27 +13,17 @@ use exchange::Table;
 use listings::list_sheet;
 use nightly::read_sheet;
 use nightly::write_sheet;
-use sheet::Outcome;
-use sheet::Refusal;
+use sheet::Handling;
 ghost use Prim.Native.Nat.{_≤_};
 
 // The most octets of a sheet.
 const SHEETMOST: usize = 1613;
 
-fn refusal_digit(refusal: Refusal) -> u8 {
-    match refusal {
-        Refusal::ShortOutput => b'1',
-        Refusal::BadProfile => b'3',
-        Refusal::BadTable => b'4',
-        Refusal::BadSheet => b'9',
-    }
-}
-
 // The refusal's digit, or 0.
-fn digit_of(outcome: Outcome) -> u8 {
+fn digit_of(outcome: Handling) -> u8 {
     match outcome {
-        Outcome::Refuses { refusal } => refusal_digit(refusal),
-        Outcome::Done => 0,
+        Handling::Refuses { refusal } => refusal_digit(refusal),
+        Handling::Done => 0,
     }
 }
 

@@ -5,7 +5,7 @@ use Rattle.forms.specs.Form.{form1}
 use Rattle.sheet.specs.Size.{sheetMost}
 use Rattle.sheet.specs.Sheet.{sheetOctets}
 use Rattle.nightly.specs.Instances.{instancesOf}
-use Rattle.sheet.specs.declared.record.Refusal.the-variants.{ShortOutput, BadProfile, BadTable}
+use Rattle.refusals.specs.declared.refusal.Refusal.the-variants.{ShortOutput, BadProfile, BadTable}
 use Rattle.profile.specs.Access.{accessRead}
 use Rattle.profile.specs.declared.access.AccessRead.{AccessRead}
 use Rattle.lists.specs.Entries.{instancesMost}

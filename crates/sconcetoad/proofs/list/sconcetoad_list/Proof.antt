@@ -1,5 +1,5 @@
 use Rattle.answers.proofs.Numbers.{replies-is}
-use Rattle.sconcetoad.proofs.Tolds.{told-found, told-none}
+use Rattle.sconcetoad.proofs.ListTolds.{told-found, told-none}
 use Rattle.lists.specs.Entries.{entriesFrom}
 use mir.Facts.{toZ-ofZ}
 use mathlib.Core.Path.{sym, _∙_}
@@ -14,26 +14,26 @@ reply-to-requires c κs = search needs
 enum-told : tie.Need-enum-told
 enum-told c = search needs
 
-nothing-told-requires : tie.Need-nothing-told-requires
-nothing-told-requires c κs = search needs
+nothing-listed-requires : tie.Need-nothing-listed-requires
+nothing-listed-requires c κs = search needs
 
 enum-told-2 : tie.Need-enum-told-2
 enum-told-2 c = search needs
 
-nothing-told-requires-2 : tie.Need-nothing-told-requires-2
-nothing-told-requires-2 c κs = search needs
+nothing-listed-requires-2 : tie.Need-nothing-listed-requires-2
+nothing-listed-requires-2 c κs = search needs
 
 enum-told-3 : tie.Need-enum-told-3
 enum-told-3 c = search needs
 
-nothing-told-requires-3 : tie.Need-nothing-told-requires-3
-nothing-told-requires-3 c κs = search needs
+nothing-listed-requires-3 : tie.Need-nothing-listed-requires-3
+nothing-listed-requires-3 c κs = search needs
 
 enum-told-4 : tie.Need-enum-told-4
 enum-told-4 c = search needs
 
-nothing-told-requires-4 : tie.Need-nothing-told-requires-4
-nothing-told-requires-4 c κs = search needs
+nothing-listed-requires-4 : tie.Need-nothing-listed-requires-4
+nothing-listed-requires-4 c κs = search needs
 
 enum-known-at : tie.Need-enum-known-at
 enum-known-at c = search needs
@@ -41,37 +41,37 @@ enum-known-at c = search needs
 entries-at-requires : tie.Need-entries-at-requires
 entries-at-requires c κs = search needs
 
-nothing-told-requires-5 : tie.Need-nothing-told-requires-5
-nothing-told-requires-5 c κs = search needs
+nothing-listed-requires-5 : tie.Need-nothing-listed-requires-5
+nothing-listed-requires-5 c κs = search needs
 
 returns : tie.Need-returns
 returns c = let found = sym (replies-is (rw (toZ-ofZ (c .before .before .before .before .before .before .before .before .before .fits .identifier)) at (c .before .before .before .before .before .before .before .reply-to .ensures))) ∙ c .before .before .before .before .before .at .given .1 in
-    rw found (c .nothing-told5 .ensures ∙ told-none (entriesFrom _ _ _ _) _ (c .before .before .before .entries-at .ensures) (not-true _ (c .before .if1 .taken)))
+    rw found (c .nothing-listed5 .ensures ∙ told-none (entriesFrom _ _ _ _) _ (c .before .before .before .entries-at .ensures) (not-true _ (c .before .if1 .taken)))
 
 enum-told-5 : tie.Need-enum-told-5
 enum-told-5 c = search needs
 
-nothing-told-requires-6 : tie.Need-nothing-told-requires-6
-nothing-told-requires-6 c κs = search needs
+nothing-listed-requires-6 : tie.Need-nothing-listed-requires-6
+nothing-listed-requires-6 c κs = search needs
 
 returns-2 : tie.Need-returns-2
-returns-2 c = rw (sym (replies-is (rw (toZ-ofZ (c .before .before .before .before .before .fits .identifier)) at (c .before .before .before .reply-to .ensures))) ∙ c .before .enum-told .given .1) (c .nothing-told .ensures)
+returns-2 c = rw (sym (replies-is (rw (toZ-ofZ (c .before .before .before .before .before .fits .identifier)) at (c .before .before .before .reply-to .ensures))) ∙ c .before .enum-told .given .1) (c .nothing-listed .ensures)
 
 returns-3 : tie.Need-returns-3
-returns-3 c = rw (sym (replies-is (rw (toZ-ofZ (c .before .before .before .before .before .fits .identifier)) at (c .before .before .before .reply-to .ensures))) ∙ c .before .enum-told2 .given .1) (c .nothing-told2 .ensures)
+returns-3 c = rw (sym (replies-is (rw (toZ-ofZ (c .before .before .before .before .before .fits .identifier)) at (c .before .before .before .reply-to .ensures))) ∙ c .before .enum-told2 .given .1) (c .nothing-listed2 .ensures)
 
 returns-4 : tie.Need-returns-4
-returns-4 c = rw (sym (replies-is (rw (toZ-ofZ (c .before .before .before .before .before .fits .identifier)) at (c .before .before .before .reply-to .ensures))) ∙ c .before .enum-told3 .given .1) (c .nothing-told3 .ensures)
+returns-4 c = rw (sym (replies-is (rw (toZ-ofZ (c .before .before .before .before .before .fits .identifier)) at (c .before .before .before .reply-to .ensures))) ∙ c .before .enum-told3 .given .1) (c .nothing-listed3 .ensures)
 
 returns-5 : tie.Need-returns-5
-returns-5 c = rw (sym (replies-is (rw (toZ-ofZ (c .before .before .before .before .before .fits .identifier)) at (c .before .before .before .reply-to .ensures))) ∙ c .before .enum-told4 .given .1) (c .nothing-told4 .ensures)
+returns-5 c = rw (sym (replies-is (rw (toZ-ofZ (c .before .before .before .before .before .fits .identifier)) at (c .before .before .before .reply-to .ensures))) ∙ c .before .enum-told4 .given .1) (c .nothing-listed4 .ensures)
 
 returns-6 : tie.Need-returns-6
 returns-6 c = let found = sym (replies-is (rw (toZ-ofZ (c .before .before .before .before .before .before .before .before .before .fits .identifier)) at (c .before .before .before .before .before .before .before .reply-to .ensures))) ∙ c .before .before .before .before .before .at .given .1 in
     rw found (told-found (entriesFrom _ _ _ _) _ (c .before .before .before .entries-at .ensures) (not-false _ (c .before .if1 .left)))
 
 returns-7 : tie.Need-returns-7
-returns-7 c = rw (sym (replies-is (rw (toZ-ofZ (c .before .before .before .before .before .fits .identifier)) at (c .before .before .before .reply-to .ensures))) ∙ c .before .enum-told5 .given .1) (c .nothing-told6 .ensures)
+returns-7 c = rw (sym (replies-is (rw (toZ-ofZ (c .before .before .before .before .before .fits .identifier)) at (c .before .before .before .reply-to .ensures))) ∙ c .before .enum-told5 .given .1) (c .nothing-listed6 .ensures)
 
 pub sconcetoad-list-spec : {M : Type 1} → statement M
 sconcetoad-list-spec =
@@ -79,19 +79,19 @@ sconcetoad-list-spec =
     (tie.spec
     reply-to-requires
     enum-told
-    nothing-told-requires
+    nothing-listed-requires
     enum-told-2
-    nothing-told-requires-2
+    nothing-listed-requires-2
     enum-told-3
-    nothing-told-requires-3
+    nothing-listed-requires-3
     enum-told-4
-    nothing-told-requires-4
+    nothing-listed-requires-4
     enum-known-at
     entries-at-requires
-    nothing-told-requires-5
+    nothing-listed-requires-5
     returns
     enum-told-5
-    nothing-told-requires-6
+    nothing-listed-requires-6
     returns-2
     returns-3
     returns-4

@@ -2,7 +2,7 @@ use Rattle.laws.proofs.Parts.{unmapped}
 use Rattle.profile.proofs.Records.{access-good}
 use Rattle.profile.specs.declared.access.AccessRead.{AccessRead}
 use Rattle.exchange.proofs.Arrivals.{done-short, done-long, done-profile, done-table, done-answers, refused-arrives, step-fits, answered-arrives}
-use Rattle.exchange.specs.declared.arrive.Refusal.the-variants.{ShortOutput, LongComponent, BadProfile, BadTable}
+use Rattle.refusals.specs.declared.refusal.Refusal.the-variants.{ShortOutput, LongComponent, BadProfile, BadTable}
 use Rattle.exchange.proofs.Questions.{question-procedure}
 use Rattle.exchange.proofs.Steps.{step-of}
 use Rattle.exchange.specs.Step.{step, Stepping}
