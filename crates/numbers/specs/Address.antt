@@ -15,7 +15,7 @@ use Rattle.octets.specs.Head.{headAt}
 use Rattle.octets.specs.Element.{element}
 use Rattle.octets.specs.declared.head.Head.{Head}
 use Rattle.octets.specs.declared.head.Head.the-variants as head
-use Rattle.numbers.specs.Number.{most, padded, fair, numberOf, numberAt, tidyNumber, numberGood, numberOctets}
+use Rattle.numbers.specs.Number.{most, padded, fair, blankNumber, numberAt, tidyNumber, numberGood, numberOctets}
 use Rattle.numbers.specs.declared.number.Number.{Number}
 use Rattle.numbers.specs.declared.address.Sub.{Sub}
 use Rattle.numbers.specs.declared.address.SubRead.{SubRead}
@@ -29,6 +29,9 @@ subOf ws = record { user = 0; count = length ws; octets = padded ws }
 
 abbrev pub userSub : Sub
 userSub = record { user = 1; count = 0; octets = padded [] }
+
+abbrev pub blankSub : Sub
+blankSub = subOf []
 
 -- an octet string of 1 to 20
 unfoldable pub octetsIn : List ℕ → ℕ → ℕ → Got Sub
@@ -44,11 +47,11 @@ subIn s end head.Bad = wrong
 
 -- what stands between the number and the end of an address
 unfoldable pub subAt : ℕ → List ℕ → ℕ → ℕ → Got Sub
-subAt depth s at end = pick (eqb at end) (got (subOf []) end) (subIn s end (headAt depth s at end))
+subAt depth s at end = pick (eqb at end) (got blankSub end) (subIn s end (headAt depth s at end))
 
 abbrev pub subRead : Got Sub → SubRead
 subRead (got sub next) = record { ok = true; sub = sub }
-subRead wrong = record { ok = false; sub = subOf [] }
+subRead wrong = record { ok = false; sub = blankSub }
 
 -- a forwarded-to address: where the subaddress is user-specified, its octets are not kept
 abbrev pub forwardedOf : Number → Sub → Forwarded
@@ -56,6 +59,13 @@ forwardedOf number sub = record {
   address = record { number = number; subcount = sub .count; sub = sub .octets };
   user = sub .user;
 }
+
+-- the record of no address, and that of none to forward to
+abbrev pub blankForwarded : Forwarded
+blankForwarded = forwardedOf blankNumber blankSub
+
+abbrev pub blankAddress : Address
+blankAddress = blankForwarded .address
 
 abbrev pub addressIn : ℕ → List ℕ → Head → Got Forwarded
 addressIn depth s (head.Is tag start stop next) =
@@ -72,7 +82,7 @@ addressAt depth s at end = addressIn depth s (headAt depth s at end)
 -- what a reader answers
 abbrev pub addressRead : Got Forwarded → AddressRead
 addressRead (got to next) = record { ok = true; to = to; next = next }
-addressRead wrong = record { ok = false; to = forwardedOf (numberOf 0 0 []) (subOf []); next = 0 }
+addressRead wrong = record { ok = false; to = blankForwarded; next = 0 }
 
 -- ---- addresses that a table holds, and how they are written
 
@@ -97,6 +107,10 @@ subOctets ws = pick (eqb (length ws) 0) [] (element 0x04 ws)
 
 unfoldable pub addressOctets : Address → List ℕ
 addressOctets a = element 0x30 (numberOctets (a .number) ++ subOctets (subOctetsOf a))
+
+-- what `blank_address` promises
+abbrev pub BlankAddress : Address → Type 0
+BlankAddress r = r ≡ blankAddress
 
 -- what `address_at` promises
 abbrev pub AddressAt : ℕ → List ℕ → ℕ → ℕ → AddressRead → Type 0

@@ -52,6 +52,10 @@ digitsGood cs = all (fair (length cs) ∷ allDigits cs ∷ [])
 abbrev pub numberOf : ℕ → ℕ → List ℕ → Number
 numberOf form kind cs = record { form = form; kind = kind; count = length cs; digits = padded cs }
 
+-- the record of no number
+abbrev pub blankNumber : Number
+blankNumber = numberOf 0 0 []
+
 -- a number of the digits from `start` up to `stop`
 unfoldable pub digitsIn : ℕ → ℕ → List ℕ → ℕ → ℕ → ℕ → Got Number
 digitsIn form kind s start stop next =
@@ -95,7 +99,7 @@ numberAt depth s at end = numberIn depth s (headAt depth s at end)
 -- what a reader answers
 abbrev pub numberRead : Got Number → NumberRead
 numberRead (got number next) = record { ok = true; number = number; next = next }
-numberRead wrong = record { ok = false; number = numberOf 0 0 []; next = 0 }
+numberRead wrong = record { ok = false; number = blankNumber; next = 0 }
 
 -- ---- numbers that a table holds, and how they are written
 
@@ -120,6 +124,10 @@ unfoldable pub numberOctets : Number → List ℕ
 numberOctets n =
     pick (eqb (n .form) unknown) (element 0x80 (digitsOf n))
     (element 0xA1 (enumeratedOctets (n .kind) ++ element 0x12 (digitsOf n)))
+
+-- what `blank_number` promises
+abbrev pub BlankNumber : Number → Type 0
+BlankNumber r = r ≡ blankNumber
 
 -- what `number_at` promises
 abbrev pub NumberAt : ℕ → List ℕ → ℕ → ℕ → NumberRead → Type 0

@@ -1,6 +1,7 @@
 // Addresses: a number and perhaps a subaddress (document 01, "Numbers").
 use crate::number::MOST;
 use crate::number::Number;
+use crate::number::blank_number;
 use crate::number::number_at;
 use crate::number::number_good;
 use crate::number::padded_of;
@@ -10,14 +11,14 @@ ghost use mathlib.Core.Path.{_≡_};
 ghost use Prim.Native.Nat.{_≤_};
 ghost use lib.ListN.{length};
 ghost use Rattle.laws.specs.Got.{got, wrong};
-ghost use Rattle.numbers.specs.Address.{octetsIn, subAt, subRead, userSub, addressRead, AddressAt, AddressGood};
+ghost use Rattle.numbers.specs.Address.{octetsIn, subAt, subRead, blankSub, userSub, addressRead, BlankAddress, AddressAt, AddressGood};
 
 // An address: `subcount` octets of subaddress, none where it is 0. Places past the count carry no meaning.
 #[repr(C)]
 pub struct Address {
     pub number: Number,
     pub subcount: u8,
-    pub sub: [u8; 20],
+    pub sub: [u8; MOST],
 }
 
 // A forwarded-to address as it was asked for; `user` is 1 where its subaddress is a user-specified one, which is not kept.
@@ -38,7 +39,7 @@ pub struct AddressRead {
 pub(crate) struct Sub {
     user: u8,
     count: u8,
-    octets: [u8; 20],
+    octets: [u8; MOST],
 }
 
 pub(crate) struct SubRead {
@@ -46,16 +47,23 @@ pub(crate) struct SubRead {
     sub: Sub,
 }
 
+// No subaddress.
+fn blank_sub() -> Sub
+    ensures { λ r. ⌜ r ≡ blankSub ⌝ }
+{
+    Sub {
+        user: 0,
+        count: 0,
+        octets: [0; MOST],
+    }
+}
+
 fn no_sub() -> SubRead
     ensures { λ r. ⌜ r ≡ subRead wrong ⌝ }
 {
     SubRead {
         ok: false,
-        sub: Sub {
-            user: 0,
-            count: 0,
-            octets: [0; 20],
-        },
+        sub: blank_sub(),
     }
 }
 
@@ -66,11 +74,7 @@ fn sub_at(s: &[u8], at: usize, end: usize, depth: u8) -> SubRead
     if at == end {
         return SubRead {
             ok: true,
-            sub: Sub {
-                user: 0,
-                count: 0,
-                octets: [0; 20],
-            },
+            sub: blank_sub(),
         };
     }
     match head_at(s, at, end, depth) {
@@ -104,7 +108,7 @@ fn user_sub() -> SubRead
         sub: Sub {
             user: 1,
             count: 0,
-            octets: [0; 20],
+            octets: [0; MOST],
         },
     }
 }
@@ -132,22 +136,24 @@ fn octets_in(s: &[u8], start: usize, stop: usize) -> SubRead
     }
 }
 
+// The record of no address.
+pub fn blank_address() -> Address
+    ensures { λ r. ⌜ BlankAddress r ⌝ }
+{
+    Address {
+        number: blank_number(),
+        subcount: 0,
+        sub: [0; MOST],
+    }
+}
+
 fn no_address() -> AddressRead
     ensures { λ r. ⌜ r ≡ addressRead wrong ⌝ }
 {
     AddressRead {
         ok: false,
         to: Forwarded {
-            address: Address {
-                number: Number {
-                    form: 0,
-                    kind: 0,
-                    count: 0,
-                    digits: [0; 20],
-                },
-                subcount: 0,
-                sub: [0; 20],
-            },
+            address: blank_address(),
             user: 0,
         },
         next: 0,

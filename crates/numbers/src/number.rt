@@ -11,7 +11,7 @@ ghost use Prim.Native.Nat.{_≤_};
 ghost use lib.ListN.{length};
 ghost use mathlib.Core.List.{[]};
 ghost use Rattle.laws.specs.Got.{got, wrong};
-ghost use Rattle.numbers.specs.Number.{otherTag, padded, digitsIn, stringAt, publicIn, numberOf, other, numberRead, NumberAt, NumberGood};
+ghost use Rattle.numbers.specs.Number.{most, otherTag, padded, digitsIn, stringAt, publicIn, numberOf, other, numberRead, BlankNumber, NumberAt, NumberGood};
 
 // The most digits of a number, which are also the most octets of a subaddress, and the forms of its record.
 pub const MOST: usize = 20;
@@ -28,7 +28,7 @@ pub struct Number {
     pub form: u8,
     pub kind: u8,
     pub count: u8,
-    pub digits: [u8; 20],
+    pub digits: [u8; MOST],
 }
 
 // A number, and the place after its element; or `ok` is false.
@@ -58,13 +58,25 @@ fn other_tag(tag: u8) -> bool
 }
 
 // The octets of `s`, and zeros after them.
-pub(crate) fn padded_of(s: &[u8]) -> [u8; 20]
-    requires { ⌜ length (now s) ≤ 20 ⌝ }
+pub(crate) fn padded_of(s: &[u8]) -> [u8; MOST]
+    requires { ⌜ length (now s) ≤ most ⌝ }
     ensures { λ r. ⌜ r ≡ padded (now (s .entry)) ⌝ }
 {
-    let mut octets = [0u8; 20];
+    let mut octets = [0u8; MOST];
     put_all(&mut octets, 0, s);
     octets
+}
+
+// The record of no number.
+pub fn blank_number() -> Number
+    ensures { λ r. ⌜ BlankNumber r ⌝ }
+{
+    Number {
+        form: 0,
+        kind: 0,
+        count: 0,
+        digits: [0; MOST],
+    }
 }
 
 fn no_number() -> NumberRead
@@ -72,12 +84,7 @@ fn no_number() -> NumberRead
 {
     NumberRead {
         ok: false,
-        number: Number {
-            form: 0,
-            kind: 0,
-            count: 0,
-            digits: [0; 20],
-        },
+        number: blank_number(),
         next: 0,
     }
 }
@@ -184,7 +191,7 @@ fn other_number(next: usize) -> NumberRead
             form: OTHER,
             kind: 0,
             count: 0,
-            digits: [0; 20],
+            digits: [0; MOST],
         },
         next,
     }

@@ -4,13 +4,19 @@ use mathlib.Core.Path.{_≡_}
 use mathlib.Core.Bool.{Bool}
 use mathlib.Core.List.{List}
 use Rattle.laws.proofs.Picks.{both}
-use Rattle.numbers.specs.Number.{NumberAt, NumberGood, NumberSize, PutNumber}
-use Rattle.numbers.specs.Address.{AddressAt, AddressGood, AddressSize, PutAddress}
+use Rattle.numbers.specs.Number.{BlankNumber, NumberAt, NumberGood, NumberSize, PutNumber}
+use Rattle.numbers.specs.Address.{BlankAddress, AddressAt, AddressGood, AddressSize, PutAddress}
 use Rattle.numbers.specs.declared.number.Number.{Number}
 use Rattle.numbers.specs.declared.number.NumberRead.{NumberRead}
 use Rattle.numbers.specs.declared.address.Address.{Address}
 use Rattle.numbers.specs.declared.address.AddressRead.{AddressRead}
 use Rattle.laws.proofs.Over.{only-puts}
+
+pub only-blank-number : {a b : Number} → BlankNumber a → BlankNumber b → a ≡ b
+only-blank-number = both
+
+pub only-blank-address : {a b : Address} → BlankAddress a → BlankAddress b → a ≡ b
+only-blank-address = both
 
 pub only-number-good : (n : Number) {a b : Bool} → NumberGood n a → NumberGood n b → a ≡ b
 only-number-good n = both

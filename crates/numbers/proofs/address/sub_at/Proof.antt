@@ -7,9 +7,12 @@ use borrow.Author.Needs.{needs}
 use Rattle.numbers.proofs.address.sub_at.Statement.{statement}
 use Rattle.numbers.proofs.address.sub_at.Tie as tie
 
+blank-sub-requires : tie.Need-blank-sub-requires
+blank-sub-requires c κs = search needs
+
 returns : tie.Need-returns
 unfolding subAt
-returns c = rw (eq-eqb _ _ (c .if1 .taken))
+returns c = rw (eq-eqb _ _ (c .before .if1 .taken), c .blank-sub .ensures)
 
 head-at-requires : tie.Need-head-at-requires
 head-at-requires c κs = search needs
@@ -59,6 +62,7 @@ pub sub-at-spec : {M : Type 1} → statement M
 sub-at-spec =
     tie.close
     (tie.spec
+    blank-sub-requires
     returns
     head-at-requires
     enum-told
