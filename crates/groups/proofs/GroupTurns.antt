@@ -10,7 +10,8 @@ use native.Mathlib.Omega.{arith}
 use lib.ListN.{length, getD, set}
 use borrow.Author.Tests.{lt-ltb, le-ltb, ne-eqb}
 use Rattle.laws.specs.Over.{over, Wrote}
-use Rattle.groups.specs.Groups.{Found, found, nothing, groupsIn, told, groupsAt, groups, LastAt, groupsMost, groupsValue}
+use Rattle.groups.specs.Groups.{Found, found, nothing, groupsIn, told, groupsAt, groups}
+use Rattle.groups.specs.inner.Groups.{LastAt, groupsMost, groupsValue}
 use Rattle.groups.specs.declared.groups.Groups.the-variants.{Is, Large, Bad}
 use Rattle.groups.proofs.GroupLaws.{groups-last, groups-infront, groups-shortest, groups-one, groups-more}
 

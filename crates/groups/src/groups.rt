@@ -3,7 +3,8 @@ ghost use mathlib.Core.Path.{_≡_};
 ghost use Prim.Native.Nat.{_+_, _≤_, _<_};
 ghost use lib.ListN.{length};
 ghost use Rattle.laws.specs.Over.{Wrote};
-ghost use Rattle.groups.specs.Groups.{GroupsAt, PutGroups, LastAt, groups, groupsMost, groupsValue};
+ghost use Rattle.groups.specs.Groups.{GroupsAt, PutGroups, groups};
+ghost use Rattle.groups.specs.inner.Groups.{LastAt, groupsMost, groupsValue};
 
 // A number and the place after it; a number that 32 bits do not hold is only said to be one.
 pub enum Groups {

@@ -27,7 +27,8 @@ use Rattle.octets.proofs.Within.{Within, within}
 use Rattle.numbers.proofs.Goods.{form-choice}
 use Rattle.numbers.specs.Number.{most, unknown, public, padded, digitsGood, digitsOf, numberGood, digitsIn, valueOf, fair, stringOf, stringAt, publicIn, otherTag, numberIn, numberAt, numberRead}
 use Rattle.codes.specs.Digits.{allDigits, typeGood}
-use Rattle.numbers.specs.Address.{octetsIn, subAt, subRead, forwardedOf, addressIn, addressAt, addressRead}
+use Rattle.numbers.specs.Address.{octetsIn, subAt, forwardedOf, addressIn, addressAt, addressRead}
+use Rattle.numbers.specs.inner.Address.{subRead}
 use Rattle.numbers.specs.declared.number.Number.{Number}
 use Rattle.numbers.specs.declared.number.NumberRead.{NumberRead}
 use Rattle.numbers.specs.declared.address.Sub.{Sub}

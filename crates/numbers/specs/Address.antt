@@ -18,7 +18,6 @@ use Rattle.octets.specs.declared.head.Head.the-variants as head
 use Rattle.numbers.specs.Number.{most, padded, fair, blankNumber, numberAt, tidyNumber, numberGood, numberOctets}
 use Rattle.numbers.specs.declared.number.Number.{Number}
 use Rattle.numbers.specs.declared.address.Sub.{Sub}
-use Rattle.numbers.specs.declared.address.SubRead.{SubRead}
 use Rattle.numbers.specs.declared.address.Address.{Address}
 use Rattle.numbers.specs.declared.address.Forwarded.{Forwarded}
 use Rattle.numbers.specs.declared.address.AddressRead.{AddressRead}
@@ -48,10 +47,6 @@ subIn s end head.Bad = wrong
 -- what stands between the number and the end of an address
 unfoldable pub subAt : ℕ → List ℕ → ℕ → ℕ → Got Sub
 subAt depth s at end = pick (eqb at end) (got blankSub end) (subIn s end (headAt depth s at end))
-
-abbrev pub subRead : Got Sub → SubRead
-subRead (got sub next) = record { ok = true; sub = sub }
-subRead wrong = record { ok = false; sub = blankSub }
 
 -- a forwarded-to address: where the subaddress is user-specified, its octets are not kept
 abbrev pub forwardedOf : Number → Sub → Forwarded

@@ -1,3 +1,4 @@
 pub mod Word
 pub mod Head
 pub mod Element
+pub mod inner

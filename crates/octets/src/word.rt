@@ -2,7 +2,8 @@
 ghost use mathlib.Core.Path.{_≡_};
 ghost use Prim.Native.Nat.{_+_, _≤_};
 ghost use lib.ListN.{length};
-ghost use Rattle.octets.specs.Word.{WordAt, WordIn};
+ghost use Rattle.octets.specs.Word.{WordIn};
+ghost use Rattle.octets.specs.inner.Word.{WordAt};
 
 // The most octets whose number a machine word always holds.
 const WORDMOST: usize = 7;

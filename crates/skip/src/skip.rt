@@ -2,7 +2,8 @@
 use octets::Head;
 use octets::head_at;
 ghost use mathlib.Core.Path.{_≡_};
-ghost use Rattle.skip.specs.Skip.{skipElement, skipContents, SkipAt};
+ghost use Rattle.skip.specs.Skip.{skipElement, SkipAt};
+ghost use Rattle.skip.specs.inner.Skip.{skipContents};
 
 // The deepest that a skipped element goes, the outermost being 1.
 const SKIPDEPTH: u8 = 8;

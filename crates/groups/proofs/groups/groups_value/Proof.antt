@@ -2,7 +2,7 @@ use mathlib.Core.Path.{_≡_}
 use Prim.Native.Nat.{_+_, _-_, _≤_}
 use native.Mathlib.Omega.{arith}
 use borrow.Author.Needs.{needs}
-use Rattle.groups.specs.Groups.{groupsValue}
+use Rattle.groups.specs.inner.Groups.{groupsValue}
 use Rattle.groups.proofs.GroupTurns.{value-none, value-more, value-all, value-fits}
 use Rattle.groups.proofs.groups.groups_value.Statement.{statement}
 use Rattle.groups.proofs.groups.groups_value.Tie as tie

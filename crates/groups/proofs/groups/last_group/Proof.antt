@@ -1,7 +1,7 @@
 use Prim.Native.Nat.{_-_, _≤_}
 use native.Mathlib.Omega.{arith}
 use borrow.Author.Needs.{needs}
-use Rattle.groups.specs.Groups.{LastAt}
+use Rattle.groups.specs.inner.Groups.{LastAt}
 use Rattle.groups.proofs.GroupTurns.{last-none, last-more, last-here}
 use Rattle.groups.proofs.groups.last_group.Statement.{statement}
 use Rattle.groups.proofs.groups.last_group.Tie as tie

@@ -2,7 +2,7 @@ use mathlib.Core.Path.{_≡_}
 use Prim.Native.Nat.{_+_, _-_, _≤_}
 use native.Mathlib.Omega.{arith}
 use borrow.Author.Needs.{needs}
-use Rattle.octets.specs.Word.{WordAt}
+use Rattle.octets.specs.inner.Word.{WordAt}
 use Rattle.octets.proofs.Words.{word-none, word-more, word-fits}
 use Rattle.octets.proofs.word.word_at.Statement.{statement}
 use Rattle.octets.proofs.word.word_at.Tie as tie

@@ -3,7 +3,7 @@ use mathlib.Core.Path.{_≡_, refl, sym, _∙_}
 use native.Mathlib.Omega.{arith}
 use borrow.Author.Needs.{needs}
 use borrow.Author.Tests.{eq-eqb, ne-eqb}
-use Rattle.skip.specs.Skip.{skipContents}
+use Rattle.skip.specs.inner.Skip.{skipContents}
 use Rattle.octets.proofs.Within.{within}
 use Rattle.skip.proofs.Skips.{further, contents-end, contents-step, element-step}
 use borrow.Fn.Kinds.{In}
