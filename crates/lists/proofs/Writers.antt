@@ -18,7 +18,8 @@ use Rattle.numbers.specs.Number.{PutNumber}
 use Rattle.numbers.specs.Address.{PutAddress}
 use Rattle.requests.specs.Request.{interrogation}
 use Rattle.lists.specs.Entry.{fieldsOctets, entryOctets}
-use Rattle.lists.specs.Entries.{instancesMost, entrySize, entriesOctets}
+use Rattle.lists.specs.inner.Entry.{entrySize}
+use Rattle.lists.specs.Entries.{instancesMost, entriesOctets}
 use Rattle.lists.specs.Listed.{sequenceOctets, listOctets}
 use Rattle.lists.specs.declared.entry.Entry.{Entry}
 use Rattle.lists.proofs.Sizes.{octets-none, octets-more}

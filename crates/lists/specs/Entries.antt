@@ -18,10 +18,6 @@ use Rattle.lists.specs.declared.entries.EntriesRead.{EntriesRead}
 abbrev pub instancesMost : ℕ
 instancesMost = 8
 
--- the most octets of an entry
-abbrev pub entrySize : ℕ
-entrySize = 86
-
 -- the entries that a record counts
 abbrev pub listed : Entries → List Entry
 listed list = take (list .count) (list .entries)

@@ -1,6 +1,6 @@
 -- An entry of a list: one active instance (EN 300 207-1, clause 7.1, "IntResult"; document 01, "Replies" and "The customer end").
 use Prim.Native.Nat.{ℕ, _-_}
-use mathlib.Core.Bool.{Bool, true, false}
+use mathlib.Core.Bool.{Bool}
 use mathlib.Core.List.{List, [], _∷_, _++_}
 use lib.ListN.{length}
 use lib.Dec.{ltb, eqb}
@@ -19,7 +19,6 @@ use Rattle.numbers.specs.declared.address.Forwarded.{Forwarded}
 use Rattle.requests.specs.Part.{onlyIf}
 use Rattle.requests.specs.Heard.{argumentDepth}
 use Rattle.lists.specs.declared.entry.Entry.{Entry}
-use Rattle.lists.specs.declared.entry.EntryRead.{EntryRead}
 
 abbrev pub entryOf : Number → ℕ → ℕ → Address → Entry
 entryOf served service procedure address = record {
@@ -90,7 +89,3 @@ entryIn s head.Bad = wrong
 -- the entry at `at`, of the octets of s before `end`
 unfoldable pub entryAt : List ℕ → ℕ → ℕ → Got Entry
 entryAt s at end = entryIn s (headAt entryDepth s at end)
-
-abbrev pub entryRead : Got Entry → EntryRead
-entryRead (got e next) = record { ok = true; entry = e; next = next }
-entryRead wrong = record { ok = false; entry = noEntry; next = 0 }

@@ -1,3 +1,4 @@
 pub mod Entry
 pub mod Entries
 pub mod Listed
+pub mod inner

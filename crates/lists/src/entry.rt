@@ -13,7 +13,8 @@ ghost use mathlib.Core.Path.{_≡_};
 ghost use Rattle.laws.specs.Got.{wrong, andThen};
 ghost use Rattle.values.specs.Enumerated.{enumeratedAt};
 ghost use Rattle.numbers.specs.Number.{valueOf};
-ghost use Rattle.lists.specs.Entry.{fieldDepth, noEntry, kept, lastField, codesIn, fieldsIn, entryAt, entryRead};
+ghost use Rattle.lists.specs.inner.Entry.{entryRead};
+ghost use Rattle.lists.specs.Entry.{fieldDepth, noEntry, kept, lastField, codesIn, fieldsIn, entryAt};
 
 // How deep an entry may go, and its fields.
 const ENTRYDEPTH: u8 = ARGUMENTDEPTH - 1;

@@ -17,7 +17,8 @@ ghost use Prim.Native.Nat.{_+_, _*_, _≤_};
 ghost use lib.ListN.{length};
 ghost use Rattle.laws.specs.Over.{Wrote};
 ghost use Rattle.lists.specs.Entry.{entryOctets};
-ghost use Rattle.lists.specs.Entries.{instancesMost, entrySize, listed, entriesOctets};
+ghost use Rattle.lists.specs.inner.Entry.{entrySize};
+ghost use Rattle.lists.specs.Entries.{instancesMost, listed, entriesOctets};
 ghost use Rattle.lists.specs.Listed.{PutList};
 
 // The most octets of an entry, and of the entries of a list.

@@ -16,7 +16,7 @@ use Rattle.numbers.specs.Address.{addressGood}
 use Rattle.numbers.specs.declared.address.Forwarded.{Forwarded}
 use Rattle.codes.proofs.Tables.{service-all}
 use Rattle.requests.specs.Request.{activation, deactivation, interrogation}
-use Rattle.requests.specs.Sent.{servedGood, toGood, partsGood, sendable, ToFits}
+use Rattle.requests.specs.Sent.{servedGood, toGood, partsGood, sendable}
 use Rattle.requests.specs.declared.request.Served.{Served}
 use Rattle.requests.specs.declared.request.Request.{Request}
 
@@ -79,6 +79,10 @@ unfolding toGood
 good-to to h =
     let p = pick-then (eqb (to .user) 0) (all (addressGood (to .address) ∷ [])) h in
     record { user = eqb-true (to .user) 0 (p .0); address = pick-then (addressGood (to .address)) true (p .1) .0 }
+
+-- an activation's forwarded-to address is good
+abbrev pub ToFits : ℕ → Forwarded → Type 0
+ToFits operation to = operation ≡ activation → toGood to ≡ true
 
 -- ---- requests
 

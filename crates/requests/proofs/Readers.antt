@@ -20,7 +20,8 @@ use Rattle.values.specs.declared.enumerated.Enumerated.the-variants as enumerat
 use Rattle.values.proofs.Signs.{positive}
 use Rattle.skip.proofs.Skips.{Further, further, fills-past, fills-step}
 use Rattle.numbers.specs.Number.{valueOf}
-use Rattle.requests.specs.Request.{servedRead, privateAt, privates, argumentIn, localAt, argumentAt}
+use Rattle.requests.specs.inner.Served.{servedRead}
+use Rattle.requests.specs.Request.{privateAt, privates, argumentIn, localAt, argumentAt}
 use Rattle.requests.specs.declared.heard.Operation.{Operation}
 use Rattle.requests.specs.declared.request.Served.{Served}
 use Rattle.requests.specs.declared.request.ServedRead.{ServedRead}

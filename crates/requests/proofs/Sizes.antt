@@ -24,10 +24,10 @@ use Rattle.numbers.specs.declared.address.Forwarded.{Forwarded}
 use Rattle.codes.proofs.Tables.{procedure-three, service-all}
 use Rattle.numbers.proofs.Sizes.{number-most, address-most, longestNumber, longest-number, number-longest, longestAddress, longest-address, address-longest}
 use Rattle.requests.specs.Request.{activation, individual, requestOf}
-use Rattle.requests.specs.Sent.{servedGood, toGood, partsGood, sendable, servedOctets, ToFits, toOctets, contentsOctets, requestOctets}
+use Rattle.requests.specs.Sent.{servedGood, toGood, partsGood, sendable, servedOctets, toOctets, contentsOctets, requestOctets}
 use Rattle.requests.specs.declared.request.Served.{Served}
 use Rattle.requests.specs.declared.request.Request.{Request}
-use Rattle.requests.proofs.Goods.{good-served, good-to, Asked, activates, deactivates, interrogates, good-request}
+use Rattle.requests.proofs.Goods.{good-served, good-to, ToFits, Asked, activates, deactivates, interrogates, good-request}
 
 -- ---- the parts
 

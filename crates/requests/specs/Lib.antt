@@ -3,3 +3,4 @@ pub mod Heard
 pub mod Request
 pub mod Sent
 pub mod Sending
+pub mod inner

@@ -24,7 +24,6 @@ use Rattle.numbers.specs.declared.address.Forwarded.{Forwarded}
 use Rattle.requests.specs.Part.{onlyIf, lastAt, tagIs}
 use Rattle.requests.specs.Heard.{argumentDepth, insideDepth}
 use Rattle.requests.specs.declared.request.Served.{Served}
-use Rattle.requests.specs.declared.request.ServedRead.{ServedRead}
 use Rattle.requests.specs.declared.request.Request.{Request}
 use Rattle.requests.specs.declared.request.RequestRead.{RequestRead}
 use Rattle.requests.specs.declared.heard.Operation.{Operation}
@@ -64,10 +63,6 @@ servedIn depth s at end head.Bad = wrong
 
 unfoldable pub servedAt : ℕ → List ℕ → ℕ → ℕ → Got Served
 servedAt depth s at end = servedIn depth s at end (headAt depth s at end)
-
-abbrev pub servedRead : Got Served → ServedRead
-servedRead (got served next) = record { ok = true; served = served; next = next }
-servedRead wrong = record { ok = false; served = individual (numberOf 0 0 []); next = 0 }
 
 -- "After the last known element of an argument, elements with a private-class tag are skipped (house)."
 unfoldable pub privateAt : List ℕ → ℕ → ℕ → Skip

@@ -1,8 +1,7 @@
 -- Requests as the customer end sends them: "we always write" the service, "and shortest lengths throughout" (document 01,
 -- "Reading a component"; refusal 10 says which requests those are).
 use Prim.Native.Nat.{ℕ}
-use mathlib.Core.Path.{_≡_}
-use mathlib.Core.Bool.{Bool, true}
+use mathlib.Core.Bool.{Bool}
 use mathlib.Core.List.{List, [], _∷_, _++_}
 use lib.IntN.{ℤ, pos}
 use lib.Dec.{eqb}
@@ -40,10 +39,6 @@ sendable operation r = all (procedureCode (r .procedure) ∷ partsGood operation
 
 unfoldable pub servedOctets : Served → List ℕ
 servedOctets served = pick (eqb (served .all) 1) (element 0x05 []) (numberOctets (served .number))
-
--- an activation's forwarded-to address is good
-abbrev pub ToFits : ℕ → Forwarded → Type 0
-ToFits operation to = operation ≡ activation → toGood to ≡ true
 
 -- an activation alone has a forwarded-to address
 unfoldable pub toOctets : ℕ → Forwarded → List ℕ

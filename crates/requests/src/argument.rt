@@ -32,7 +32,8 @@ ghost use Rattle.laws.specs.Got.{got, andThen};
 ghost use Rattle.codes.specs.Codes.{procedureCode, serviceCode};
 ghost use Rattle.numbers.specs.Number.{valueOf, numberAt};
 ghost use Rattle.requests.specs.Heard.{argumentDepth};
-ghost use Rattle.requests.specs.Request.{codeAt, serviceAt, individual, servedAt, servedRead, privates, lastIn, activationIn, deactivationIn, interrogationIn, contentsIn, requestRead, ArgumentAt};
+ghost use Rattle.requests.specs.inner.Served.{servedRead};
+ghost use Rattle.requests.specs.Request.{codeAt, serviceAt, individual, servedAt, privates, lastIn, activationIn, deactivationIn, interrogationIn, contentsIn, requestRead, ArgumentAt};
 
 // The operations as the numbers that an identifier's reader hands on.
 const ACTIVATIONVALUE: usize = ACTIVATION as usize;

@@ -6,7 +6,8 @@ ghost use mathlib.Core.Path.{_≡_};
 ghost use mathlib.Core.List.{[]};
 ghost use Rattle.laws.specs.Got.{wrong};
 ghost use Rattle.numbers.specs.Number.{numberOf};
-ghost use Rattle.requests.specs.Request.{noForwarded, servedRead, requestRead};
+ghost use Rattle.requests.specs.inner.Served.{servedRead};
+ghost use Rattle.requests.specs.Request.{noForwarded, requestRead};
 
 // A served user number: all of them where `all` is 1, and then the number carries no meaning.
 #[repr(C)]
