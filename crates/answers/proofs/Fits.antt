@@ -4,10 +4,9 @@ use mathlib.Core.Path.{_≡_}
 use mathlib.Core.Bool.{true}
 use mathlib.Core.List.{List, [], _∷_, _++_}
 use native.Mathlib.Omega.{arith}
-use lib.IntN.{ℤ, pos}
+use lib.IntN.{pos}
 use lib.Signed.{mag}
 use lib.ListN.{length, length-append}
-use Rattle.octets.specs.Element.{element}
 use Rattle.values.specs.Ident.{identOctets}
 use Rattle.octets.proofs.Elements.{length-small, length-most}
 use Rattle.values.proofs.Idents.{ident-most}
@@ -17,7 +16,6 @@ use Rattle.lists.proofs.Sizes.{list-fits}
 use Rattle.answers.specs.Answer.{problemNo, problemValue, whoseOctets, problemOctets, answerOctets}
 use Rattle.answers.specs.declared.answer.Answer.{Answer}
 use Rattle.answers.specs.declared.answer.Answer.the-variants as answer
-use Rattle.answers.specs.declared.answer.Problem.{Problem}
 use Rattle.answers.specs.declared.answer.Whose.{Whose}
 use Rattle.answers.specs.declared.answer.Whose.the-variants as whose
 

@@ -1,6 +1,6 @@
 -- What the exchange writes for a list is read by the end as that list. Assumes nothing.
 use Prim.Native.Nat.{ℕ, _+_, _*_, _<_, _≤_}
-use mathlib.Core.Path.{_≡_, refl, sym, ap, _∙_}
+use mathlib.Core.Path.{_≡_, refl, ap, _∙_}
 use mathlib.Core.Bool.{true}
 use mathlib.Core.List.{List, _++_}
 use native.Mathlib.Omega.{arith}
@@ -14,7 +14,7 @@ use Rattle.laws.proofs.Stands.{stands-whole, stands-left, stands-right}
 use Rattle.octets.specs.Element.{element}
 use Rattle.values.specs.Ident.{identOctets}
 use Rattle.octets.proofs.Elements.{length-element, Inside, inside-element}
-use Rattle.values.proofs.Idents.{ident-back, ident-most}
+use Rattle.values.proofs.Idents.{ident-back}
 use Rattle.requests.specs.Heard.{argumentDepth, insideDepth, componentDepth}
 use Rattle.requests.specs.Request.{interrogation}
 use Rattle.requests.proofs.Tags.{result-tag}

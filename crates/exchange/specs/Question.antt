@@ -3,15 +3,14 @@
 use Prim.Native.Nat.{ℕ}
 use mathlib.Core.Path.{_≡_}
 use mathlib.Core.Bool.{Bool, true, false}
-use mathlib.Core.List.{List, []}
+use mathlib.Core.List.{List}
 use lib.IntN.{ℤ, pos, negsuc}
 use lib.Dec.{leb, eqb}
 use Rattle.laws.specs.Pick.{pick}
 use Rattle.laws.specs.Got.{Got, got, wrong}
-use Rattle.numbers.specs.Number.{numberOf}
 use Rattle.profile.specs.declared.profile.Profile.{Profile}
 use Rattle.requests.specs.Heard.{heard}
-use Rattle.requests.specs.Request.{activation, deactivation, interrogation, noForwarded, individual, requestOf, argumentAt}
+use Rattle.requests.specs.Request.{activation, deactivation, interrogation, noRequest, argumentAt}
 use Rattle.requests.specs.declared.heard.Heard.{Heard}
 use Rattle.requests.specs.declared.heard.Heard.the-variants as heard
 use Rattle.requests.specs.declared.heard.Operation.{Operation}
@@ -41,7 +40,7 @@ says a = record {
   answer = a;
   identifier = pos 0;
   operation = 0;
-  request = requestOf 0 0 noForwarded (individual (numberOf 0 0 []));
+  request = noRequest;
 }
 
 abbrev pub rejects : Whose → Problem → Question

@@ -2,7 +2,6 @@
 use Prim.Native.Nat.{ℕ, _-_}
 use mathlib.Core.Bool.{Bool}
 use mathlib.Core.List.{List, [], _∷_, _++_}
-use lib.ListN.{length}
 use lib.Dec.{ltb, eqb}
 use Rattle.laws.specs.Tests.{all}
 use Rattle.laws.specs.Got.{Got, got, wrong, andThen}
@@ -11,13 +10,14 @@ use Rattle.octets.specs.Element.{element}
 use Rattle.values.specs.Enumerated.{enumeratedAt, enumeratedOctets}
 use Rattle.octets.specs.declared.head.Head.{Head}
 use Rattle.octets.specs.declared.head.Head.the-variants as head
-use Rattle.numbers.specs.Number.{other, valueOf, numberOf, numberAt, tidyNumber, numberGood, numberOctets}
-use Rattle.numbers.specs.Address.{subOf, forwardedOf, addressAt, tidyAddress, addressGood, addressOctets}
+use Rattle.numbers.specs.Number.{other, valueOf, numberAt, tidyNumber, numberGood, numberOctets}
+use Rattle.numbers.specs.Address.{addressAt, tidyAddress, addressGood, addressOctets}
 use Rattle.numbers.specs.declared.number.Number.{Number}
 use Rattle.numbers.specs.declared.address.Address.{Address}
 use Rattle.numbers.specs.declared.address.Forwarded.{Forwarded}
 use Rattle.requests.specs.Part.{onlyIf}
 use Rattle.requests.specs.Heard.{argumentDepth}
+use Rattle.requests.specs.Request.{noNumber, noForwarded}
 use Rattle.lists.specs.declared.entry.Entry.{Entry}
 
 abbrev pub entryOf : Number → ℕ → ℕ → Address → Entry
@@ -30,7 +30,7 @@ entryOf served service procedure address = record {
 
 -- the record that stands where there is no entry
 abbrev pub noEntry : Entry
-noEntry = entryOf (numberOf 0 0 []) 0 0 (forwardedOf (numberOf 0 0 []) (subOf []) .address)
+noEntry = entryOf noNumber 0 0 (noForwarded .address)
 
 -- ---- written
 

@@ -48,12 +48,16 @@ unfoldable pub serviceAt : ℕ → List ℕ → ℕ → ℕ → Got ℕ
 serviceAt depth s at end =
     pick (all (ltb at end ∷ eqb (getD s at 0) enumeratedTag ∷ [])) (codeAt serviceCode depth s at end) (got 0 at)
 
+-- the number of a record that has none
+abbrev pub noNumber : Number
+noNumber = numberOf 0 0 []
+
 -- a served user number: one of its own, or NULL, all of them
 abbrev pub individual : Number → Served
 individual number = record { all = 0; number = number }
 
 abbrev pub allNumbers : Served
-allNumbers = record { all = 1; number = numberOf 0 0 [] }
+allNumbers = record { all = 1; number = noNumber }
 
 abbrev pub servedIn : ℕ → List ℕ → ℕ → ℕ → Head → Got Served
 servedIn depth s at end (head.Is tag start stop next) =
@@ -73,10 +77,14 @@ privates s at end = fills (λ a. privateAt s a end) (end - at) at end
 
 -- no forwarded-to address
 abbrev pub noForwarded : Forwarded
-noForwarded = forwardedOf (numberOf 0 0 []) (subOf [])
+noForwarded = forwardedOf noNumber (subOf [])
 
 abbrev pub requestOf : ℕ → ℕ → Forwarded → Served → Request
 requestOf procedure service to served = record { procedure = procedure; service = service; served = served; to = to }
+
+-- the request of a record that has none
+abbrev pub noRequest : Request
+noRequest = requestOf 0 0 noForwarded (individual noNumber)
 
 -- the served number, and nothing but private elements after it
 unfoldable pub lastIn : ℕ → ℕ → Forwarded → List ℕ → ℕ → ℕ → Got Request
@@ -127,7 +135,7 @@ argumentAt operation s at end = localAt s at end (operation .value)
 -- what a reader answers
 abbrev pub requestRead : Got Request → RequestRead
 requestRead (got request next) = record { ok = true; request = request }
-requestRead wrong = record { ok = false; request = requestOf 0 0 noForwarded (individual (numberOf 0 0 [])) }
+requestRead wrong = record { ok = false; request = noRequest }
 
 -- what `argument_at` promises
 abbrev pub ArgumentAt : Operation → List ℕ → ℕ → ℕ → RequestRead → Type 0

@@ -3,11 +3,9 @@ use numbers::Address;
 use numbers::Forwarded;
 use numbers::Number;
 ghost use mathlib.Core.Path.{_≡_};
-ghost use mathlib.Core.List.{[]};
 ghost use Rattle.laws.specs.Got.{wrong};
-ghost use Rattle.numbers.specs.Number.{numberOf};
 ghost use Rattle.requests.specs.inner.Served.{servedRead};
-ghost use Rattle.requests.specs.Request.{noForwarded, requestRead};
+ghost use Rattle.requests.specs.Request.{noNumber, noForwarded, requestRead};
 
 // A served user number: all of them where `all` is 1, and then the number carries no meaning.
 #[repr(C)]
@@ -40,7 +38,7 @@ pub(crate) struct ServedRead {
 
 // The number of a record that holds none.
 pub(crate) fn blank() -> Number
-    ensures { λ r. ⌜ r ≡ numberOf 0 0 [] ⌝ }
+    ensures { λ r. ⌜ r ≡ noNumber ⌝ }
 {
     Number {
         form: 0,

@@ -5,7 +5,7 @@ use mathlib.Core.List.{List}
 use lib.IntN.{ℤ, pos}
 use Rattle.laws.specs.Got.{Got, got, wrong}
 use Rattle.requests.specs.Heard.{heard}
-use Rattle.requests.specs.Request.{argumentAt, requestRead}
+use Rattle.requests.specs.Request.{noRequest, argumentAt}
 use Rattle.requests.specs.declared.heard.Heard.{Heard}
 use Rattle.requests.specs.declared.heard.Heard.the-variants.{NotOne, Silent, OtherTag, NoIdentifier, NoOperation, Asks}
 use Rattle.requests.specs.declared.request.Request.{Request}
@@ -13,7 +13,7 @@ use Rattle.sconcetoad.specs.declared.said.Said.{Said}
 
 -- nothing is asked
 abbrev pub nothing : Said
-nothing = record { asks = 0; identifier = pos 0; operation = pos 0; request = requestRead wrong .request }
+nothing = record { asks = 0; identifier = pos 0; operation = pos 0; request = noRequest }
 
 abbrev pub asked : ℤ → ℤ → Got Request → Said
 asked identifier operation (got request next) = record { asks = 1; identifier = identifier; operation = operation; request = request }
