@@ -3,6 +3,7 @@ use Prim.Native.Nat.{ℕ, _≤_, _<_}
 use mathlib.Core.Path.{_≡_, refl, sym, ap, _∙_}
 use mathlib.Core.Bool.{true, false}
 use mathlib.Core.List.{List, []}
+use mathlib.Core.Option.{Option, none, some}
 use native.Mathlib.Nat.{zero-add}
 use native.Mathlib.Omega.{arith}
 use lib.IntN.{ℤ}
@@ -31,8 +32,6 @@ use Rattle.store.proofs.Rows.{good-few, entries-few, entries-good}
 use Rattle.store.proofs.Grids.{grid-row}
 use Rattle.rules.specs.Selection.{placesOf}
 use Rattle.rules.specs.Judge.{judge}
-use Rattle.rules.specs.declared.verdict.Verdict.{Verdict}
-use Rattle.rules.specs.declared.verdict.Verdict.the-variants.{Passes, Fails}
 use Rattle.rules.proofs.Judges.{judge-errors}
 use Rattle.answers.specs.Answer.{answerOctets, PutAnswer}
 use Rattle.answers.specs.declared.answer.Answer.{Answer}
@@ -117,10 +116,10 @@ module _ (p : Profile) (t : Table) (profile : profileGood p ≡ true) (table : t
         (λ _. record { answer = range; good = all-none; few = omega arith })
 
     verdict-fits :
-        (v : Verdict) → judge instancesMost p operation r (placesOf p r) (rowAt (t .grid) (r .procedure)) ≡ v →
+        (v : Option ℕ) → judge instancesMost p operation r (placesOf p r) (rowAt (t .grid) (r .procedure)) ≡ v →
         StepFits (verdictOf p t identifier operation r v)
-    verdict-fits Passes h = result-fits
-    verdict-fits (Fails e) h = record {
+    verdict-fits none h = result-fits
+    verdict-fits (some e) h = record {
       answer = (range, judge-errors instancesMost p operation r (placesOf p r) (rowAt (t .grid) (r .procedure)) e h);
       good = all-none;
       few = omega arith;

@@ -4,6 +4,7 @@ use Prim.Native.Nat.{ℕ, _≤_, _<_}
 use mathlib.Core.Path.{_≡_, refl, sym, _∙_}
 use mathlib.Core.Bool.{true, false≢true}
 use mathlib.Core.List.{List}
+use mathlib.Core.Option.{Option, none, some}
 use native.Mathlib.Omega.{arith}
 use lib.IntN.{ℤ}
 use lib.Signed.{mag}
@@ -28,8 +29,6 @@ use Rattle.store.proofs.Rows.{cell-good, good-put, good-clear}
 use Rattle.store.proofs.Grids.{grid-row, grid-rows}
 use Rattle.rules.specs.Selection.{placesOf}
 use Rattle.rules.specs.Judge.{judge, applied}
-use Rattle.rules.specs.declared.verdict.Verdict.{Verdict}
-use Rattle.rules.specs.declared.verdict.Verdict.the-variants.{Passes, Fails}
 use Rattle.rules.proofs.Selections.{places-good, places-only}
 use Rattle.rules.proofs.Judges.{subscribed-flag, kind-known, judge-subscribed, judge-activation, applied-ind}
 use Rattle.exchange.specs.Table.{lastMost, tableGood, withRow, withLast}
@@ -78,31 +77,31 @@ module _ (most : ℕ) (p : Profile) where
 -- ---- the row of a request that passes
 
 module _ (most : ℕ) (p : Profile) (operation : ℕ) (r : Request) (row : Row) where
-  abbrev Judged : Verdict → Type 0
+  abbrev Judged : Option ℕ → Type 0
   Judged v = judge most p operation r (placesOf p r) row ≡ v
 
   -- its procedure is subscribed
   subscribed :
-      profileGood p ≡ true → r .procedure < procedures → Judged Passes →
+      profileGood p ≡ true → r .procedure < procedures → Judged none →
       getD (p .subscribed) (r .procedure) 0 ≡ 1
   subscribed profile known passes =
-      let some = subscribed-flag p (r .procedure) (judge-subscribed most p operation r (placesOf p r) row passes .subscribed) in
-      omega (arith, good-profile p profile .flags (r .procedure) known, some)
+      let flag = subscribed-flag p (r .procedure) (judge-subscribed most p operation r (placesOf p r) row passes .subscribed) in
+      omega (arith, good-profile p profile .flags (r .procedure) known, flag)
 
   -- an instance at a place that it selects breaks no rule
   place-good :
-      profileGood p ≡ true → length (p .services) ≡ servicesMost → r .procedure < procedures → Judged Passes →
+      profileGood p ≡ true → length (p .services) ≡ servicesMost → r .procedure < procedures → Judged none →
       addressGood (r .to .address) ≡ true →
       (j : ℕ) → j < places → selected (placesOf p r) j ≡ true →
       cellGood p (r .procedure) j (cellOf (codeOfPlace (placesOf p r) j) (r .to .address)) ≡ true
   place-good profile long known passes address j h chosen =
-      let some : codeOfPlace (placesOf p r) j ≡ 0 → ⊥ = λ none. false≢true (sym (not-selected (placesOf p r) j none) ∙ chosen) in
-      let at = places-good p r (good-profile p profile .rises) long j h (places-only p r j h some) in
+      let marked : codeOfPlace (placesOf p r) j ≡ 0 → ⊥ = λ blank. false≢true (sym (not-selected (placesOf p r) j blank) ∙ chosen) in
+      let at = places-good p r (good-profile p profile .rises) long j h (places-only p r j h marked) in
       cell-good p (r .procedure) j (codeOfPlace (placesOf p r) j) (r .to .address) (subscribed profile known passes)
       (at .number) (at .service) (at .code) address
 
   applied-good :
-      profileGood p ≡ true → length (p .services) ≡ servicesMost → r .procedure < procedures → Judged Passes →
+      profileGood p ≡ true → length (p .services) ≡ servicesMost → r .procedure < procedures → Judged none →
       (operation ≡ activation → ToUnless (r .to)) →
       length (row .cells) ≡ places → rowGood most p (r .procedure) row ≡ true →
       rowGood most p (r .procedure) (applied operation r (placesOf p r) row) ≡ true
@@ -137,17 +136,17 @@ module _ (p : Profile) (t : Table) (identifier : ℤ) where
 
     -- the next table has other registrations only where the request passes
     pub verdict-next :
-        (P : Table → Type 0) (v : Verdict) → P (moved p identifier t) →
-        (v ≡ Passes → P (moved p identifier changed)) →
+        (P : Table → Type 0) (v : Option ℕ) → P (moved p identifier t) →
+        (v ≡ none → P (moved p identifier changed)) →
         P (verdictOf p t identifier operation r v .next)
     unfolding resultOf
-    verdict-next P Passes same other =
+    verdict-next P none same other =
         pick-ind (λ (x : Step). P (x .next)) (eqb operation interrogation) (λ _. same) (λ _. other refl)
-    verdict-next P (Fails e) same other = same
+    verdict-next P (some e) same other = same
 
     -- over any limit of instances
     pub verdict-good :
-        (most : ℕ) (v : Verdict) → judge most p operation r (placesOf p r) row ≡ v → profileGood p ≡ true →
+        (most : ℕ) (v : Option ℕ) → judge most p operation r (placesOf p r) row ≡ v → profileGood p ≡ true →
         length (p .services) ≡ servicesMost → Shaped t → tableGood most p t ≡ true → r .procedure < procedures →
         mag identifier < 32768 →
         (operation ≡ activation → ToUnless (r .to)) →
@@ -171,7 +170,7 @@ module _ (p : Profile) (t : Table) (identifier : ℤ) where
 
     -- a request that earns an error alters no registration
     pub handled-error :
-        (e : ℕ) → judge instancesMost p operation r (placesOf p r) row ≡ Fails e →
+        (e : ℕ) → judge instancesMost p operation r (placesOf p r) row ≡ some e →
         handled p t identifier operation r .next .grid ≡ t .grid
     unfolding handled
     handled-error e h = rw h (moved-grid t)
@@ -186,10 +185,10 @@ module _ (p : Profile) (t : Table) (identifier : ℤ) where
         (moved-last t)
         (λ _. moved-last changed)
 
-  list-next : (r : Request) (v : Verdict) → verdictOf p t identifier interrogation r v .next ≡ moved p identifier t
+  list-next : (r : Request) (v : Option ℕ) → verdictOf p t identifier interrogation r v .next ≡ moved p identifier t
   unfolding resultOf
-  list-next r Passes = refl
-  list-next r (Fails e) = refl
+  list-next r none = refl
+  list-next r (some e) = refl
 
   -- an interrogation alters no registration either
   pub handled-list : (r : Request) → handled p t identifier interrogation r .next .grid ≡ t .grid

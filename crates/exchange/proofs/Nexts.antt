@@ -4,6 +4,7 @@ use Prim.Native.Nat.{ℕ, _≤_, _<_}
 use mathlib.Core.Path.{_≡_, refl, sym, ap, _∙_}
 use mathlib.Core.Bool.{true, not}
 use mathlib.Core.List.{List, []}
+use mathlib.Core.Option.{Option, none, some}
 use native.Mathlib.Omega.{arith}
 use lib.IntN.{ℤ}
 use lib.Signed.{mag}
@@ -27,8 +28,6 @@ use Rattle.lists.specs.declared.entry.Entry.{Entry}
 use Rattle.store.specs.Grid.{procedures, rowAt}
 use Rattle.rules.specs.Selection.{placesOf}
 use Rattle.rules.specs.Judge.{judge, applied}
-use Rattle.rules.specs.declared.verdict.Verdict.{Verdict}
-use Rattle.rules.specs.declared.verdict.Verdict.the-variants.{Passes, Fails}
 use Rattle.answers.specs.Answer.{answerNo, answerWhose}
 use Rattle.answers.proofs.Fits.{answer-most}
 use Rattle.answers.specs.declared.answer.Answer.{Answer}
@@ -75,11 +74,11 @@ module _ (p : Profile) (t : Table) (identifier : ℤ) (operation : ℕ) (r : Req
   fails e = stays (moved p identifier t) (answer.Error identifier e)
 
   verdict-ind :
-      (P : Step → Type 0) (v : Verdict) → ((es : List Entry) → P (lists es)) → P changes → ((e : ℕ) → P (fails e)) →
+      (P : Step → Type 0) (v : Option ℕ) → ((es : List Entry) → P (lists es)) → P changes → ((e : ℕ) → P (fails e)) →
       P (verdictOf p t identifier operation r v)
   unfolding resultOf
-  verdict-ind P Passes list change fail = pick-ind P (eqb operation interrogation) (λ _. list _) (λ _. change)
-  verdict-ind P (Fails e) list change fail = fail e
+  verdict-ind P none list change fail = pick-ind P (eqb operation interrogation) (λ _. list _) (λ _. change)
+  verdict-ind P (some e) list change fail = fail e
 
   -- what holds of a list, of a result without one and of an error holds of what is handled
   pub handled-ind :

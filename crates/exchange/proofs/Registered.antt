@@ -30,9 +30,7 @@ use Rattle.store.proofs.Turns.{bothAt}
 use Rattle.store.proofs.Rows.{held-put, held-clear}
 use Rattle.store.proofs.Listings.{entries-places, none-active, active-none}
 use Rattle.rules.specs.Selection.{selects, concerns, placesOf}
-use Rattle.rules.specs.Judge.{first, everyTests, judge, applied}
-use Rattle.rules.specs.declared.verdict.Verdict.{Verdict}
-use Rattle.rules.specs.declared.verdict.Verdict.the-variants.{Passes, Fails}
+use Rattle.rules.specs.Judge.{firstError, everyTests, judge, applied}
 use Rattle.rules.proofs.Selections.{selected-selects}
 use Rattle.rules.proofs.Judges.{applied-activation, applied-deactivation, none-fails, fails-none}
 use Rattle.answers.specs.Answer.{answerNo, answerValues}
@@ -68,10 +66,10 @@ module _ (p : Profile) (t : Table) (identifier : ℤ) (r : Request) where
 
   -- the answer tells the verdict
   verdict-46 :
-      (v : Verdict) → verdictOf p t identifier deactivation r v .answer ≡ Error identifier 46 → v ≡ Fails 46
+      (v : Option ℕ) → verdictOf p t identifier deactivation r v .answer ≡ Error identifier 46 → v ≡ some 46
   unfolding resultOf
-  verdict-46 Passes h = absurd (omega (arith, ap answerNo h))
-  verdict-46 (Fails e) h = ap Fails (ap (λ (a : Answer). getD (answerValues a) 0 0) h)
+  verdict-46 none h = absurd (omega (arith, ap answerNo h))
+  verdict-46 (some e) h = ap some (ap (λ (a : Answer). getD (answerValues a) 0 0) h)
 
   module _ (profile : profileGood p ≡ true) (long : length (p .services) ≡ servicesMost) (so : Shaped t)
       (known : r .procedure < procedures) where
@@ -90,14 +88,14 @@ module _ (p : Profile) (t : Table) (identifier : ℤ) (r : Request) where
     verdict-all :
         (operation : ℕ) (now : Option Address) → (operation ≡ interrogation → ⊥) →
         ((j : ℕ) → j < places → held (applied operation r (placesOf p r) row) j ≡ pick (selected (placesOf p r) j) now (held row j)) →
-        (v : Verdict) → AllOrNothing now (verdictOf p t identifier operation r v)
+        (v : Option ℕ) → AllOrNothing now (verdictOf p t identifier operation r v)
     unfolding resultOf
-    verdict-all operation now asks is Passes =
+    verdict-all operation now asks is none =
         rw (ne-eqb _ _ asks)
         (all refl
         (rw (moved-grid p t identifier (changed p t identifier operation r))
         (everywhere now (applied operation r (placesOf p r) row) is)))
-    verdict-all operation now asks is (Fails e) = nothing e refl (moved-grid p t identifier t)
+    verdict-all operation now asks is (some e) = nothing e refl (moved-grid p t identifier t)
 
     -- "every selected number and service gets the address, replacing an older one, all together"
     pub activation-all : AllOrNothing (some (tidyAddress (r .to .address))) (handled p t identifier activation r)
@@ -124,7 +122,7 @@ module _ (p : Profile) (t : Table) (identifier : ℤ) (r : Request) where
     marked : (j : ℕ) → j < places → selected (placesOf p r) j ≡ selects p r j
     marked = selected-selects p r (good-profile p profile .rises) long
 
-    module _ (every : first (everyTests p r) ≡ Passes) where
+    module _ (every : firstError (everyTests p r) ≡ none) where
       pub none-46 : NoneActive → handled p t identifier deactivation r .answer ≡ Error identifier 46
       unfolding handled
       none-46 silent =
@@ -147,7 +145,7 @@ module _ (p : Profile) (t : Table) (identifier : ℤ) (r : Request) where
           ≡ map (entryOfPlace p (r .procedure) row) (placesWhere (λ j. pick (selects p r j) (active row j) false) places)
 
     pub interrogation-lists :
-        judge instancesMost p interrogation r (placesOf p r) row ≡ Passes → Lists (handled p t identifier interrogation r)
+        judge instancesMost p interrogation r (placesOf p r) row ≡ none → Lists (handled p t identifier interrogation r)
     unfolding handled resultOf
     interrogation-lists passes =
         rw passes (record {

@@ -3,6 +3,7 @@ use Prim.Native.Nat.{ℕ, zero, suc, _<_}
 use mathlib.Core.Path.{_≡_, refl, sym, ap, _∙_}
 use mathlib.Core.Bool.{Bool, true, false}
 use mathlib.Core.List.{List, [], _∷_}
+use mathlib.Core.Option.{none, some}
 use native.Mathlib.Nat.{not-suc-le-zero, le-of-suc-le-suc}
 use lib.IntN.{ℤ}
 use lib.Signed.{mag}
@@ -21,7 +22,6 @@ use Rattle.store.specs.declared.row.Places.{Places}
 use Rattle.store.specs.declared.row.Row.{Row}
 use Rattle.rules.specs.Selection.{placesOf}
 use Rattle.rules.specs.Judge.{judge, applied}
-use Rattle.rules.specs.declared.verdict.Verdict.the-variants.{Passes, Fails}
 use Rattle.answers.specs.declared.answer.Answer.the-variants.{Listing, Result, Error}
 use Rattle.exchange.specs.Table.{withRow, withLast}
 use Rattle.exchange.specs.Question.{question}
@@ -79,7 +79,7 @@ module _ (p : Profile) (identifier : ℤ) (operation : ℕ) (r : Request) (befor
           ∙ moved-last p identifier t
 
       pub handled-fails :
-          (error : ℕ) → judge instancesMost p operation r w row ≡ Fails error → (list : Entries) → list ≡ entriesOf [] →
+          (error : ℕ) → judge instancesMost p operation r w row ≡ some error → (list : Entries) → list ≡ entriesOf [] →
           Handles p before row identifier operation r
           (record { last = last; row = row; answer = Error identifier error; list = list })
       unfolding handled
@@ -87,7 +87,7 @@ module _ (p : Profile) (identifier : ℤ) (operation : ℕ) (r : Request) (befor
           rw (← selects, held, fails)
           (record { next = same-row t begins held known; answer = refl; list = lists })
 
-      module _ (passes : judge instancesMost p operation r w row ≡ Passes) where
+      module _ (passes : judge instancesMost p operation r w row ≡ none) where
         pub handled-listed :
             operation ≡ interrogation → (list : Entries) → list ≡ entriesOf (take instancesMost (entriesIn p (r .procedure) w row)) →
             Handles p before row identifier operation r

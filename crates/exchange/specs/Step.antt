@@ -2,6 +2,7 @@
 use Prim.Native.Nat.{ℕ, _<_}
 use mathlib.Core.Path.{_≡_}
 use mathlib.Core.List.{List, []}
+use mathlib.Core.Option.{Option, none, some}
 use lib.IntN.{ℤ}
 use lib.Signed.{mag}
 use lib.ListN.{length, take}
@@ -17,8 +18,6 @@ use Rattle.store.specs.Grid.{rowAt}
 use Rattle.store.specs.declared.row.Row.{Row}
 use Rattle.rules.specs.Selection.{placesOf}
 use Rattle.rules.specs.Judge.{judge, applied}
-use Rattle.rules.specs.declared.verdict.Verdict.{Verdict}
-use Rattle.rules.specs.declared.verdict.Verdict.the-variants.{Passes, Fails}
 use Rattle.answers.specs.declared.answer.Answer.{Answer}
 use Rattle.answers.specs.declared.answer.Answer.the-variants as answer
 use Rattle.exchange.specs.Table.{withRow, withLast}
@@ -53,9 +52,10 @@ resultOf p t identifier operation r =
     (moved p identifier (withRow (r .procedure) (applied operation r (placesOf p r) (rowAt (t .grid) (r .procedure))) t))
     (answer.Result identifier))
 
-abbrev pub verdictOf : Profile → Table → ℤ → ℕ → Request → Verdict → Step
-verdictOf p t identifier operation r Passes = resultOf p t identifier operation r
-verdictOf p t identifier operation r (Fails error) = stays (moved p identifier t) (answer.Error identifier error)
+-- an error, and the table stays but for the last handled identifier; or a result
+abbrev pub verdictOf : Profile → Table → ℤ → ℕ → Request → Option ℕ → Step
+verdictOf p t identifier operation r none = resultOf p t identifier operation r
+verdictOf p t identifier operation r (some error) = stays (moved p identifier t) (answer.Error identifier error)
 
 unfoldable pub handled : Profile → Table → ℤ → ℕ → Request → Step
 handled p t identifier operation r =

@@ -9,6 +9,7 @@ use Rattle.store.specs.declared.row.Row.{Row}
 use Rattle.rules.specs.Selection.{PlacesOf}
 use Rattle.rules.specs.Judge.{JudgeRequest, ApplyRequest}
 use Rattle.rules.specs.declared.verdict.Verdict.{Verdict}
+use Rattle.rules.proofs.Judges.{verdict-same}
 
 pub only-places-of : (p : Profile) (r : Request) {a b : Places} → PlacesOf p r a → PlacesOf p r b → a ≡ b
 only-places-of p r = both
@@ -18,7 +19,7 @@ pub only-judge-request :
     JudgeRequest p operation r w row a →
     JudgeRequest p operation r w row b →
     a ≡ b
-only-judge-request p operation r w row = both
+only-judge-request p operation r w row {a = a} {b = b} h k = verdict-same a b (both h k)
 
 pub only-apply-request :
     (operation : ℕ) (r : Request) (w : Places) (row : Row) {a b : Row} → ApplyRequest operation r w row a →

@@ -10,6 +10,7 @@ use lib.Dec.{eqb}
 use borrow.Author.Tests.{eq-eqb, ne-eqb}
 use Rattle.laws.specs.Pick.{pick}
 use Rattle.laws.proofs.Lefts.{left-cons, left-none}
+use Rattle.laws.proofs.Picks.{pick-last}
 use Rattle.profile.specs.Profile.{noPrefix}
 use Rattle.profile.specs.declared.profile.Prefix.{Prefix}
 use Rattle.rules.specs.Prefix.{begins, beginsAny}
@@ -31,7 +32,7 @@ module _ (count long : ℕ) (prefix digits : List ℕ) where
       (begins (drop (suc i) (take count prefix)) (drop (suc i) (take long digits)))
       false
   unfolding begins
-  step i h room g other = rw (left-cons count prefix i 0 h room, left-cons long digits i 0 g other)
+  step i h room g other = rw (left-cons count prefix i 0 h room, left-cons long digits i 0 g other, pick-last)
 
   pub begun-next :
       (i : ℕ) → i < count → i < length prefix → i < long → i < length digits →
@@ -81,7 +82,7 @@ module _ (count : ℕ) (prefixes : List Prefix) (cs : List ℕ) where
       (k : ℕ) → k < count → k < length prefixes → beginsWith (getD prefixes k noPrefix) cs ≡ false → Tried k →
       Tried (k + 1)
   unfolding beginsAny
-  tried-next k h long e tried = tried ∙ rw (left-cons count prefixes k noPrefix h long, e, add-one)
+  tried-next k h long e tried = tried ∙ rw (left-cons count prefixes k noPrefix h long, e, add-one, pick-last)
 
   -- there are no more prefixes
   pub tried-none :

@@ -6,34 +6,35 @@ use mathlib.Core.List.{List, [], _∷_}
 use mathlib.Core.Logic.{_⊎_, inl, inr, ⊎-elim}
 use native.Mathlib.Nat.{add-zero, zero-add}
 use native.Mathlib.Omega.{arith}
-use lib.ListN.{length, take, getD, set, replicate, length-take, length-set, getD-replicate}
+use lib.ListN.{length, getD, set, replicate, length-take, length-set, getD-replicate}
 use lib.Seq.{getD-take, getD-set-same, getD-set-other}
-use lib.Dec.{ltb, eqb}
+use lib.Dec.{ltb}
 use borrow.Author.Tests.{eq-eqb, ne-eqb, ltb-true, ltb-false}
 use Rattle.laws.specs.Pick.{pick}
+use Rattle.laws.specs.Tests.{all}
 use Rattle.laws.specs.Over.{over}
 use Rattle.laws.specs.Places.{eachFrom}
 use Rattle.laws.proofs.Over.{over-nil, over-cons, length-over}
-use Rattle.laws.proofs.Each.{getD-each, length-each, each-all}
-use Rattle.laws.proofs.Picks.{pick-ind, pick-then, pick-first}
+use Rattle.laws.proofs.Each.{getD-each, each-all}
+use Rattle.laws.proofs.Picks.{pick-ind, pick-first}
 use Rattle.profile.specs.Profile.{numbersMost, servicesMost, servedNumbers, subscribedServices, placeIn, rising}
 use Rattle.profile.specs.declared.profile.Profile.{Profile}
-use Rattle.profile.proofs.Profiles.{place-most, rising-above}
+use Rattle.profile.proofs.Profiles.{all-at, place-most, rising-above}
 use Rattle.requests.specs.declared.request.Served.{Served}
 use Rattle.requests.specs.declared.request.Request.{Request}
 use Rattle.store.specs.Row.{places, numberOfPlace, serviceOfPlace, selected}
 use Rattle.store.specs.declared.row.Places.{Places}
 use Rattle.store.proofs.Turns.{is-selected, not-selected}
-use Rattle.rules.specs.Selection.{numberChosen, Asks, serviceChosen, selects, placesOf}
+use Rattle.rules.specs.Selection.{numberChosen, everyNumber, isAsked, Asks, serviceChosen, selects, placesOf}
 
 -- ---- the number that is asked for
 
 module _ (p : Profile) (s : Served) where
-  pub asks-ignored : p .msn ≡ 0 → Asks p s 255
+  pub asks-ignored : p .msn ≡ 0 → Asks p s everyNumber
   unfolding numberChosen
   asks-ignored ignored k h = rw (eq-eqb _ _ ignored)
 
-  pub asks-all : (p .msn ≡ 0 → ⊥) → s .all ≡ 1 → Asks p s 255
+  pub asks-all : (p .msn ≡ 0 → ⊥) → s .all ≡ 1 → Asks p s everyNumber
   unfolding numberChosen
   asks-all msn all k h = rw (ne-eqb _ _ msn, eq-eqb _ _ all)
 
@@ -45,13 +46,9 @@ module _ (p : Profile) (s : Served) where
   asks-one asked msn one long e k h =
       let few : placeIn p (s .number) (servedNumbers p) ≤ numbersMost =
       omega (arith, place-most p (s .number) (servedNumbers p), length-take (p .numbercount) (p .numbers)) in
-      rw (ne-eqb _ _ msn, ne-eqb _ _ one, ne-eqb asked 255 (omega arith), e)
+      rw (ne-eqb _ _ msn, ne-eqb _ _ one, ne-eqb asked everyNumber (omega arith), e)
 
 -- ---- the codes: each number that is chosen gets those of its services
-
--- what `is_asked` promises
-abbrev pub isAsked : ℕ → ℕ → Bool
-isAsked asked k = pick (eqb asked 255) true (eqb asked k)
 
 -- what `number_chosen` promises
 abbrev isChosen : ℕ → ℕ → ℕ → Bool
@@ -144,8 +141,9 @@ module _ (asked numbers : ℕ) (ws : List ℕ) where
 -- tests one after the other, and one test of them all
 pick-all :
     (a b c d : Bool) (code : ℕ) →
-    pick (pick a c false) (pick b (pick d code 0) 0) 0 ≡ pick (pick a (pick b (pick c d false) false) false) code 0
-pick-all true true true d code = refl
+    pick (pick a c false) (pick b (pick d code 0) 0) 0 ≡ pick (all (a ∷ b ∷ c ∷ d ∷ [])) code 0
+pick-all true true true true code = refl
+pick-all true true true false code = refl
 pick-all true true false d code = refl
 pick-all true false true d code = refl
 pick-all true false false d code = refl
@@ -206,11 +204,11 @@ module _ (p : Profile) (r : Request) where
       (j / servicesMost < p .numbercount) × (j % servicesMost < p .servicecount)
   unfolding selects
   known j h =
-      let code : ℕ = getD (p .services) (serviceOfPlace j) 0 in
-      let chosen : Bool = pick (numberChosen p (r .served) (numberOfPlace j)) (serviceChosen (r .service) code) false in
-      let slot : Bool = ltb (serviceOfPlace j) (p .servicecount) in
-      let a = pick-then (ltb (numberOfPlace j) (p .numbercount)) (pick slot chosen false) h in
-      (ltb-true _ _ (a .0), ltb-true _ _ (pick-then slot chosen (a .1) .0))
+      let number : Bool = numberChosen p (r .served) (numberOfPlace j) in
+      let service : Bool = serviceChosen (r .service) (getD (p .services) (serviceOfPlace j) 0) in
+      let counted : Bool = ltb (numberOfPlace j) (p .numbercount) in
+      let each = all-at (counted ∷ ltb (serviceOfPlace j) (p .servicecount) ∷ number ∷ service ∷ []) in
+      (ltb-true _ _ (each 0 h), ltb-true _ _ (each 1 h))
 
   pub places-good :
       rising 0 (subscribedServices p) ≡ true → length (p .services) ≡ servicesMost →

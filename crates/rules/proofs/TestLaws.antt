@@ -2,18 +2,18 @@
 use Prim.Native.Nat.{ℕ, min, _+_, _≤_, _<_}
 use mathlib.Core.Path.{_≡_, _∙_}
 use mathlib.Core.Bool.{Bool, true, false}
-use mathlib.Core.List.{List}
+use mathlib.Core.List.{List, [], _∷_}
 use native.Mathlib.Numerals.{add-one, one-add}
 use lib.ListN.{length, take, drop, getD}
-use Rattle.laws.specs.Pick.{pick}
+use Rattle.laws.specs.Tests.{all, any}
 use Rattle.laws.proofs.Lefts.{left-cons, left-none}
+use Rattle.laws.proofs.Picks.{pick-last}
 use Rattle.numbers.specs.declared.number.Number.{Number}
 use Rattle.profile.specs.Profile.{sameNumber, noNumber}
 use Rattle.profile.specs.declared.profile.Profile.{Profile}
 use Rattle.profile.proofs.Profiles.{same-plain}
 use Rattle.requests.specs.declared.request.Request.{Request}
-use Rattle.rules.specs.Selection.{Asks}
-use Rattle.rules.proofs.Selections.{isAsked}
+use Rattle.rules.specs.Selection.{isAsked, Asks}
 use Rattle.rules.specs.Judge.{selectedSame}
 
 module _ (asked count : ℕ) (numbers : List Number) (to : Number) where
@@ -34,8 +34,7 @@ module _ (asked count : ℕ) (numbers : List Number) (to : Number) where
   compare :
       (k : ℕ) → k < count → k < length numbers → k < 255 → Compared k →
       Answers (λ p r.
-      pick (pick (isAsked asked k) (isSame k) false) true
-      (selectedSame p r (k + 1) (drop (k + 1) (take count numbers))))
+      any (all (isAsked asked k ∷ isSame k ∷ []) ∷ selectedSame p r (k + 1) (drop (k + 1) (take count numbers)) ∷ []))
   unfolding selectedSame
   compare k h long small so p r asks e =
       so p r asks e
@@ -51,13 +50,14 @@ module _ (asked count : ℕ) (numbers : List Number) (to : Number) where
   pub compared-skip :
       (k : ℕ) → k < count → k < length numbers → k < 255 → isAsked asked k ≡ false → Compared k →
       Compared (k + 1)
-  compared-skip k h long small chosen so p r asks e = rw (compare k h long small so p r asks e, chosen)
+  compared-skip k h long small chosen so p r asks e = rw (compare k h long small so p r asks e, chosen, pick-last)
 
   -- a selected number is another one
   pub compared-other :
       (k : ℕ) → k < count → k < length numbers → k < 255 → isAsked asked k ≡ true → isSame k ≡ false → Compared k →
       Compared (k + 1)
-  compared-other k h long small chosen alike so p r asks e = rw (compare k h long small so p r asks e, chosen, alike)
+  compared-other k h long small chosen alike so p r asks e =
+      rw (compare k h long small so p r asks e, chosen, alike, pick-last)
 
   -- there are no more numbers
   pub compared-none :

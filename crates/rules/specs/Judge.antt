@@ -1,12 +1,14 @@
--- The rules of registration: tests in their order, each with its error; the first that fails decides. One list for the exchange and
+-- The rules of registration: tests in their order, each with its error; the first that holds decides. One list for the exchange and
 -- for the end's picture (document 01, "Replies, in the order checked").
 use Prim.Native.Nat.{ℕ, _+_}
 use mathlib.Core.Path.{_≡_}
-use mathlib.Core.Bool.{Bool, true, false}
+use mathlib.Core.Bool.{Bool, false, not}
 use mathlib.Core.List.{List, [], _∷_, _++_}
-use lib.ListN.{take, getD}
+use mathlib.Core.Option.{Option, none, some}
+use lib.ListN.{getD}
 use lib.Dec.{ltb, leb, eqb}
 use Rattle.laws.specs.Pick.{pick}
+use Rattle.laws.specs.Tests.{all, any, Test, test, first}
 use Rattle.codes.specs.Codes.{placeOf}
 use Rattle.numbers.specs.Number.{public, other, digitsOf}
 use Rattle.numbers.specs.declared.number.Number.{Number}
@@ -23,18 +25,14 @@ use Rattle.rules.specs.Selection.{numberChosen}
 use Rattle.rules.specs.declared.verdict.Verdict.{Verdict}
 use Rattle.rules.specs.declared.verdict.Verdict.the-variants.{Passes, Fails}
 
--- a test that fails, and the error it gives
-pub record Test : Type 0 where
-  pub fails : Bool
-  pub error : ℕ
+-- the error of the first test that holds; none where none does, and the request passes
+abbrev pub firstError : List (Test ℕ) → Option ℕ
+firstError tests = first tests some none
 
-abbrev pub test : Bool → ℕ → Test
-test fails error = record { fails = fails; error = error }
-
--- the first test that fails gives the error
-abbrev pub first : List Test → Verdict
-first [] = Passes
-first (t ∷ ts) = pick (t .fails) (Fails (t .error)) (first ts)
+-- a verdict: it passes, or the number of the error that it earns
+abbrev pub verdictNo : Verdict → Option ℕ
+verdictNo Passes = none
+verdictNo (Fails error) = some error
 
 -- ---- the tests of every request
 
@@ -42,27 +40,36 @@ abbrev pub notInUse : Profile → Bool
 notInUse p = eqb (p .inuse) 0
 
 unfoldable pub isSubscribed : Profile → ℕ → Bool
-isSubscribed p procedure = pick (eqb (getD (p .subscribed) procedure 0) 0) false true
+isSubscribed p procedure = not (eqb (getD (p .subscribed) procedure 0) 0)
 
 abbrev pub notSubscribed : Profile → Request → Bool
-notSubscribed p r = pick (isSubscribed p (r .procedure)) false true
+notSubscribed p r = not (isSubscribed p (r .procedure))
 
--- "'allNumbers' needs the option"
-abbrev pub allowsWhole : Profile → Bool
-allowsWhole p = pick (eqb (p .all) 0) false true
+-- the "all numbers" option
+abbrev pub hasAllNumbers : Profile → Bool
+hasAllNumbers p = not (eqb (p .all) 0)
+
+-- a number of the profile
+abbrev pub isServed : Profile → Number → Bool
+isServed p n = ltb (placeIn p n (servedNumbers p)) (p .numbercount)
 
 -- "With MSN an individual one must be in the profile; 'allNumbers' needs the option."
 unfoldable pub servedInvalid : Profile → Request → Bool
 servedInvalid p r =
-    pick (eqb (p .msn) 0) false
-    (pick (eqb (r .served .all) 1) (pick (allowsWhole p) false true) (leb (p .numbercount) (placeIn p (r .served .number) (servedNumbers p))))
+    all
+    (not (eqb (p .msn) 0)
+    ∷ not (pick (eqb (r .served .all) 1) (hasAllNumbers p) (isServed p (r .served .number)))
+    ∷ [])
 
 -- ---- the tests of an activation
 
+-- a service of the profile
+abbrev pub isProvided : Profile → ℕ → Bool
+isProvided p service = ltb (placeOf service (subscribedServices p)) (p .servicecount)
+
 -- "service given but not subscribed"
 unfoldable pub notProvided : Profile → Request → Bool
-notProvided p r =
-    pick (eqb (r .service) 0) false (leb (p .servicecount) (placeOf (r .service) (subscribedServices p)))
+notProvided p r = all (not (eqb (r .service) 0) ∷ not (isProvided p (r .service)) ∷ [])
 
 -- "user-specified subaddress"
 abbrev pub userSpecified : Request → Bool
@@ -71,29 +78,30 @@ userSpecified r = eqb (r .to .user) 1
 -- "other number kind, or public type 1 with more than 15 digits"
 unfoldable pub otherKind : Number → Bool
 otherKind n =
-    pick (eqb (n .form) other) true
-    (pick (eqb (n .form) public) (pick (eqb (n .kind) 1) (ltb 15 (n .count)) false) false)
+    any (eqb (n .form) other ∷ all (eqb (n .form) public ∷ eqb (n .kind) 1 ∷ ltb 15 (n .count) ∷ []) ∷ [])
 
 -- "forwarded-to number the same as a selected served number", the first of ns having the place `from`
 unfoldable pub selectedSame : Profile → Request → ℕ → List Number → Bool
 selectedSame p r from [] = false
 selectedSame p r from (n ∷ ns) =
-    pick (pick (numberChosen p (r .served) from) (same p n (r .to .address .number)) false) true
-    (selectedSame p r (1 + from) ns)
+    any
+    (all (numberChosen p (r .served) from ∷ same p n (r .to .address .number) ∷ [])
+    ∷ selectedSame p r (1 + from) ns
+    ∷ [])
 
 -- "more than 8 instances of the procedure afterwards": whether so many fit, over the limit
 unfoldable pub fits : ℕ → Profile → ℕ → Bool
 fits most p count = leb count most
 
 unfoldable pub noRoom : ℕ → Profile → Places → Row → Bool
-noRoom most p w row = pick (fits most p (countWith w row)) false true
+noRoom most p w row = not (fits most p (countWith w row))
 
 -- ---- the verdict, where the request selects the places w
 
-abbrev pub everyTests : Profile → Request → List Test
+abbrev pub everyTests : Profile → Request → List (Test ℕ)
 everyTests p r = test (notInUse p) 3 ∷ test (notSubscribed p r) 0 ∷ test (servedInvalid p r) 6 ∷ []
 
-abbrev pub activationTests : ℕ → Profile → Request → Places → Row → List Test
+abbrev pub activationTests : ℕ → Profile → Request → Places → Row → List (Test ℕ)
 activationTests most p r w row =
     test (notProvided p r) 8
     ∷ test (userSpecified r) 11
@@ -104,16 +112,17 @@ activationTests most p r w row =
     ∷ []
 
 -- "error 46 exactly if there's none (house)"
-abbrev pub deactivationTests : Places → Row → List Test
+abbrev pub deactivationTests : Places → Row → List (Test ℕ)
 deactivationTests w row = test (eqb (activeOf w row) 0) 46 ∷ []
 
-abbrev pub testsOf : ℕ → Profile → ℕ → Request → Places → Row → List Test
+abbrev pub testsOf : ℕ → Profile → ℕ → Request → Places → Row → List (Test ℕ)
 testsOf most p operation r w row =
     pick (eqb operation activation) (activationTests most p r w row)
     (pick (eqb operation deactivation) (deactivationTests w row) [])
 
-unfoldable pub judge : ℕ → Profile → ℕ → Request → Places → Row → Verdict
-judge most p operation r w row = first (everyTests p r ++ testsOf most p operation r w row)
+-- the error that a request earns, or none
+unfoldable pub judge : ℕ → Profile → ℕ → Request → Places → Row → Option ℕ
+judge most p operation r w row = firstError (everyTests p r ++ testsOf most p operation r w row)
 
 -- what the row of the request's procedure becomes where it passes
 unfoldable pub applied : ℕ → Request → Places → Row → Row
@@ -123,7 +132,7 @@ applied operation r w row =
 
 -- what `judge_request` promises
 abbrev pub JudgeRequest : Profile → ℕ → Request → Places → Row → Verdict → Type 0
-JudgeRequest p operation r w row v = v ≡ judge instancesMost p operation r w row
+JudgeRequest p operation r w row v = verdictNo v ≡ judge instancesMost p operation r w row
 
 -- what `apply_request` promises
 abbrev pub ApplyRequest : ℕ → Request → Places → Row → Row → Type 0

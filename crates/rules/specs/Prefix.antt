@@ -5,7 +5,7 @@ use mathlib.Core.Bool.{Bool, true, false}
 use mathlib.Core.List.{List, [], _∷_}
 use lib.ListN.{take}
 use lib.Dec.{eqb}
-use Rattle.laws.specs.Pick.{pick}
+use Rattle.laws.specs.Tests.{all, any}
 use Rattle.numbers.specs.Number.{digitsOf}
 use Rattle.numbers.specs.declared.number.Number.{Number}
 use Rattle.profile.specs.Profile.{barred}
@@ -16,11 +16,11 @@ use Rattle.profile.specs.declared.profile.Profile.{Profile}
 unfoldable pub begins : List ℕ → List ℕ → Bool
 begins [] cs = true
 begins (d ∷ ds) [] = false
-begins (d ∷ ds) (c ∷ cs) = pick (eqb d c) (begins ds cs) false
+begins (d ∷ ds) (c ∷ cs) = all (eqb d c ∷ begins ds cs ∷ [])
 
 unfoldable pub beginsAny : List Prefix → List ℕ → Bool
 beginsAny [] cs = false
-beginsAny (f ∷ fs) cs = pick (begins (take (f .count) (f .digits)) cs) true (beginsAny fs cs)
+beginsAny (f ∷ fs) cs = any (begins (take (f .count) (f .digits)) cs ∷ beginsAny fs cs ∷ [])
 
 -- what `begins_any` promises
 abbrev pub BeginsAny : Profile → Number → Bool → Type 0

@@ -1,10 +1,12 @@
 -- Which numbers and services a request selects (document 01, "Replies": "Served number").
 use Prim.Native.Nat.{ℕ, _<_}
 use mathlib.Core.Path.{_≡_}
-use mathlib.Core.Bool.{Bool, true, false}
+use mathlib.Core.Bool.{Bool}
+use mathlib.Core.List.{[], _∷_}
 use lib.ListN.{getD}
 use lib.Dec.{ltb, eqb}
 use Rattle.laws.specs.Pick.{pick}
+use Rattle.laws.specs.Tests.{all, any}
 use Rattle.laws.specs.Places.{eachFrom}
 use Rattle.profile.specs.Profile.{servedNumbers, placeIn}
 use Rattle.profile.specs.declared.profile.Profile.{Profile}
@@ -16,27 +18,31 @@ use Rattle.store.specs.declared.row.Places.{Places}
 -- "without MSN it's read but ignored": a number of the profile, by its place, is selected by all, or by its own name
 unfoldable pub numberChosen : Profile → Served → ℕ → Bool
 numberChosen p served k =
-    pick (eqb (p .msn) 0) true
-    (pick (eqb (served .all) 1) true (eqb (placeIn p (served .number) (servedNumbers p)) k))
+    any (eqb (p .msn) 0 ∷ eqb (served .all) 1 ∷ eqb (placeIn p (served .number) (servedNumbers p)) k ∷ [])
 
 -- `asked` tells which numbers are chosen: all where it is 255, else the one at that place
+abbrev pub everyNumber : ℕ
+everyNumber = 255
+
+abbrev pub isAsked : ℕ → ℕ → Bool
+isAsked asked k = any (eqb asked everyNumber ∷ eqb asked k ∷ [])
+
 abbrev pub Asks : Profile → Served → ℕ → Type 0
-Asks p served asked = (k : ℕ) → k < 255 → numberChosen p served k ≡ pick (eqb asked 255) true (eqb asked k)
+Asks p served asked = (k : ℕ) → k < everyNumber → numberChosen p served k ≡ isAsked asked k
 
 -- "code 0: all subscribed"
 unfoldable pub serviceChosen : ℕ → ℕ → Bool
-serviceChosen service code = pick (eqb service 0) true (eqb service code)
+serviceChosen service code = any (eqb service 0 ∷ eqb service code ∷ [])
 
 -- a place is selected if its number and its service are, and the profile has them
 unfoldable pub selects : Profile → Request → ℕ → Bool
 selects p r j =
-    pick (ltb (numberOfPlace j) (p .numbercount))
-    (pick (ltb (serviceOfPlace j) (p .servicecount))
-    (pick (numberChosen p (r .served) (numberOfPlace j))
-    (serviceChosen (r .service) (getD (p .services) (serviceOfPlace j) 0))
-    false)
-    false)
-    false
+    all
+    (ltb (numberOfPlace j) (p .numbercount)
+    ∷ ltb (serviceOfPlace j) (p .servicecount)
+    ∷ numberChosen p (r .served) (numberOfPlace j)
+    ∷ serviceChosen (r .service) (getD (p .services) (serviceOfPlace j) 0)
+    ∷ [])
 
 -- the procedure that a request names is the one that it concerns
 abbrev pub concerns : Request → ℕ → Bool

@@ -15,7 +15,7 @@ use store::Places;
 use store::Row;
 ghost use mathlib.Core.Path.{_≡_};
 ghost use Rattle.lists.specs.Entries.{instancesMost};
-ghost use Rattle.rules.specs.Judge.{isSubscribed, first, everyTests, activationTests, deactivationTests, JudgeRequest, ApplyRequest};
+ghost use Rattle.rules.specs.Judge.{isSubscribed, fits, firstError, verdictNo, everyTests, activationTests, deactivationTests, JudgeRequest, ApplyRequest};
 
 // Whether the profile has the procedure.
 fn is_subscribed(p: Profile, procedure: u8) -> bool
@@ -30,7 +30,7 @@ fn is_subscribed(p: Profile, procedure: u8) -> bool
 
 // The tests of every request.
 fn judge_every(p: Profile, r: Request) -> Verdict
-    ensures { λ v. ⌜ v ≡ first (everyTests p r) ⌝ }
+    ensures { λ v. ⌜ verdictNo v ≡ firstError (everyTests p r) ⌝ }
 {
     if p.inuse == 0 {
         return Verdict::Fails { error: 3 };
@@ -44,8 +44,15 @@ fn judge_every(p: Profile, r: Request) -> Verdict
     Verdict::Passes
 }
 
+// Whether so many instances of a procedure may be.
+fn fits(p: Profile, count: usize) -> bool
+    ensures { λ b. ⌜ b ≡ fits instancesMost p count ⌝ }
+{
+    count <= LIMIT
+}
+
 fn judge_activation(p: Profile, r: Request, w: Places, row: Row) -> Verdict
-    ensures { λ v. ⌜ v ≡ first (activationTests instancesMost p r w row) ⌝ }
+    ensures { λ v. ⌜ verdictNo v ≡ firstError (activationTests instancesMost p r w row) ⌝ }
 {
     if not_provided(p, r) {
         return Verdict::Fails { error: 8 };
@@ -64,14 +71,14 @@ fn judge_activation(p: Profile, r: Request, w: Places, row: Row) -> Verdict
     if selected_same(p, r) {
         return Verdict::Fails { error: 15 };
     }
-    if LIMIT < row.count_with(w) {
+    if !fits(p, row.count_with(w)) {
         return Verdict::Fails { error: 11 };
     }
     Verdict::Passes
 }
 
 fn judge_deactivation(w: Places, row: Row) -> Verdict
-    ensures { λ v. ⌜ v ≡ first (deactivationTests w row) ⌝ }
+    ensures { λ v. ⌜ verdictNo v ≡ firstError (deactivationTests w row) ⌝ }
 {
     if row.active_of(w) == 0 {
         return Verdict::Fails { error: 46 };
@@ -79,7 +86,7 @@ fn judge_deactivation(w: Places, row: Row) -> Verdict
     Verdict::Passes
 }
 
-// The first test that fails decides.
+// The first test that holds decides.
 pub fn judge_request(p: Profile, operation: u8, r: Request, w: Places, row: Row) -> Verdict
     ensures { λ v. ⌜ JudgeRequest p operation r w row v ⌝ }
 {

@@ -8,13 +8,13 @@ use requests::Request;
 use store::PLACES;
 use store::Places;
 ghost use mathlib.Core.Path.{_≡_};
-ghost use mathlib.Core.Bool.{true, false};
-ghost use lib.Dec.{ltb, eqb};
+ghost use mathlib.Core.Bool.{false};
+ghost use lib.Dec.{ltb};
 ghost use lib.ListN.{getD};
 ghost use Rattle.laws.specs.Pick.{pick};
 ghost use Rattle.laws.specs.Places.{eachFrom};
 ghost use Rattle.profile.specs.Profile.{servicesMost};
-ghost use Rattle.rules.specs.Selection.{Asks, serviceChosen, PlacesOf};
+ghost use Rattle.rules.specs.Selection.{Asks, isAsked, serviceChosen, PlacesOf};
 
 // What `number_asked` answers where a request selects every number.
 const EVERY: usize = 255;
@@ -36,7 +36,7 @@ pub(crate) fn number_asked(p: Profile, r: Request) -> usize
 
 // Whether the number at the place `k` is selected.
 pub(crate) fn is_asked(asked: usize, k: usize) -> bool
-    ensures { λ b. ⌜ b ≡ pick (eqb asked 255) true (eqb asked k) ⌝ }
+    ensures { λ b. ⌜ b ≡ isAsked asked k ⌝ }
 {
     if asked == EVERY {
         return true;
@@ -46,7 +46,7 @@ pub(crate) fn is_asked(asked: usize, k: usize) -> bool
 
 // Whether the profile has a number at the place `k`, and it is selected.
 fn number_chosen(asked: usize, numbers: usize, k: usize) -> bool
-    ensures { λ b. ⌜ b ≡ pick (ltb k numbers) (pick (eqb asked 255) true (eqb asked k)) false ⌝ }
+    ensures { λ b. ⌜ b ≡ pick (ltb k numbers) (isAsked asked k) false ⌝ }
 {
     if k < numbers {
         return is_asked(asked, k);

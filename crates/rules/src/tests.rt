@@ -10,7 +10,7 @@ use profile::service_slot;
 use requests::Request;
 ghost use mathlib.Core.Path.{_≡_};
 ghost use Rattle.profile.specs.Profile.{servedNumbers};
-ghost use Rattle.rules.specs.Judge.{servedInvalid, notProvided, otherKind, selectedSame};
+ghost use Rattle.rules.specs.Judge.{hasAllNumbers, isServed, servedInvalid, isProvided, notProvided, otherKind, selectedSame};
 
 // The forms and the type that are told apart, and the most digits of an international number.
 const PUBLIC: u8 = 1;
@@ -21,6 +21,21 @@ const INTERNATIONAL: u8 = 1;
 
 const INTERNATIONALMOST: u8 = 15;
 
+// The "all numbers" option.
+fn has_all_numbers(p: Profile) -> bool
+    ensures { λ b. ⌜ b ≡ hasAllNumbers p ⌝ }
+{
+    p.all != 0
+}
+
+// Whether a number is one of the profile's.
+fn is_served(p: Profile, n: Number) -> bool
+    ensures { λ b. ⌜ b ≡ isServed p n ⌝ }
+{
+    let count = p.numbercount as usize;
+    number_place(p, n) < count
+}
+
 pub(crate) fn served_invalid(p: Profile, r: Request) -> bool
     ensures { λ b. ⌜ b ≡ servedInvalid p r ⌝ }
 {
@@ -29,11 +44,18 @@ pub(crate) fn served_invalid(p: Profile, r: Request) -> bool
     }
     let served = r.served;
     if served.all == 1 {
-        return p.all == 0;
+        return !has_all_numbers(p);
     }
     let number = served.number;
-    let count = p.numbercount as usize;
-    count <= number_place(p, number)
+    !is_served(p, number)
+}
+
+// Whether a service is one of the profile's.
+fn is_provided(p: Profile, service: u8) -> bool
+    ensures { λ b. ⌜ b ≡ isProvided p service ⌝ }
+{
+    let count = p.servicecount as usize;
+    service_slot(p, service) < count
 }
 
 pub(crate) fn not_provided(p: Profile, r: Request) -> bool
@@ -42,8 +64,7 @@ pub(crate) fn not_provided(p: Profile, r: Request) -> bool
     if r.service == 0 {
         return false;
     }
-    let count = p.servicecount as usize;
-    count <= service_slot(p, r.service)
+    !is_provided(p, r.service)
 }
 
 pub(crate) fn other_kind(n: Number) -> bool

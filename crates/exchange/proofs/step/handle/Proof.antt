@@ -1,6 +1,7 @@
 use Rattle.exchange.proofs.Steps.{handled-fails, handled-listed, handled-changed}
+use Rattle.rules.specs.Judge.{verdictNo}
 use mir.Facts.{toZ-ofZ}
-use mathlib.Core.Path.{sym, _∙_}
+use mathlib.Core.Path.{sym, ap, _∙_}
 use borrow.Author.Needs.{needs}
 use Rattle.exchange.proofs.step.handle.Statement.{statement}
 use Rattle.exchange.proofs.step.handle.Tie as tie
@@ -35,7 +36,7 @@ returns c =
     (handled-listed (a .p) (a .identifier) (a .operation) (a .r) (a .last) (j .before .before .places-of .result) (a .row)
     (j .before .before .places-of .ensures)
     _ (rw (toZ-ofZ (k .fits .identifier)) at (j .before .last-after .ensures))
-    (sym (j .judge-request .ensures) ∙ c .before .before .enum-told .given .1)
+    (sym (j .judge-request .ensures) ∙ ap verdictNo (c .before .before .enum-told .given .1))
     (c .before .if1 .taken)
     _ (c .entries .ensures))
 
@@ -54,7 +55,7 @@ returns-2 c =
     (handled-fails (a .p) (a .identifier) (a .operation) (a .r) (a .last) (j .before .before .places-of .result) (a .row)
     (j .before .before .places-of .ensures)
     _ (rw (toZ-ofZ (k .fits .identifier)) at (j .before .last-after .ensures))
-    _ (sym (j .judge-request .ensures) ∙ c .before .before .error .given .1)
+    _ (sym (j .judge-request .ensures) ∙ ap verdictNo (c .before .before .error .given .1))
     _ (c .no-entries .ensures))
 
 returns-3 : tie.Need-returns-3
@@ -66,7 +67,7 @@ returns-3 c =
     (handled-changed (a .p) (a .identifier) (a .operation) (a .r) (a .last) (j .before .before .places-of .result) (a .row)
     (j .before .before .places-of .ensures)
     _ (rw (toZ-ofZ (k .fits .identifier)) at (j .before .last-after .ensures))
-    (sym (j .judge-request .ensures) ∙ c .before .before .before .enum-told .given .1)
+    (sym (j .judge-request .ensures) ∙ ap verdictNo (c .before .before .before .enum-told .given .1))
     (c .before .before .if1 .left)
     _ (c .before .apply-request .ensures)
     _ (c .no-entries2 .ensures))

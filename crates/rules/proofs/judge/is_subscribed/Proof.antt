@@ -1,9 +1,10 @@
-use Rattle.rules.proofs.Judges.{subscribed-not, subscribed-past}
+use Rattle.rules.proofs.Judges.{subscribed-past}
+use Rattle.rules.specs.Judge.{isSubscribed}
 use Rattle.store.specs.Grid.{procedures}
 use borrow.Author.Needs.{needs}
 use native.Mathlib.Omega.{arith}
 use lib.ListN.{length}
-use mathlib.Core.Path.{_≡_}
+use mathlib.Core.Path.{_≡_, refl}
 use Rattle.rules.proofs.judge.is_subscribed.Statement.{statement}
 use Rattle.rules.proofs.judge.is_subscribed.Tie as tie
 
@@ -11,7 +12,8 @@ array-read-result : tie.Need-array-read-result
 array-read-result c = search needs
 
 returns : tie.Need-returns
-returns c = let s = c .before .before .args in subscribed-not (s .p) (s .procedure)
+unfolding isSubscribed
+returns c = refl
 
 returns-2 : tie.Need-returns-2
 returns-2 c = let s = c .before .before .args in let long : length (s .p .subscribed) ≡ procedures = search needs in subscribed-past (s .p) (s .procedure) (omega arith)

@@ -1,8 +1,9 @@
+use Rattle.rules.specs.Judge.{verdictNo}
 use Rattle.rules.proofs.Judges.{judge-fails, judge-rest, judge-interrogation}
 use Rattle.lists.specs.Entries.{instancesMost}
 use borrow.Author.Tests.{eq-eqb, ne-eqb}
 use borrow.Author.Needs.{needs}
-use mathlib.Core.Path.{sym, _∙_}
+use mathlib.Core.Path.{sym, ap, _∙_}
 use Rattle.rules.proofs.judge.judge_request.Statement.{statement}
 use Rattle.rules.proofs.judge.judge_request.Tie as tie
 
@@ -19,19 +20,45 @@ judge-activation-requires : tie.Need-judge-activation-requires
 judge-activation-requires c κs = search needs
 
 returns : tie.Need-returns
-returns c = let s = c .before .before .before .before .before .args in rw (judge-rest instancesMost (s .p) (s .operation) (s .r) (s .w) (s .row) (sym (c .before .before .before .before .judge-every .ensures) ∙ c .before .before .enum-told .given .1), eq-eqb _ _ (c .before .if1 .taken)) (c .judge-activation .ensures)
+returns c =
+    let every = c .before .before .before .before in
+    let s = every .before .args in
+    let passes = sym (every .judge-every .ensures) ∙ ap verdictNo (c .before .before .enum-told .given .1) in
+    rw (
+      judge-rest instancesMost (s .p) (s .operation) (s .r) (s .w) (s .row) passes,
+      eq-eqb _ _ (c .before .if1 .taken),
+    )
+    (c .judge-activation .ensures)
 
 judge-deactivation-requires : tie.Need-judge-deactivation-requires
 judge-deactivation-requires c κs = search needs
 
 returns-2 : tie.Need-returns-2
-returns-2 c = let s = c .before .before .before .before .before .before .args in rw (judge-rest instancesMost (s .p) (s .operation) (s .r) (s .w) (s .row) (sym (c .before .before .before .before .before .judge-every .ensures) ∙ c .before .before .before .enum-told .given .1), ne-eqb _ _ (c .before .before .if1 .left), eq-eqb _ _ (c .before .if2 .taken)) (c .judge-deactivation .ensures)
+returns-2 c =
+    let every = c .before .before .before .before .before in
+    let s = every .before .args in
+    let passes = sym (every .judge-every .ensures) ∙ ap verdictNo (c .before .before .before .enum-told .given .1) in
+    rw (
+      judge-rest instancesMost (s .p) (s .operation) (s .r) (s .w) (s .row) passes,
+      ne-eqb _ _ (c .before .before .if1 .left),
+      eq-eqb _ _ (c .before .if2 .taken),
+    )
+    (c .judge-deactivation .ensures)
 
 returns-3 : tie.Need-returns-3
-returns-3 c = let s = c .before .before .before .before .args in sym (judge-fails instancesMost (s .p) (s .operation) (s .r) (s .w) (s .row) _ (sym (c .before .before .before .judge-every .ensures) ∙ c .before .error .given .1))
+returns-3 c =
+    let every = c .before .before .before in
+    let s = every .before .args in
+    let fails = sym (every .judge-every .ensures) ∙ ap verdictNo (c .before .error .given .1) in
+    sym (judge-fails instancesMost (s .p) (s .operation) (s .r) (s .w) (s .row) _ fails)
 
 returns-4 : tie.Need-returns-4
-returns-4 c = let s = c .before .before .before .before .before .args in sym (judge-interrogation instancesMost (s .p) (s .operation) (s .r) (s .w) (s .row) (c .before .if1 .left) (c .if2 .left) ∙ sym (c .before .before .before .before .judge-every .ensures) ∙ c .before .before .enum-told .given .1)
+returns-4 c =
+    let every = c .before .before .before .before in
+    let s = every .before .args in
+    let passes = sym (every .judge-every .ensures) ∙ ap verdictNo (c .before .before .enum-told .given .1) in
+    sym (judge-interrogation instancesMost (s .p) (s .operation) (s .r) (s .w) (s .row) (c .before .if1 .left) (c .if2 .left)
+    ∙ passes)
 
 pub judge-request-spec : {M : Type 1} → statement M
 judge-request-spec =

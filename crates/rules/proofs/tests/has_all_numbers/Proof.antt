@@ -1,0 +1,9 @@
+use mathlib.Core.Path.{refl}
+use Rattle.rules.proofs.tests.has_all_numbers.Statement.{statement}
+use Rattle.rules.proofs.tests.has_all_numbers.Tie as tie
+
+returns : tie.Need-returns
+returns c = refl
+
+pub has-all-numbers-spec : {M : Type 1} → statement M
+has-all-numbers-spec = tie.close (tie.spec returns)
