@@ -1,11 +1,11 @@
 -- A call as it comes to the access: lent octets at fixed offsets, laid out in docs/RECORDS.md (document 01, "Calls").
 use Prim.Native.Nat.{ℕ, _+_}
-use mathlib.Core.Bool.{Bool, false}
-use mathlib.Core.List.{List}
+use mathlib.Core.Bool.{Bool, not}
+use mathlib.Core.List.{List, [], _∷_}
 use lib.ListN.{length, getD}
 use lib.Seq.{slice}
 use lib.Dec.{ltb, leb, eqb}
-use Rattle.laws.specs.Pick.{pick}
+use Rattle.laws.specs.Tests.{all}
 use Rattle.codes.specs.Codes.{serviceCode}
 use Rattle.numbers.specs.Number.{most}
 use Rattle.codes.specs.Digits.{allDigits}
@@ -35,26 +35,29 @@ callFrom s = record {
 -- "names a profile number, a service": one of the sixteen, whether or not it is subscribed
 unfoldable pub namesGood : Profile → Call → Bool
 namesGood p c =
-    pick (ltb (c .number) (p .numbercount)) (pick (eqb (c .service) 0) false (serviceCode (c .service))) false
+    all (ltb (c .number) (p .numbercount) ∷ not (eqb (c .service) 0) ∷ serviceCode (c .service) ∷ [])
 
 -- "a counter 0 to 5, the chain's notification option, .. its presentation .. and the preference indicator 0 to 2"
 unfoldable pub valuesGood : Call → Bool
 valuesGood c =
-    pick (leb (c .event) (eventNo noReply))
-    (pick (leb (c .counter) 5)
-    (pick (leb (c .option) 2) (pick (leb (c .presentation) 1) (leb (c .preference) 2) false) false)
-    false)
-    false
+    all
+    (leb (c .event) (eventNo noReply)
+    ∷ leb (c .counter) 5
+    ∷ leb (c .option) 2
+    ∷ leb (c .presentation) 1
+    ∷ leb (c .preference) 2
+    ∷ [])
 
 -- "a digit string over 20 or not digits"; "empty: absent"
 unfoldable pub originalGood : List ℕ → ℕ → Bool
-originalGood s count = pick (leb count most) (allDigits (slice originalAt (originalAt + count) s)) false
+originalGood s count = all (leb count most ∷ allDigits (slice originalAt (originalAt + count) s) ∷ [])
 
 -- "Refusal 5: a value outside these"; a record of another size too
 unfoldable pub callGood : Profile → List ℕ → Bool
 callGood p s =
-    pick (eqb (length s) callSize)
-    (pick (namesGood p (callFrom s))
-    (pick (valuesGood (callFrom s)) (originalGood s (callFrom s .count)) false)
-    false)
-    false
+    all
+    (eqb (length s) callSize
+    ∷ namesGood p (callFrom s)
+    ∷ valuesGood (callFrom s)
+    ∷ originalGood s (callFrom s .count)
+    ∷ [])

@@ -7,7 +7,7 @@ use mathlib.Core.Option.{Option, none, some}
 use lib.ListN.{getD, replicate}
 use lib.Dec.{ltb, leb, eqb}
 use Rattle.laws.specs.Pick.{pick}
-use Rattle.laws.specs.Tests.{test, first}
+use Rattle.laws.specs.Tests.{any, test, first}
 use Rattle.refusals.specs.Refusal.{refusalNo, Told, refuses, tells}
 use Rattle.refusals.specs.declared.refusal.Refusal.{Refusal}
 use Rattle.refusals.specs.declared.refusal.Refusal.the-variants.{BadProfile, BadTable, BadCall, LimitReached}
@@ -69,11 +69,14 @@ placeOfCall p c = servicesMost * c .number + slotOf p c
 -- "for that number and service. No instance, or the access not in use: not diverted"
 unfoldable pub applying : Profile → Grid → Call → Option Address
 applying p grid c =
-    pick (eqb (p .inuse) 0) none
-    (pick (leb (p .servicecount) (slotOf p c)) none
-    (pick (active (rowAt grid (procedureOf (c .event))) (placeOfCall p c))
+    pick
+    (any
+    (eqb (p .inuse) 0
+    ∷ leb (p .servicecount) (slotOf p c)
+    ∷ not (active (rowAt grid (procedureOf (c .event))) (placeOfCall p c))
+    ∷ []))
+    none
     (some (cellAt (rowAt grid (procedureOf (c .event))) (placeOfCall p c) .address))
-    none))
 
 -- ---- what a diverted call becomes
 

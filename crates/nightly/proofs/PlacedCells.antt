@@ -9,7 +9,8 @@ use lib.Seq.{getD-set-same, getD-set-other}
 use lib.Dec.{ltb, eqb}
 use borrow.Author.Tests.{eq-eqb, lt-ltb, eqb-true, eqb-false, ltb-true}
 use Rattle.laws.specs.Pick.{pick}
-use Rattle.laws.proofs.Picks.{pick-then}
+use Rattle.laws.specs.Tests.{all}
+use Rattle.laws.proofs.Picks.{pick-then, pick-last}
 use Rattle.codes.specs.Codes.{placeOf}
 use Rattle.profile.specs.Profile.{servicesMost, subscribedServices, profileGood}
 use Rattle.profile.specs.declared.profile.Profile.{Profile}
@@ -37,19 +38,20 @@ module _ (p : Profile) (i : Instance) where
   unfolding inProfile
   fitting inside h =
       let slot : Bool = ltb (placeOf (i .service) (subscribedServices p)) (p .servicecount) in
-      let a = pick-then (eqb (getD (p .subscribed) (i .procedure) 0) 1) (pick (ltb (i .number) (p .numbercount)) slot false) h in
-      let b = pick-then (ltb (i .number) (p .numbercount)) slot (a .1) in
+      let number : Bool = ltb (i .number) (p .numbercount) in
+      let a = pick-then (eqb (getD (p .subscribed) (i .procedure) 0) 1) (all (number ∷ slot ∷ [])) h in
+      let b = pick-then number (all (slot ∷ [])) (a .1) in
       record {
         procedure = inside;
         subscribed = eqb-true (getD (p .subscribed) (i .procedure) 0) 1 (a .0);
         number = ltb-true (i .number) (p .numbercount) (b .0);
-        slot = ltb-true (placeOf (i .service) (subscribedServices p)) (p .servicecount) (b .1);
+        slot = ltb-true (placeOf (i .service) (subscribedServices p)) (p .servicecount) (sym (pick-last slot) ∙ b .1);
       }
 
   pub fitting-in : Fitting p i → inProfile p i ≡ true
   unfolding inProfile
   fitting-in fits =
-      rw (eq-eqb _ _ (fits .subscribed), lt-ltb _ _ (fits .number)) (lt-ltb _ _ (fits .slot))
+      rw (eq-eqb _ _ (fits .subscribed), lt-ltb _ _ (fits .number), pick-last _) (lt-ltb _ _ (fits .slot))
 
 pub all-parts :
     (p : Profile) (i : Instance) (is : List Instance) → allIn p (i ∷ is) ≡ true → (inProfile p i ≡ true) × (allIn p is ≡ true)

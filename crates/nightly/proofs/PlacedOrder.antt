@@ -1,7 +1,7 @@
 -- The instances of a grid on which instances were placed in their order: exactly these. Assumes nothing.
 use Prim.Native.Nat.{ℕ, zero, suc, _+_, _*_, _≤_, _<_}
 use mathlib.Core.Path.{_≡_, refl, sym, ap, _∙_}
-use mathlib.Core.Bool.{true, false, false≢true}
+use mathlib.Core.Bool.{true, false, not, false≢true}
 use mathlib.Core.List.{List, [], _∷_, _++_, append-assoc, append-nil}
 use mathlib.Core.Logic.{⊎-elim}
 use native.Mathlib.Nat.{eq-or-lt-of-le}
@@ -10,7 +10,7 @@ use lib.ListN.{length, length-take}
 use lib.Dec.{eqb}
 use borrow.Author.Tests.{ne-eqb, eqb-true, eqb-false}
 use Rattle.laws.specs.Places.{gathered}
-use Rattle.laws.proofs.Picks.{pick-ind, pick-else}
+use Rattle.laws.proofs.Picks.{pick-ind, pick-then, not-passed}
 use Rattle.laws.proofs.Walks.{gathered-more, gathered-ind}
 use Rattle.laws.proofs.Chosen.{gathered-same}
 use Rattle.profile.specs.Profile.{servicesMost, subscribedServices, profileGood}
@@ -206,7 +206,7 @@ module _ (p : Profile) (profile : profileGood p ≡ true) where
 
     service-some : (i : Instance) → FieldsFit i → i .service ≡ 0 → ⊥
     service-some i fits e =
-        eqb-false (i .service) 0 (pick-else (eqb (i .service) 0) _ (fits .service) .0) e
+        eqb-false (i .service) 0 (not-passed _ (pick-then (not (eqb (i .service) 0)) _ (fits .service) .0)) e
 
     lined-after :
         (i : Instance) (is : List Instance) → Fitting p i → Ascends (i ∷ is) → AllFit is → allIn p is ≡ true →

@@ -9,7 +9,8 @@ use lib.ListN.{getD}
 use lib.Dec.{ltb, eqb}
 use borrow.Author.Tests.{ltb-true}
 use Rattle.laws.specs.Pick.{pick}
-use Rattle.laws.proofs.Picks.{pick-then}
+use Rattle.laws.specs.Tests.{all}
+use Rattle.laws.proofs.Picks.{pick-then, pick-last}
 use Rattle.codes.specs.Codes.{placeOf}
 use Rattle.profile.specs.Profile.{subscribedServices}
 use Rattle.profile.specs.declared.profile.Profile.{Profile}
@@ -33,9 +34,10 @@ pub in-slot : (p : Profile) (i : Instance) → inProfile p i ≡ true → placeO
 unfolding inProfile
 in-slot p i h =
     let slot : Bool = ltb (placeOf (i .service) (subscribedServices p)) (p .servicecount) in
-    let q = pick-then (eqb (getD (p .subscribed) (i .procedure) 0) 1) (pick (ltb (i .number) (p .numbercount)) slot false) h in
+    let number : Bool = ltb (i .number) (p .numbercount) in
+    let q = pick-then (eqb (getD (p .subscribed) (i .procedure) 0) 1) (all (number ∷ slot ∷ [])) h in
     ltb-true (placeOf (i .service) (subscribedServices p)) (p .servicecount)
-    (pick-then (ltb (i .number) (p .numbercount)) slot (q .1) .1)
+    (sym (pick-last slot) ∙ pick-then number (all (slot ∷ [])) (q .1) .1)
 
 module _ (p : Profile) where
   all-none : allIn p [] ≡ true

@@ -109,8 +109,8 @@ module _ (p : Profile) (t : Table) (good : tableGood instancesMost p t ≡ true)
         rw (
           ne-eqb (one .service) 0 (active-some (rowAt (t .grid) k) j there),
           lt-ltb (one .service) 256 (omega (arith, service-most (one .service) code)),
+          code,
         )
-        code
 
     one-fits : Arrays t → FieldsFit one
     one-fits arrays = record {

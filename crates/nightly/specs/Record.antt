@@ -6,7 +6,7 @@ use mathlib.Core.List.{List, [], _∷_}
 use lib.ListN.{length, getD, set}
 use lib.Dec.{ltb, eqb}
 use Rattle.laws.specs.Pick.{pick}
-use Rattle.laws.specs.Tests.{test, first}
+use Rattle.laws.specs.Tests.{all, test, first}
 use Rattle.laws.specs.Got.{Got, got, wrong}
 use Rattle.laws.specs.Over.{over}
 use Rattle.refusals.specs.Refusal.{refusalNo, Told, refuses, tells}
@@ -55,9 +55,11 @@ pub record WritesSheet (access : List ℕ) (t : Table) (xs : List ℕ) (r : Writ
 -- "anything outside the table's rules is refusal 9": an instance of a subscribed procedure and service, for a number of the profile
 unfoldable pub inProfile : Profile → Instance → Bool
 inProfile p i =
-    pick (eqb (getD (p .subscribed) (i .procedure) 0) 1)
-    (pick (ltb (i .number) (p .numbercount)) (ltb (placeOf (i .service) (subscribedServices p)) (p .servicecount)) false)
-    false
+    all
+    (eqb (getD (p .subscribed) (i .procedure) 0) 1
+    ∷ ltb (i .number) (p .numbercount)
+    ∷ ltb (placeOf (i .service) (subscribedServices p)) (p .servicecount)
+    ∷ [])
 
 unfoldable pub allIn : Profile → List Instance → Bool
 allIn p [] = true

@@ -1,7 +1,7 @@
 -- What is read of an instance is within the bounds of its fields. Assumes nothing.
 use Prim.Native.Nat.{ℕ, zero, suc, _+_, _≤_, _<_}
-use mathlib.Core.Path.{_≡_}
-use mathlib.Core.Bool.{true, false}
+use mathlib.Core.Path.{_≡_, sym, _∙_}
+use mathlib.Core.Bool.{true, false, not}
 use mathlib.Core.List.{List, [], _∷_}
 use native.Mathlib.Omega.{arith}
 use lib.ListN.{length-map}
@@ -9,7 +9,8 @@ use lib.Dec.{ltb, leb, eqb}
 use borrow.Author.Tests.{eqb-true, leb-true}
 use Rattle.laws.specs.Pick.{pick}
 use Rattle.laws.proofs.Gots.{Something, found-then, found-is}
-use Rattle.laws.proofs.Picks.{pick-ind, pick-then, pick-else}
+use Rattle.laws.specs.Tests.{all}
+use Rattle.laws.proofs.Picks.{pick-ind, pick-then, pick-else, pick-last}
 use Rattle.codes.specs.Codes.{serviceCode}
 use Rattle.numbers.specs.Number.{unknown, most, fair}
 use Rattle.numbers.specs.declared.address.Address.{Address}
@@ -64,8 +65,9 @@ pub record Bounded (form : Form) (i : Instance) : Type 0 where
 
 service-few : (n : ℕ) → serviceOf n ≡ true → n ≤ 42
 service-few n h =
-    let small = pick-else (eqb n 0) (pick (ltb n 256) (serviceCode n) false) h .1 in
-    service-most n (pick-then (ltb n 256) (serviceCode n) small .1)
+    let code = all (serviceCode n ∷ []) in
+    let small = pick-then (not (eqb n 0)) (pick (ltb n 256) code false) h .1 in
+    service-most n (sym (pick-last (serviceCode n)) ∙ pick-then (ltb n 256) code small .1)
 
 pub instance-bounded : (form : Form) (s : List ℕ) (at : ℕ) → Something (Bounded form) (instanceFrom form s at)
 unfolding instanceFrom

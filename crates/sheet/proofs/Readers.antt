@@ -1,7 +1,7 @@
 -- Laws of the readers of addresses and instances, over plain values. Assumes nothing.
 use Prim.Native.Nat.{ℕ, zero, suc, _+_, _-_, _≤_, _<_}
 use mathlib.Core.Path.{_≡_, refl, sym, ap, _∙_}
-use mathlib.Core.Bool.{true, false, false≢true}
+use mathlib.Core.Bool.{true, false, not, false≢true}
 use mathlib.Core.List.{List, [], _∷_, map}
 use native.Mathlib.Omega.{arith}
 use lib.ListN.{length, replicate, length-append, length-replicate, length-map}
@@ -9,6 +9,7 @@ use lib.Seq.{take-append-le, take-length}
 use lib.Dec.{ltb, leb, eqb, leb·suc-suc}
 use borrow.Author.Tests.{lt-ltb, le-ltb, eq-eqb, ne-eqb, ltb-true, eqb-true}
 use Rattle.laws.specs.Pick.{pick}
+use Rattle.laws.specs.Tests.{all}
 use Rattle.laws.specs.Got.{Got, got, wrong, andThen}
 use Rattle.laws.proofs.Gots.{found-is}
 use Rattle.laws.proofs.Picks.{pick-ind, pick-then, pick-else}
@@ -217,7 +218,8 @@ forwarded-none wrong r e h = refl
 -- one of the sixteen is an octet
 pub service-small : (n : ℕ) → serviceOf n ≡ true → ltb n 256 ≡ true
 service-small n h =
-    pick-then (ltb n 256) (serviceCode n) (pick-else (eqb n 0) (pick (ltb n 256) (serviceCode n) false) h .1) .0
+    let code = all (serviceCode n ∷ []) in
+    pick-then (ltb n 256) code (pick-then (not (eqb n 0)) (pick (ltb n 256) code false) h .1) .0
 
 module _ (s : List ℕ) (at : ℕ) where
   service-tested : fieldAt serviceOf s at ≡ andThen (fieldBelow 256 s at) (λ n next. pick (serviceOf n) (got n next) wrong)

@@ -1,11 +1,12 @@
 -- An instance in a night sheet: "procedure, number index, service, form (0 unknown, 1 public), type (0 if unknown), digit count, digits,
 -- subaddress length (0 none), octets", each a number in groups of seven bits (document 01, "Night sheet").
 use Prim.Native.Nat.{ℕ, zero, suc, _+_, _-_}
-use mathlib.Core.Bool.{Bool, true, false}
+use mathlib.Core.Bool.{Bool, true, false, not}
 use mathlib.Core.List.{List, [], _∷_, _++_, map}
 use lib.ListN.{length, take}
 use lib.Dec.{ltb, leb, eqb}
 use Rattle.laws.specs.Pick.{pick}
+use Rattle.laws.specs.Tests.{all}
 use Rattle.laws.specs.Got.{Got, got, wrong, andThen}
 use Rattle.groups.specs.Groups.{groups, groupsAt}
 use Rattle.groups.specs.declared.groups.Groups.{Groups}
@@ -79,7 +80,7 @@ addressFrom s at =
 
 -- one of the sixteen services
 abbrev pub serviceOf : ℕ → Bool
-serviceOf code = pick (eqb code 0) false (pick (ltb code 256) (serviceCode code) false)
+serviceOf code = all (not (eqb code 0) ∷ ltb code 256 ∷ serviceCode code ∷ [])
 
 unfoldable pub instanceFrom : Form → List ℕ → ℕ → Got Instance
 instanceFrom f s at =

@@ -1,4 +1,5 @@
 use Rattle.calls.specs.Call.{callGood}
+use Rattle.laws.proofs.Picks.{pick-last}
 use mathlib.Core.Path.{sym, _∙_}
 use borrow.Author.Tests.{eq-eqb, ne-eqb, not-true, not-false}
 use borrow.Author.Needs.{needs}
@@ -48,6 +49,7 @@ returns-4 c =
       ← c .before .before .before .before .before .call-of .ensures,
       sym (c .before .before .before .before .names-good .ensures) ∙ not-false _ (c .before .before .before .if2 .left),
       sym (c .before .before .values-good .ensures) ∙ not-false _ (c .before .if3 .left),
+      pick-last _,
     )
     (c .original-good .ensures)
 

@@ -1,4 +1,5 @@
 use Rattle.calls.specs.Call.{namesGood}
+use Rattle.laws.proofs.Picks.{pick-last}
 use borrow.Author.Tests.{eq-eqb, ne-eqb, lt-ltb, le-ltb}
 use borrow.Author.Needs.{needs}
 use Rattle.calls.proofs.call.names_good.Statement.{statement}
@@ -17,7 +18,8 @@ service-code-requires c κs = search needs
 
 returns-3 : tie.Need-returns-3
 unfolding namesGood
-returns-3 c = rw (lt-ltb _ _ (c .before .before .before .if1 .left), ne-eqb _ _ (c .before .if2 .left)) (c .service-code .ensures)
+returns-3 c =
+    rw (lt-ltb _ _ (c .before .before .before .if1 .left), ne-eqb _ _ (c .before .if2 .left), pick-last _) (c .service-code .ensures)
 
 pub names-good-spec : {M : Type 1} → statement M
 names-good-spec = tie.close (tie.spec returns returns-2 service-code-requires returns-3)

@@ -1,5 +1,6 @@
 use Rattle.calls.specs.Call.{originalAt, originalGood}
 use Rattle.laws.proofs.Parts.{part-slice}
+use Rattle.laws.proofs.Picks.{pick-last}
 use Rattle.codes.specs.Digits.{allDigits}
 use Prim.Native.Nat.{_+_}
 use mathlib.Core.Path.{ap, _∙_}
@@ -31,7 +32,7 @@ returns-2 : tie.Need-returns-2
 unfolding originalGood
 returns-2 c =
     let a = c .before .before .before .before .args in
-    rw (le-leb _ _ (c .before .before .if1 .left))
+    rw (le-leb _ _ (c .before .before .if1 .left), pick-last _)
     (c .all-digits .ensures ∙ ap allDigits (part-slice originalAt (originalAt + a .count) (a .s .now)))
 
 pub original-good-spec : {M : Type 1} → statement M

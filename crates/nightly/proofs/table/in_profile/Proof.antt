@@ -1,4 +1,6 @@
 use Rattle.nightly.specs.Record.{inProfile}
+use Rattle.laws.proofs.Picks.{pick-last}
+use mathlib.Core.Path.{sym}
 use borrow.Author.Tests.{eq-eqb, ne-eqb, lt-ltb, le-ltb}
 use borrow.Author.Needs.{needs}
 use Rattle.nightly.proofs.table.in_profile.Statement.{statement}
@@ -26,7 +28,13 @@ service-slot-requires c κs = search needs
 
 returns-3 : tie.Need-returns-3
 unfolding inProfile
-returns-3 c = rw (eq-eqb _ _ (c .before .before .before .before .before .if1 .left), lt-ltb _ _ (c .before .before .if2 .left), ← c .service-slot .ensures)
+returns-3 c =
+    rw (
+      eq-eqb _ _ (c .before .before .before .before .before .if1 .left),
+      lt-ltb _ _ (c .before .before .if2 .left),
+      ← c .service-slot .ensures,
+    )
+    (sym (pick-last _))
 
 pub in-profile-spec : {M : Type 1} → statement M
 in-profile-spec =
