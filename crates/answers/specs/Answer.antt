@@ -51,6 +51,15 @@ answerWhose (answer.Error identifier value) = whose.Own identifier
 answerWhose (answer.Result identifier) = whose.Own identifier
 answerWhose (answer.Listing identifier) = whose.Own identifier
 
+-- an answer by document 01's numbers: its own, its values, and whose request it answers
+pub record Answered : Type 0 where
+  pub number : ℕ
+  pub values : List ℕ
+  pub whose : Whose
+
+abbrev pub answeredBy : Answer → Answered
+answeredBy a = record { number = answerNo a; values = answerValues a; whose = answerWhose a }
+
 -- "identifier NULL", or the request's own
 abbrev pub whoseOctets : Whose → List ℕ
 whoseOctets whose.Null = element 0x05 []

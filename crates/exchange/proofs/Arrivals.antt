@@ -39,7 +39,8 @@ use Rattle.answers.proofs.Fits.{EntriesFit, answer-most}
 use Rattle.exchange.specs.Table.{tableGood, withRow, withLast}
 use Rattle.exchange.specs.Question.{question}
 use Rattle.exchange.specs.Step.{Step, resultOf, verdictOf, handled, stepOf, step, Stepping}
-use Rattle.exchange.specs.Arrive.{answeredBy, outputLeast, componentMost, refused, answered, done, Arrives}
+use Rattle.answers.specs.Answer.{answeredBy}
+use Rattle.exchange.specs.Arrive.{outputLeast, componentMost, refused, answered, done, Arrives}
 use Rattle.exchange.specs.inner.Refused.{arrivedRefused}
 use Rattle.exchange.specs.declared.table.Table.{Table}
 use Rattle.exchange.specs.declared.step.Stepped.{Stepped}

@@ -2,8 +2,9 @@
 use mathlib.Core.Path.{_≡_, sym, ap}
 use Rattle.refusals.specs.Refusal.{refusalNo}
 use Rattle.refusals.proofs.Refusals.{refusal-same, refuses-same, tells-same, refuses-not}
-use Rattle.answers.proofs.Numbers.{answer-same}
-use Rattle.exchange.specs.Arrive.{Answered, answeredBy, arrivingTold}
+use Rattle.answers.proofs.Numbers.{answered-same}
+use Rattle.answers.specs.Answer.{answeredBy}
+use Rattle.exchange.specs.Arrive.{arrivingTold}
 use Rattle.exchange.specs.declared.arrive.Arriving.{Arriving}
 use Rattle.exchange.specs.declared.arrive.Arriving.the-variants.{Refuses, Answers}
 
@@ -12,10 +13,4 @@ pub arriving-same : (a b : Arriving) → arrivingTold a ≡ arrivingTold b → a
 arriving-same (Refuses x) (Refuses y) h = ap Refuses (refusal-same x y (refuses-same _ _ h))
 arriving-same (Refuses x) (Answers b) h = absurd (refuses-not _ _ h)
 arriving-same (Answers a) (Refuses y) h = absurd (refuses-not _ _ (sym h))
-arriving-same (Answers a) (Answers b) h =
-    let e = tells-same (answeredBy a) (answeredBy b) h in
-    ap Answers
-    (answer-same a b
-    (ap (λ (x : Answered). x .number) e)
-    (ap (λ (x : Answered). x .values) e)
-    (ap (λ (x : Answered). x .whose) e))
+arriving-same (Answers a) (Answers b) h = ap Answers (answered-same a b (tells-same (answeredBy a) (answeredBy b) h))

@@ -8,3 +8,4 @@ pub mod Nexts
 pub mod Registered
 pub mod Questions
 pub mod Fitting
+pub mod QuestionNumbers

@@ -38,7 +38,8 @@ use Rattle.exchange.specs.Table.{tableGood}
 use Rattle.exchange.specs.Question.{question}
 use Rattle.exchange.specs.declared.question.Question.{Question}
 use Rattle.exchange.specs.Step.{Step, stays, moved, resultOf, verdictOf, handled, stepOf, step}
-use Rattle.exchange.specs.Arrive.{Answered, answeredBy, outputLeast, componentMost, Done, refused, answered, done}
+use Rattle.answers.specs.Answer.{Answered, answeredBy}
+use Rattle.exchange.specs.Arrive.{outputLeast, componentMost, Done, refused, answered, done}
 use Rattle.exchange.specs.declared.table.Table.{Table}
 use Rattle.exchange.proofs.Questions.{RequestAsked, AtOnce, silence, reject, question-asks, question-range, question-says}
 use Rattle.exchange.proofs.Arrivals.{step-fits}

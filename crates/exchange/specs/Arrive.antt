@@ -12,7 +12,7 @@ use Rattle.refusals.specs.declared.refusal.Refusal.{Refusal}
 use Rattle.refusals.specs.declared.refusal.Refusal.the-variants.{ShortOutput, LongComponent, BadProfile, BadTable}
 use Rattle.profile.specs.Access.{accessRead}
 use Rattle.lists.specs.Entries.{instancesMost}
-use Rattle.answers.specs.Answer.{answerNo, answerValues, answerWhose, answerOctets}
+use Rattle.answers.specs.Answer.{answerOctets, Answered, answeredBy}
 use Rattle.answers.specs.declared.answer.Answer.{Answer}
 use Rattle.answers.specs.declared.answer.Whose.{Whose}
 use Rattle.exchange.specs.Table.{tableGood}
@@ -21,15 +21,6 @@ use Rattle.exchange.specs.declared.table.Table.{Table}
 use Rattle.exchange.specs.declared.arrive.Arriving.{Arriving}
 use Rattle.exchange.specs.declared.arrive.Arriving.the-variants.{Refuses, Answers}
 use Rattle.exchange.specs.declared.arrive.Arrived.{Arrived}
-
--- an answer by document 01's numbers: its own, its values, and whose request it answers
-pub record Answered : Type 0 where
-  pub number : ℕ
-  pub values : List ℕ
-  pub whose : Whose
-
-abbrev pub answeredBy : Answer → Answered
-answeredBy a = record { number = answerNo a; values = answerValues a; whose = answerWhose a }
 
 -- what is told of an arriving component
 abbrev pub arrivingTold : Arriving → Told Answered

@@ -15,6 +15,7 @@ use Rattle.requests.specs.declared.heard.Heard.{Heard}
 use Rattle.requests.specs.declared.heard.Heard.the-variants as heard
 use Rattle.requests.specs.declared.heard.Operation.{Operation}
 use Rattle.requests.specs.declared.request.Request.{Request}
+use Rattle.answers.specs.Answer.{answeredBy}
 use Rattle.answers.specs.declared.answer.Answer.{Answer}
 use Rattle.answers.specs.declared.answer.Answer.the-variants as answer
 use Rattle.answers.specs.declared.answer.Problem.{Problem}
@@ -86,6 +87,11 @@ questionOf p last s (heard.Asks identifier operation at end) = invoked p last s 
 unfoldable pub question : Profile → ℕ → List ℕ → Question
 question p last s = questionOf p last s (heard s)
 
--- what `question_of` promises
-abbrev pub QuestionOf : Profile → ℕ → List ℕ → Question → Type 0
-QuestionOf p last s r = r ≡ question p last s
+-- what `question_of` promises: whether something is asked, the request with its identifier and operation, and the answer where nothing is,
+-- by document 01's numbers
+pub record QuestionOf (p : Profile) (last : ℕ) (s : List ℕ) (r : Question) : Type 0 where
+  pub asked : r .asked ≡ question p last s .asked
+  pub answer : answeredBy (r .answer) ≡ answeredBy (question p last s .answer)
+  pub identifier : r .identifier ≡ question p last s .identifier
+  pub operation : r .operation ≡ question p last s .operation
+  pub request : r .request ≡ question p last s .request

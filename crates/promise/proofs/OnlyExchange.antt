@@ -11,6 +11,7 @@ use Rattle.exchange.specs.declared.table.Table.{Table}
 use Rattle.exchange.specs.declared.arrive.Arriving.{Arriving}
 use Rattle.exchange.specs.declared.arrive.Arrived.{Arrived}
 use Rattle.exchange.proofs.Arrivings.{arriving-same}
+use Rattle.exchange.proofs.QuestionNumbers.{question-is}
 use Rattle.exchange.specs.Question.{QuestionOf}
 use Rattle.exchange.specs.declared.question.Question.{Question}
 
@@ -44,4 +45,4 @@ only-arrive access t s xs {r} {q} a b = (
 
 pub only-question-of :
     (p : Profile) (last : ℕ) (s : List ℕ) {a b : Question} → QuestionOf p last s a → QuestionOf p last s b → a ≡ b
-only-question-of p last s = both
+only-question-of p last s a b = both (question-is a) (question-is b)

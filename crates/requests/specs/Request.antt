@@ -17,7 +17,7 @@ use Rattle.octets.specs.declared.head.Head.the-variants as head
 use Rattle.skip.specs.declared.skip.Skip.{Skip}
 use Rattle.skip.specs.declared.skip.Skip.the-variants as skip
 use Rattle.codes.specs.Codes.{procedureCode, serviceCode}
-use Rattle.numbers.specs.Number.{valueOf, numberOf, numberAt}
+use Rattle.numbers.specs.Number.{valueOf, numberAt, blankNumber}
 use Rattle.numbers.specs.Address.{subOf, forwardedOf, addressAt}
 use Rattle.numbers.specs.declared.number.Number.{Number}
 use Rattle.numbers.specs.declared.address.Forwarded.{Forwarded}
@@ -48,16 +48,12 @@ unfoldable pub serviceAt : ℕ → List ℕ → ℕ → ℕ → Got ℕ
 serviceAt depth s at end =
     pick (all (ltb at end ∷ eqb (getD s at 0) enumeratedTag ∷ [])) (codeAt serviceCode depth s at end) (got 0 at)
 
--- the number of a record that has none
-abbrev pub noNumber : Number
-noNumber = numberOf 0 0 []
-
 -- a served user number: one of its own, or NULL, all of them
 abbrev pub individual : Number → Served
 individual number = record { all = 0; number = number }
 
 abbrev pub allNumbers : Served
-allNumbers = record { all = 1; number = noNumber }
+allNumbers = record { all = 1; number = blankNumber }
 
 abbrev pub servedIn : ℕ → List ℕ → ℕ → ℕ → Head → Got Served
 servedIn depth s at end (head.Is tag start stop next) =
@@ -77,14 +73,14 @@ privates s at end = fills (λ a. privateAt s a end) (end - at) at end
 
 -- no forwarded-to address
 abbrev pub noForwarded : Forwarded
-noForwarded = forwardedOf noNumber (subOf [])
+noForwarded = forwardedOf blankNumber (subOf [])
 
 abbrev pub requestOf : ℕ → ℕ → Forwarded → Served → Request
 requestOf procedure service to served = record { procedure = procedure; service = service; served = served; to = to }
 
 -- the request of a record that has none
 abbrev pub noRequest : Request
-noRequest = requestOf 0 0 noForwarded (individual noNumber)
+noRequest = requestOf 0 0 noForwarded (individual blankNumber)
 
 -- the served number, and nothing but private elements after it
 unfoldable pub lastIn : ℕ → ℕ → Forwarded → List ℕ → ℕ → ℕ → Got Request

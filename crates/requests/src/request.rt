@@ -2,10 +2,11 @@
 use numbers::Address;
 use numbers::Forwarded;
 use numbers::Number;
+ghost use Rattle.numbers.specs.Number.{blankNumber};
 ghost use mathlib.Core.Path.{_≡_};
 ghost use Rattle.laws.specs.Got.{wrong};
 ghost use Rattle.requests.specs.inner.Served.{servedRead};
-ghost use Rattle.requests.specs.Request.{noNumber, noForwarded, requestRead};
+ghost use Rattle.requests.specs.Request.{noForwarded, requestRead};
 
 // A served user number: all of them where `all` is 1, and then the number carries no meaning.
 #[repr(C)]
@@ -38,7 +39,7 @@ pub(crate) struct ServedRead {
 
 // The number of a record that holds none.
 pub(crate) fn blank() -> Number
-    ensures { λ r. ⌜ r ≡ noNumber ⌝ }
+    ensures { λ r. ⌜ r ≡ blankNumber ⌝ }
 {
     Number {
         form: 0,

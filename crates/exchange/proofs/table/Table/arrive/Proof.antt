@@ -1,3 +1,4 @@
+use Rattle.exchange.proofs.QuestionNumbers.{question-is}
 use Rattle.laws.proofs.Parts.{unmapped}
 use Rattle.profile.proofs.Records.{access-good}
 use Rattle.profile.specs.declared.access.AccessRead.{AccessRead}
@@ -77,7 +78,7 @@ mul-row c = search needs
 
 element-copy-out-row : tie.Need-element-copy-out-row
 element-copy-out-row c =
-    let small : c .before .question-of .result .request .procedure < 3 = rw (c .before .question-of .ensures) (question-procedure _ _ _) in
+    let small : c .before .question-of .result .request .procedure < 3 = rw (question-is (c .before .question-of .ensures)) (question-procedure _ _ _) in
     search needs
 
 step-of-requires : tie.Need-step-of-requires
@@ -88,7 +89,7 @@ mul-after c = search needs
 
 element-set-from-after : tie.Need-element-set-from-after
 element-set-from-after c =
-    let small : c .before .before .before .before .question-of .result .request .procedure < 3 = rw (c .before .before .before .before .question-of .ensures) (question-procedure _ _ _) in
+    let small : c .before .before .before .before .question-of .result .request .procedure < 3 = rw (question-is (c .before .before .before .before .question-of .ensures)) (question-procedure _ _ _) in
     search needs
 
 put-answer-requires : tie.Need-put-answer-requires
@@ -105,11 +106,11 @@ returns-5 c =
     let good = rw read at (sym (c .before .before .before .before .before .before .before .before .before .before .before .good2 .ensures) ∙ not-false _ (c .before .before .before .before .before .before .before .before .before .before .if4 .left)) in
     let room : outputLeast ≤ length (a .out .now) = omega (arith, c .before .before .before .before .before .before .before .before .before .before .before .before .before .before .before .before .before .if1 .left) in
     let q = c .before .before .before .before .before .before .before .before .before .question-of .result in
-    let small : q .request .procedure < 3 = rw (c .before .before .before .before .before .before .before .before .before .question-of .ensures) (question-procedure _ _ _) in
+    let small : q .request .procedure < 3 = rw (question-is (c .before .before .before .before .before .before .before .before .before .question-of .ensures)) (question-procedure _ _ _) in
     let start = c .before .before .before .before .before .before .before .before .before .before .before .before .before .before .before .before .before .before .before .before .before .before in
     let rows : length (start .args .self .grid .rows) ≡ 3 = search (unmapped, needs, start .good) in
     let steps : Stepping (a .self) (q .request .procedure) (step (c .before .before .before .before .before .before .before .before .before .before .before .before .before .before .before .read-access .result .profile) (a .self) (a .component .now)) (c .before .before .before .before .before .before .step-of .result) =
-    rw (step-of _ (a .self) (a .component .now) _ (c .before .before .before .before .before .before .before .before .before .question-of .ensures))
+    rw (step-of _ (a .self) (a .component .now) _ (question-is (c .before .before .before .before .before .before .before .before .before .question-of .ensures)))
     (c .before .before .before .before .before .before .step-of .ensures (a .self) refl refl (omega (arith, rows))) in
     answered-arrives (a .access .now) (a .self) (a .component .now) (a .out .now) _ _ _ _ _
     (done-answers (a .access .now) (a .self) (a .component .now) (length (a .out .now)) room (omega (arith, c .before .before .before .before .before .before .before .before .before .before .before .before .before .before .before .before .if2 .left)) ok good)
