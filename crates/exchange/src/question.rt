@@ -2,9 +2,6 @@
 use answers::Answer;
 use answers::Problem;
 use answers::Whose;
-use numbers::Address;
-use numbers::Forwarded;
-use numbers::Number;
 use profile::Profile;
 use requests::ACTIVATION;
 use requests::DEACTIVATION;
@@ -12,8 +9,8 @@ use requests::Heard;
 use requests::INTERROGATION;
 use requests::Operation;
 use requests::Request;
-use requests::Served;
 use requests::argument_at;
+use requests::blank_request;
 use requests::hear;
 ghost use mathlib.Core.Path.{_≡_};
 ghost use Rattle.answers.specs.declared.answer.Problem.the-variants.{General};
@@ -40,33 +37,13 @@ pub struct Question {
 fn says_at_once(answer: Answer) -> Question
     ensures { λ r. ⌜ r ≡ says answer ⌝ }
 {
-    let none = Number {
-        form: 0,
-        kind: 0,
-        count: 0,
-        digits: [0; 20],
-    };
+    let request = blank_request();
     Question {
         asked: false,
         answer,
         identifier: 0,
         operation: 0,
-        request: Request {
-            procedure: 0,
-            service: 0,
-            served: Served {
-                all: 0,
-                number: none,
-            },
-            to: Forwarded {
-                address: Address {
-                    number: none,
-                    subcount: 0,
-                    sub: [0; 20],
-                },
-                user: 0,
-            },
-        },
+        request,
     }
 }
 

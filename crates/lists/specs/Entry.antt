@@ -11,13 +11,12 @@ use Rattle.values.specs.Enumerated.{enumeratedAt, enumeratedOctets}
 use Rattle.octets.specs.declared.head.Head.{Head}
 use Rattle.octets.specs.declared.head.Head.the-variants as head
 use Rattle.numbers.specs.Number.{other, valueOf, numberAt, tidyNumber, numberGood, numberOctets, blankNumber}
-use Rattle.numbers.specs.Address.{addressAt, tidyAddress, addressGood, addressOctets}
+use Rattle.numbers.specs.Address.{blankAddress, addressAt, tidyAddress, addressGood, addressOctets}
 use Rattle.numbers.specs.declared.number.Number.{Number}
 use Rattle.numbers.specs.declared.address.Address.{Address}
 use Rattle.numbers.specs.declared.address.Forwarded.{Forwarded}
 use Rattle.requests.specs.Part.{onlyIf}
 use Rattle.requests.specs.Heard.{argumentDepth}
-use Rattle.requests.specs.Request.{noForwarded}
 use Rattle.lists.specs.declared.entry.Entry.{Entry}
 
 abbrev pub entryOf : Number → ℕ → ℕ → Address → Entry
@@ -30,7 +29,7 @@ entryOf served service procedure address = record {
 
 -- the record that stands where there is no entry
 abbrev pub noEntry : Entry
-noEntry = entryOf blankNumber 0 0 (noForwarded .address)
+noEntry = entryOf blankNumber 0 0 blankAddress
 
 -- ---- written
 

@@ -3,6 +3,8 @@ use numbers::Address;
 use numbers::Forwarded;
 use numbers::Number;
 use numbers::address_at;
+use numbers::blank_address;
+use numbers::blank_number;
 use numbers::number_at;
 use octets::Head;
 use octets::head_at;
@@ -40,31 +42,16 @@ pub(crate) struct EntryRead {
     pub(crate) next: usize,
 }
 
-fn blank() -> Number
-    ensures { λ r. ⌜ r ≡ noEntry .served ⌝ }
-{
-    Number {
-        form: 0,
-        kind: 0,
-        count: 0,
-        digits: [0; 20],
-    }
-}
-
 pub(crate) fn no_entry() -> Entry
     ensures { λ r. ⌜ r ≡ noEntry ⌝ }
 {
-    let served = blank();
-    let number = blank();
+    let served = blank_number();
+    let address = blank_address();
     Entry {
         served,
         service: 0,
         procedure: 0,
-        address: Address {
-            number,
-            subcount: 0,
-            sub: [0; 20],
-        },
+        address,
     }
 }
 

@@ -7,7 +7,7 @@ use lib.IntN.{ℤ}
 use Rattle.laws.proofs.Picks.{both}
 use Rattle.requests.proofs.Numbers.{hears-is}
 use Rattle.requests.specs.Heard.{Hears, ReplyTag}
-use Rattle.requests.specs.Request.{ArgumentAt}
+use Rattle.requests.specs.Request.{ArgumentAt, BlankRequest}
 use Rattle.requests.specs.declared.heard.Heard.{Heard}
 use Rattle.requests.specs.declared.heard.Operation.{Operation}
 use Rattle.requests.specs.declared.request.RequestRead.{RequestRead}
@@ -32,3 +32,6 @@ pub only-put-request :
     PutRequest xs identifier operation r n zs →
     (m ≡ n) × (ys ≡ zs)
 only-put-request xs identifier operation r a b = (both (a .counted) (b .counted), both (a .holds) (b .holds))
+
+pub only-blank-request : {a b : Request} → BlankRequest a → BlankRequest b → a ≡ b
+only-blank-request = both

@@ -18,7 +18,7 @@ use Rattle.skip.specs.declared.skip.Skip.{Skip}
 use Rattle.skip.specs.declared.skip.Skip.the-variants as skip
 use Rattle.codes.specs.Codes.{procedureCode, serviceCode}
 use Rattle.numbers.specs.Number.{valueOf, numberAt, blankNumber}
-use Rattle.numbers.specs.Address.{subOf, forwardedOf, addressAt}
+use Rattle.numbers.specs.Address.{addressAt, blankForwarded}
 use Rattle.numbers.specs.declared.number.Number.{Number}
 use Rattle.numbers.specs.declared.address.Forwarded.{Forwarded}
 use Rattle.requests.specs.Part.{onlyIf, lastAt, tagIs}
@@ -73,7 +73,7 @@ privates s at end = fills (λ a. privateAt s a end) (end - at) at end
 
 -- no forwarded-to address
 abbrev pub noForwarded : Forwarded
-noForwarded = forwardedOf blankNumber (subOf [])
+noForwarded = blankForwarded
 
 abbrev pub requestOf : ℕ → ℕ → Forwarded → Served → Request
 requestOf procedure service to served = record { procedure = procedure; service = service; served = served; to = to }
@@ -132,6 +132,10 @@ argumentAt operation s at end = localAt s at end (operation .value)
 abbrev pub requestRead : Got Request → RequestRead
 requestRead (got request next) = record { ok = true; request = request }
 requestRead wrong = record { ok = false; request = noRequest }
+
+-- what `blank_request` promises
+abbrev pub BlankRequest : Request → Type 0
+BlankRequest r = r ≡ noRequest
 
 -- what `argument_at` promises
 abbrev pub ArgumentAt : Operation → List ℕ → ℕ → ℕ → RequestRead → Type 0

@@ -10,13 +10,13 @@ use crate::request::Request;
 use crate::request::RequestRead;
 use crate::request::Served;
 use crate::request::ServedRead;
-use crate::request::blank;
 use crate::request::no_request;
 use crate::request::no_served;
 use crate::request::to_nowhere;
 use codes::service_code;
 use numbers::Forwarded;
 use numbers::address_at;
+use numbers::blank_number;
 use numbers::number_at;
 use octets::Head;
 use octets::head_at;
@@ -100,7 +100,7 @@ fn served_at(s: &[u8], at: usize, end: usize) -> ServedRead
         } => {
             if tag == 0x05 {
                 if start == stop {
-                    let number = blank();
+                    let number = blank_number();
                     return ServedRead {
                         ok: true,
                         served: Served { all: 1, number },

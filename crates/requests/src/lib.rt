@@ -20,4 +20,5 @@ pub use heard::reply_tag;
 pub use request::Request;
 pub use request::RequestRead;
 pub use request::Served;
+pub use request::blank_request;
 pub use sent::put_request;

@@ -1,6 +1,7 @@
 // Numbers and addresses from the octets of their records (docs/RECORDS.md); zeros where there are too few.
 use numbers::Address;
 use numbers::Number;
+use numbers::blank_number;
 use octets::put_all;
 ghost use mathlib.Core.Path.{_≡_};
 ghost use mathlib.Core.List.{[]};
@@ -19,22 +20,11 @@ fn twenty_of(s: &[u8]) -> [u8; 20]
     octets
 }
 
-fn no_number() -> Number
-    ensures { λ r. ⌜ r ≡ numberOf 0 0 [] ⌝ }
-{
-    Number {
-        form: 0,
-        kind: 0,
-        count: 0,
-        digits: [0; 20],
-    }
-}
-
 pub fn number_of(s: &[u8]) -> Number
     ensures { λ r. ⌜ NumberOf (now (s .entry)) r ⌝ }
 {
     if s.len() < NUMBERSIZE {
-        return no_number();
+        return blank_number();
     }
     let digits = twenty_of(&s[3..NUMBERSIZE]);
     Number {
@@ -49,7 +39,7 @@ pub fn address_of(s: &[u8]) -> Address
     ensures { λ r. ⌜ AddressOf (now (s .entry)) r ⌝ }
 {
     if s.len() < ADDRESSSIZE {
-        let number = no_number();
+        let number = blank_number();
         return Address {
             number,
             subcount: 0,

@@ -17,14 +17,14 @@ no-served-requires c κs = search needs
 enum-known-tag : tie.Need-enum-known-tag
 enum-known-tag c = search needs
 
-blank-requires : tie.Need-blank-requires
-blank-requires c κs = search needs
+blank-number-requires : tie.Need-blank-number-requires
+blank-number-requires c κs = search needs
 
 returns : tie.Need-returns
 unfolding servedAt
 returns c =
     let found = sym (c .before .before .before .before .before .before .head-at .ensures) ∙ c .before .before .before .before .tag .given .1 in
-    rw (found, eq-eqb _ _ (c .before .before .if1 .taken), eq-eqb _ _ (c .before .if2 .taken), c .blank .ensures)
+    rw (found, eq-eqb _ _ (c .before .before .if1 .taken), eq-eqb _ _ (c .before .if2 .taken), c .blank-number .ensures)
 
 no-served-requires-2 : tie.Need-no-served-requires-2
 no-served-requires-2 c κs = search needs
@@ -56,7 +56,7 @@ served-at-spec =
     enum-told
     no-served-requires
     enum-known-tag
-    blank-requires
+    blank-number-requires
     returns
     no-served-requires-2
     returns-2

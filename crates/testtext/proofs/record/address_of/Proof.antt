@@ -7,12 +7,12 @@ use borrow.Author.Needs.{needs}
 use Rattle.testtext.proofs.record.address_of.Statement.{statement}
 use Rattle.testtext.proofs.record.address_of.Tie as tie
 
-no-number-requires : tie.Need-no-number-requires
-no-number-requires c κs = search needs
+blank-number-requires : tie.Need-blank-number-requires
+blank-number-requires c κs = search needs
 
 returns : tie.Need-returns
 unfolding addressOfOctets
-returns c = rw (lt-ltb _ _ (c .before .if1 .taken), c .no-number .ensures)
+returns c = rw (lt-ltb _ _ (c .before .if1 .taken), c .blank-number .ensures)
 
 slice-aggregate-number-of : tie.Need-slice-aggregate-number-of
 slice-aggregate-number-of c = simp length-take (omega arith)
@@ -46,7 +46,7 @@ pub address-of-spec : {M : Type 1} → statement M
 address-of-spec =
     tie.close
     (tie.spec
-    no-number-requires
+    blank-number-requires
     returns
     slice-aggregate-number-of
     number-of-requires

@@ -5,12 +5,12 @@ use borrow.Author.Needs.{needs}
 use Rattle.testtext.proofs.record.number_of.Statement.{statement}
 use Rattle.testtext.proofs.record.number_of.Tie as tie
 
-no-number-requires : tie.Need-no-number-requires
-no-number-requires c κs = search needs
+blank-number-requires : tie.Need-blank-number-requires
+blank-number-requires c κs = search needs
 
 returns : tie.Need-returns
 unfolding numberOfOctets
-returns c = rw (lt-ltb _ _ (c .before .if1 .taken), c .no-number .ensures)
+returns c = rw (lt-ltb _ _ (c .before .if1 .taken), c .blank-number .ensures)
 
 sub-twenty-of : tie.Need-sub-twenty-of
 sub-twenty-of c = search needs
@@ -41,7 +41,7 @@ pub number-of-spec : {M : Type 1} → statement M
 number-of-spec =
     tie.close
     (tie.spec
-    no-number-requires
+    blank-number-requires
     returns
     sub-twenty-of
     part-twenty-of-start
