@@ -2,7 +2,7 @@
 -- that what is read is one. Assumes nothing.
 use Prim.Native.Nat.{ℕ, zero, suc, _-_, _≤_, _<_}
 use mathlib.Core.Path.{_≡_, refl, _∙_}
-use mathlib.Core.Bool.{Bool, true, false}
+use mathlib.Core.Bool.{true, false}
 use mathlib.Core.List.{List, [], _∷_}
 use mathlib.Core.Logic.{_⊎_, inl, inr, ⊎-elim}
 use native.Mathlib.Omega.{arith}
@@ -21,7 +21,8 @@ use Rattle.octets.specs.declared.head.Head.the-variants as head
 use Rattle.octets.specs.declared.head.Head.{Head}
 use Rattle.octets.specs.Head.{headAt}
 use Rattle.values.specs.Enumerated.{enumeratedAt}
-use Rattle.numbers.specs.Number.{most, unknown, public, other, fair, digitsGood, numberOf, digitsIn, valueOf, stringOf, stringAt, publicIn, otherTag, numberIn, numberAt, digitsOf, formGood, numberGood}
+use Rattle.numbers.specs.Number.{most, unknown, public, other, fair, digitsGood, numberOf, digitsIn, valueOf}
+use Rattle.numbers.specs.Number.{stringOf, stringAt, publicIn, otherTag, numberIn, numberAt, digitsOf, formGood, numberGood}
 use Rattle.codes.specs.Digits.{allDigits, typeGood}
 use Rattle.numbers.specs.Address.{octetsIn, subIn, subAt, forwardedOf, addressIn, addressAt, addressGood}
 use Rattle.numbers.specs.declared.number.Number.{Number}

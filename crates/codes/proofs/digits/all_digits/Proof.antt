@@ -25,7 +25,14 @@ returns : tie.Need-returns Inv-loop μ-loop
 returns c = let l = c .before .before .before in rw (l .loop .inv .1, digits-step (l .before .args .s .now) (l .loop .i) (omega arith), lt-ltb _ _ (c .if1 .taken))
 
 returns-2 : tie.Need-returns-2 Inv-loop μ-loop
-returns-2 c = let l = c .before .before .before .before in rw (l .loop .inv .1, digits-step (l .before .args .s .now) (l .loop .i) (omega arith), le-ltb _ _ (c .before .if1 .left), lt-ltb _ _ (c .if2 .taken))
+returns-2 c =
+    let l = c .before .before .before .before in
+    rw (
+      l .loop .inv .1,
+      digits-step (l .before .args .s .now) (l .loop .i) (omega arith),
+      le-ltb _ _ (c .before .if1 .left),
+      lt-ltb _ _ (c .if2 .taken),
+    )
 
 add-i : tie.Need-add-i Inv-loop μ-loop
 add-i c = search needs
@@ -34,7 +41,12 @@ loop-less : tie.Need-loop-less Inv-loop μ-loop
 loop-less c = search needs
 
 loop-again : tie.Need-loop-again Inv-loop μ-loop
-loop-again c = let l = c .before .before .before .before in (search needs, l .loop .inv .1 ∙ rw (digits-step (l .before .args .s .now) (l .loop .i) (omega arith), le-ltb _ _ (c .before .if1 .left), le-ltb _ _ (c .if2 .left)))
+loop-again c =
+    let l = c .before .before .before .before in (
+      search needs,
+      l .loop .inv .1
+          ∙ rw (digits-step (l .before .args .s .now) (l .loop .i) (omega arith), le-ltb _ _ (c .before .if1 .left), le-ltb _ _ (c .if2 .left)),
+    )
 
 returns-3 : tie.Need-returns-3 Inv-loop μ-loop
 returns-3 c = let l = c .before in let e : l .loop .i ≡ length (l .before .args .s .now) = omega arith in sym (l .loop .inv .1 ∙ rw e (digits-end (l .before .args .s .now)))

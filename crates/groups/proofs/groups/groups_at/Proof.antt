@@ -33,14 +33,20 @@ last-group-requires : tie.Need-last-group-requires
 last-group-requires c κs = search needs
 
 returns-4 : tie.Need-returns-4
-returns-4 c = sym (groups-at-open _ _ _ (c .before .before .before .before .before .if1 .left) _ (c .before .before .before .before .if2 .left) (c .before .before .if3 .left) (c .before .last-group .ensures) (c .if4 .taken))
+returns-4 c =
+    sym
+    (groups-at-open _ _ _ (c .before .before .before .before .before .if1 .left) _ (c .before .before .before .before .if2 .left)
+    (c .before .before .if3 .left) (c .before .last-group .ensures) (c .if4 .taken))
 
 shared-slice-read-top : tie.Need-shared-slice-read-top
 shared-slice-read-top c = search needs
 
 returns-5 : tie.Need-returns-5
-returns-5 c = let d = c .before .before in
-    sym (groups-at-zero _ _ _ (d .before .before .before .before .before .if1 .left) _ (d .before .before .before .before .if2 .left) (d .before .before .if3 .left) (d .before .last-group .ensures) (d .if4 .left) (c .if5 .taken))
+returns-5 c =
+    let d = c .before .before in
+    sym
+    (groups-at-zero _ _ _ (d .before .before .before .before .before .if1 .left) _ (d .before .before .before .before .if2 .left)
+    (d .before .before .if3 .left) (d .before .last-group .ensures) (d .if4 .left) (c .if5 .taken))
 
 add-next : tie.Need-add-next
 add-next c = search needs
@@ -49,8 +55,11 @@ sub-k : tie.Need-sub-k
 sub-k c = search needs
 
 returns-6 : tie.Need-returns-6
-returns-6 c = let d = c .before .before .before in
-    sym (groups-at-large _ _ _ (d .before .before .before .before .before .if1 .left) _ (d .before .before .before .before .if2 .left) (d .before .before .if3 .left) (d .before .last-group .ensures) (d .if4 .left) (c .before .if5 .left) (c .if6 .taken))
+returns-6 c =
+    let d = c .before .before .before in
+    sym
+    (groups-at-large _ _ _ (d .before .before .before .before .before .if1 .left) _ (d .before .before .before .before .if2 .left)
+    (d .before .before .if3 .left) (d .before .last-group .ensures) (d .if4 .left) (c .before .if5 .left) (c .if6 .taken))
 
 groups-value-requires : tie.Need-groups-value-requires
 groups-value-requires c κs = search needs
@@ -59,17 +68,21 @@ cast-t18 : tie.Need-cast-t18
 cast-t18 c = search needs
 
 returns-7 : tie.Need-returns-7
-returns-7 c = let d = c .before .before .before .before .before in
+returns-7 c =
+    let d = c .before .before .before .before .before in
     rw (
-      groups-at-ends _ _ _ (d .before .before .before .before .before .if1 .left) _ (d .before .before .before .before .if2 .left) (d .before .before .if3 .left) (d .before .last-group .ensures) (d .if4 .left) (c .before .before .before .if5 .left),
+      groups-at-ends _ _ _ (d .before .before .before .before .before .if1 .left) _ (d .before .before .before .before .if2 .left)
+          (d .before .before .if3 .left) (d .before .last-group .ensures) (d .if4 .left) (c .before .before .before .if5 .left),
       ← c .before .groups-value .ensures,
       lt-ltb _ _ (c .if7 .taken),
     )
 
 returns-8 : tie.Need-returns-8
-returns-8 c = let d = c .before .before .before .before .before in
+returns-8 c =
+    let d = c .before .before .before .before .before in
     rw (
-      groups-at-ends _ _ _ (d .before .before .before .before .before .if1 .left) _ (d .before .before .before .before .if2 .left) (d .before .before .if3 .left) (d .before .last-group .ensures) (d .if4 .left) (c .before .before .before .if5 .left),
+      groups-at-ends _ _ _ (d .before .before .before .before .before .if1 .left) _ (d .before .before .before .before .if2 .left)
+          (d .before .before .if3 .left) (d .before .last-group .ensures) (d .if4 .left) (c .before .before .before .if5 .left),
       ← c .before .groups-value .ensures,
       le-ltb _ _ (c .if7 .left),
     )

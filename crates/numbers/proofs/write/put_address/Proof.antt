@@ -49,33 +49,53 @@ put-head-requires : tie.Need-put-head-requires
 put-head-requires c κs = search needs
 
 write-number-requires : tie.Need-write-number-requires
-write-number-requires c κs = let a = c .before .before .before .before .before .before .before .before .before .before .args .a in
-    let digits : length (a .number .digits) ≡ most = search (needs, c .before .before .before .before .before .before .before .before .before .before .good) in
-    let sub : length (a .sub) ≡ most = search (needs, c .before .before .before .before .before .before .before .before .before .before .good) in
+write-number-requires c κs =
+    let k = c .before .before .before .before .before .before .before in
+    let a = k .before .before .before .args .a in
+    let digits : length (a .number .digits) ≡ most = search (needs, k .before .before .before .good) in
+    let sub : length (a .sub) ≡ most = search (needs, k .before .before .before .good) in
     let few = every-contents-most a digits sub in
-    let fits : c .before .before .before .before .before .before .before .before .before .before .args .at + length (addressOctets a) ≤ length (c .before .before .before .before .before .before .before .before .before .before .args .out .now) = omega (arith, c .before .before .before .before .before .before .before .before .contents-size .ensures, address-long a few, c .before .before .before .before .before .before .before .if1 .left, c .before .before .before .before .before .before .if2 .left) in
-    let rest = address-room a fits (c .before .before .before .before .before .before .before .before .contents-size .ensures) (c .before .before .before .put-head .ensures) in
+    let fits : k .before .before .before .args .at + length (addressOctets a) ≤ length (k .before .before .before .args .out .now) =
+    omega (
+      arith,
+      k .before .contents-size .ensures,
+      address-long a few,
+      k .if1 .left,
+      c .before .before .before .before .before .before .if2 .left,
+    ) in
+    let rest = address-room a fits (k .before .contents-size .ensures) (c .before .before .before .put-head .ensures) in
     omega (arith, rest, length-append (numberOctets (a .number)) (subOctets (subOctetsOf a)))
 
 write-sub-requires : tie.Need-write-sub-requires
-write-sub-requires c κs = let a = c .before .before .before .before .before .before .before .before .before .before .before .before .before .before .args .a in
-    let digits : length (a .number .digits) ≡ most = search (needs, c .before .before .before .before .before .before .before .before .before .before .before .before .before .before .good) in
-    let sub : length (a .sub) ≡ most = search (needs, c .before .before .before .before .before .before .before .before .before .before .before .before .before .before .good) in
+write-sub-requires c κs =
+    let k = c .before .before .before .before .before .before .before .before .before .before in
+    let a = k .before .before .before .before .args .a in
+    let digits : length (a .number .digits) ≡ most = search (needs, k .before .before .before .before .good) in
+    let sub : length (a .sub) ≡ most = search (needs, k .before .before .before .before .good) in
     let few = every-contents-most a digits sub in
-    let fits : c .before .before .before .before .before .before .before .before .before .before .before .before .before .before .args .at + length (addressOctets a) ≤ length (c .before .before .before .before .before .before .before .before .before .before .before .before .before .before .args .out .now) = omega (arith, c .before .before .before .before .before .before .before .before .before .before .before .before .contents-size .ensures, address-long a few, c .before .before .before .before .before .before .before .before .before .before .before .if1 .left, c .before .before .before .before .before .before .before .before .before .before .if2 .left) in
-    let rest = address-room a fits (c .before .before .before .before .before .before .before .before .before .before .before .before .contents-size .ensures) (c .before .before .before .before .before .before .before .put-head .ensures) in
+    let fits : k .before .before .before .before .args .at + length (addressOctets a) ≤ length (k .before .before .before .before .args .out .now) =
+    omega (arith, k .before .before .contents-size .ensures, address-long a few, k .before .if1 .left, k .if2 .left) in
+    let rest =
+    address-room a fits (k .before .before .contents-size .ensures)
+    (c .before .before .before .before .before .before .before .put-head .ensures) in
     room-then (subOctets (subOctetsOf a)) rest (c .before .before .before .write-number .ensures)
 
 same-length : tie.Need-same-length
 same-length c = search needs
 
 returns-3 : tie.Need-returns-3
-returns-3 c = let a = c .before .before .before .before .before .before .before .before .before .before .before .before .before .before .before .before .before .args .a in
-    let digits : length (a .number .digits) ≡ most = search (needs, c .before .before .before .before .before .before .before .before .before .before .before .before .before .before .before .before .before .good) in
-    let sub : length (a .sub) ≡ most = search (needs, c .before .before .before .before .before .before .before .before .before .before .before .before .before .before .before .before .before .good) in
+returns-3 c =
+    let k = c .before .before .before .before .before .before .before .before .before .before .before .before .before in
+    let a = k .before .before .before .before .args .a in
+    let digits : length (a .number .digits) ≡ most = search (needs, k .before .before .before .before .good) in
+    let sub : length (a .sub) ≡ most = search (needs, k .before .before .before .before .good) in
     let few = every-contents-most a digits sub in
-    let fits : c .before .before .before .before .before .before .before .before .before .before .before .before .before .before .before .before .before .args .at + length (addressOctets a) ≤ length (c .before .before .before .before .before .before .before .before .before .before .before .before .before .before .before .before .before .args .out .now) = omega (arith, c .before .before .before .before .before .before .before .before .before .before .before .before .before .before .before .contents-size .ensures, address-long a few, c .before .before .before .before .before .before .before .before .before .before .before .before .before .before .if1 .left, c .before .before .before .before .before .before .before .before .before .before .before .before .before .if2 .left) in
-    puts-all fits (address-wrote a fits (c .before .before .before .before .before .before .before .before .before .before .before .before .before .before .before .contents-size .ensures) (c .before .before .before .before .before .before .before .before .before .before .put-head .ensures) (c .before .before .before .before .before .before .write-number .ensures) (c .before .before .write-sub .ensures))
+    let fits : k .before .before .before .before .args .at + length (addressOctets a) ≤ length (k .before .before .before .before .args .out .now) =
+    omega (arith, k .before .before .contents-size .ensures, address-long a few, k .before .if1 .left, k .if2 .left) in
+    puts-all fits
+    (address-wrote a fits (k .before .before .contents-size .ensures)
+    (c .before .before .before .before .before .before .before .before .before .before .put-head .ensures)
+    (c .before .before .before .before .before .before .write-number .ensures) (c .before .before .write-sub .ensures))
 
 pub put-address-spec : {M : Type 1} → statement M
 put-address-spec =

@@ -32,9 +32,12 @@ same-length : tie.Need-same-length
 same-length c = search needs
 
 returns : tie.Need-returns
-returns c = let n = c .before .before .before .before .before .before .before .before .before .before .before .before .before .before .args .n in
-    let long : length (n .digits) ≡ most = search (needs, c .before .before .before .before .before .before .before .before .before .before .before .before .before .before .good) in
-    unknown-wrote n long (c .before .before .before .before .before .before .before .before .before .before .before .before .fewer .ensures) (c .before .before .before .before .before .before .before .before .before .if1 .taken) (c .before .before .before .before .before .before .before .before .before .before .before .before .before .before .pre) (c .before .before .before .before .before .before .before .put-head .ensures) (c .before .before .put-all .ensures)
+returns c =
+    let k = c .before .before .before .before .before .before .before .before .before in
+    let n = k .before .before .before .before .before .args .n in
+    let long : length (n .digits) ≡ most = search (needs, k .before .before .before .before .before .good) in
+    unknown-wrote n long (k .before .before .before .fewer .ensures) (k .if1 .taken) (k .before .before .before .before .before .pre)
+    (c .before .before .before .before .before .before .before .put-head .ensures) (c .before .before .put-all .ensures)
 
 add-put-head : tie.Need-add-put-head
 add-put-head c = search needs
@@ -55,14 +58,20 @@ put-head-requires-3 : tie.Need-put-head-requires-3
 put-head-requires-3 c κs = search needs
 
 array-share-prefix-digits-2 : tie.Need-array-share-prefix-digits-2
-array-share-prefix-digits-2 c = let n = c .before .before .before .before .before .before .before .before .before .before .before .before .before .before .before .before .before .before .args .n in
-    let long : length (n .digits) ≡ most = search (needs, c .before .before .before .before .before .before .before .before .before .before .before .before .before .before .before .before .before .before .good) in
-    held-within (n .count) (n .digits) long (c .before .before .before .before .before .before .before .before .before .before .before .before .before .before .before .before .fewer .ensures)
+array-share-prefix-digits-2 c =
+    let k =
+    c .before .before .before .before .before .before .before .before .before .before .before .before .before .before .before .before in
+    let n = k .before .before .args .n in
+    let long : length (n .digits) ≡ most = search (needs, k .before .before .good) in
+    held-within (n .count) (n .digits) long (k .fewer .ensures)
 
 slice-aggregate-put-all-2 : tie.Need-slice-aggregate-put-all-2
-slice-aggregate-put-all-2 c = let n = c .before .before .before .before .before .before .before .before .before .before .before .before .before .before .before .before .before .before .before .args .n in
-    let long : length (n .digits) ≡ most = search (needs, c .before .before .before .before .before .before .before .before .before .before .before .before .before .before .before .before .before .before .before .good) in
-    held-taken (n .count) (n .digits) long (c .before .before .before .before .before .before .before .before .before .before .before .before .before .before .before .before .before .fewer .ensures)
+slice-aggregate-put-all-2 c =
+    let k =
+    c .before .before .before .before .before .before .before .before .before .before .before .before .before .before .before .before .before in
+    let n = k .before .before .args .n in
+    let long : length (n .digits) ≡ most = search (needs, k .before .before .good) in
+    held-taken (n .count) (n .digits) long (k .fewer .ensures)
 
 put-all-requires-2 : tie.Need-put-all-requires-2
 put-all-requires-2 c κs = search needs
@@ -71,9 +80,14 @@ same-length-2 : tie.Need-same-length-2
 same-length-2 c = search needs
 
 returns-2 : tie.Need-returns-2
-returns-2 c = let n = c .before .before .before .before .before .before .before .before .before .before .before .before .before .before .before .before .before .before .before .before .before .before .args .n in
-    let long : length (n .digits) ≡ most = search (needs, c .before .before .before .before .before .before .before .before .before .before .before .before .before .before .before .before .before .before .before .before .before .before .good) in
-    public-wrote n long (c .before .before .before .before .before .before .before .before .before .before .before .before .before .before .before .before .before .before .before .before .fewer .ensures) (c .before .before .before .before .before .before .before .before .before .before .before .before .before .before .before .before .before .if1 .left) (c .before .before .before .before .before .before .before .before .before .before .before .before .before .before .before .before .before .before .before .before .before .before .pre) (c .before .before .before .before .before .before .before .before .before .before .before .before .before .before .before .put-head2 .ensures) (c .before .before .before .before .before .before .before .before .before .before .before .put-enumerated .ensures) (c .before .before .before .before .before .before .before .put-head3 .ensures) (c .before .before .put-all2 .ensures)
+returns-2 c =
+    let k = c .before .before .before .before .before .before .before .before .before .before .before .before .before .before .before in
+    let n = k .before .before .before .before .before .before .before .args .n in
+    let long : length (n .digits) ≡ most = search (needs, k .before .before .before .before .before .before .before .good) in
+    public-wrote n long (k .before .before .before .before .before .fewer .ensures) (k .before .before .if1 .left)
+    (k .before .before .before .before .before .before .before .pre) (k .put-head2 .ensures)
+    (c .before .before .before .before .before .before .before .before .before .before .before .put-enumerated .ensures)
+    (c .before .before .before .before .before .before .before .put-head3 .ensures) (c .before .before .put-all2 .ensures)
 
 pub write-number-spec : {M : Type 1} → statement M
 write-number-spec =

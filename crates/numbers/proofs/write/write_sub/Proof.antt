@@ -37,9 +37,12 @@ same-length : tie.Need-same-length
 same-length c = search needs
 
 returns-2 : tie.Need-returns-2
-returns-2 c = let a = c .before .before .before .before .before .before .before .before .before .before .before .before .before .args .a in
-    let long : length (a .sub) ≡ most = search (needs, c .before .before .before .before .before .before .before .before .before .before .before .before .before .good) in
-    sub-wrote a long (c .before .before .before .before .before .before .before .before .before .before .before .fewer .ensures) (c .before .before .before .before .before .before .before .before .before .before .if1 .left) (c .before .before .before .before .before .before .before .before .before .before .before .before .before .pre) (c .before .before .before .before .before .before .before .put-head .ensures) (c .before .before .put-all .ensures)
+returns-2 c =
+    let k = c .before .before .before .before .before .before .before .before .before .before in
+    let a = k .before .before .before .args .a in
+    let long : length (a .sub) ≡ most = search (needs, k .before .before .before .good) in
+    sub-wrote a long (k .before .fewer .ensures) (k .if1 .left) (k .before .before .before .pre)
+    (c .before .before .before .before .before .before .before .put-head .ensures) (c .before .before .put-all .ensures)
 
 pub write-sub-spec : {M : Type 1} → statement M
 write-sub-spec =

@@ -29,7 +29,13 @@ cast-n : tie.Need-cast-n Inv-loop μ-loop
 cast-n c = omega (arith, c .shared-slice-known .given (c .before .before .before .args .at + c .before .before .loop .i))
 
 add-n-2 : tie.Need-add-n-2 Inv-loop μ-loop
-add-n-2 c = omega (arith, c .shared-slice-known .given (c .before .before .before .args .at + c .before .before .loop .i), c .before .before .loop .inv .1 .small, word-fits (c .before .before .loop .i) (omega arith))
+add-n-2 c =
+    omega (
+      arith,
+      c .shared-slice-known .given (c .before .before .before .args .at + c .before .before .loop .i),
+      c .before .before .loop .inv .1 .small,
+      word-fits (c .before .before .loop .i) (omega arith),
+    )
 
 add-i : tie.Need-add-i Inv-loop μ-loop
 add-i c = search needs

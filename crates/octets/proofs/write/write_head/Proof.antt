@@ -11,7 +11,9 @@ write-octet-requires : tie.Need-write-octet-requires
 write-octet-requires c κs = search needs
 
 cast-write-octet : tie.Need-cast-write-octet
-cast-write-octet c = omega (arith, length-short (c .before .before .before .before .before .before .before .args .n) (rw (c .before .if1 .taken) at (c .before .before .before .before .before .before .before .pre .2)))
+cast-write-octet c =
+    let k = c .before .before .before .before .before .before .before in
+    omega (arith, length-short (k .args .n) (rw (c .before .if1 .taken) at (k .pre .2)))
 
 write-octet-requires-2 : tie.Need-write-octet-requires-2
 write-octet-requires-2 c κs = search needs
@@ -39,7 +41,12 @@ same-length-2 : tie.Need-same-length-2
 same-length-2 c = search needs
 
 returns-2 : tie.Need-returns-2
-returns-2 c = rw (length-long (c .before .before .before .before .before .before .before .before .before .before .before .before .before .before .args .k) (c .before .before .before .before .before .before .before .before .before .before .before .before .before .before .args .n) (c .before .before .before .before .before .before .before .before .if1 .left)) (then (then (c .before .before .before .before .before .before .before .before .before .before .before .write-octet .ensures) (c .before .before .before .before .before .before .write-octet3 .ensures)) (c .before .before .write-word .ensures))
+returns-2 c =
+    let l = c .before .before .before .before .before .before in
+    let a = l .before .before .before .before .before .before .before .before .args in
+    rw (length-long (a .k) (a .n) (l .before .before .if1 .left))
+    (then (then (l .before .before .before .before .before .write-octet .ensures) (l .write-octet3 .ensures))
+    (c .before .before .write-word .ensures))
 
 pub write-head-spec : {M : Type 1} → statement M
 write-head-spec =

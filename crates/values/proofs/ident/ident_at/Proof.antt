@@ -19,17 +19,25 @@ unfolding identAt
 returns c = let found = sym (c .before .before .before .before .head-at .ensures) ∙ c .before .before .tag .given .1 in rw (found, ne-eqb _ _ (c .if1 .taken))
 
 sub-ident-in : tie.Need-sub-ident-in
-sub-ident-in c = let found = sym (c .before .before .before .before .head-at .ensures) ∙ c .before .before .tag .given .1 in omega (arith, rw found at (within (c .before .before .before .before .before .before .args .depth) (c .before .before .before .before .before .before .args .s .now) (c .before .before .before .before .before .before .args .at) (c .before .before .before .before .before .before .args .end)))
+sub-ident-in c =
+    let a = c .before .before .before .before .before .before .args in
+    let found = sym (c .before .before .before .before .head-at .ensures) ∙ c .before .before .tag .given .1 in
+    omega (arith, rw found at (within (a .depth) (a .s .now) (a .at) (a .end)))
 
 ident-in-requires : tie.Need-ident-in-requires
-ident-in-requires c κs = let found = sym (c .before .before .before .before .head-at .ensures) ∙ c .before .before .tag .given .1 in omega (arith, rw found at (within (c .before .before .before .before .before .before .args .depth) (c .before .before .before .before .before .before .args .s .now) (c .before .before .before .before .before .before .args .at) (c .before .before .before .before .before .before .args .end)))
+ident-in-requires c κs =
+    let a = c .before .before .before .before .before .before .args in
+    let found = sym (c .before .before .before .before .head-at .ensures) ∙ c .before .before .tag .given .1 in
+    omega (arith, rw found at (within (a .depth) (a .s .now) (a .at) (a .end)))
 
 enum-told : tie.Need-enum-told
 enum-told c = search needs
 
 returns-2 : tie.Need-returns-2
 unfolding identAt
-returns-2 c = let found = sym (c .before .before .before .before .before .head-at .ensures) ∙ c .before .before .before .tag .given .1 in rw (found, eq-eqb _ _ (c .before .if1 .left)) (c .ident-in .ensures)
+returns-2 c =
+    let found = sym (c .before .before .before .before .before .head-at .ensures) ∙ c .before .before .before .tag .given .1 in
+    rw (found, eq-eqb _ _ (c .before .if1 .left)) (c .ident-in .ensures)
 
 returns-3 : tie.Need-returns-3
 unfolding identAt
