@@ -15,14 +15,14 @@ use Rattle.laws.specs.Places.{countTo}
 use Rattle.laws.proofs.Picks.{pick-ind}
 use Rattle.laws.proofs.Walks.{count-none, count-more}
 use Rattle.numbers.specs.declared.number.Number.{Number}
-use Rattle.profile.specs.Profile.{sameNumber, placeIn, noNumber}
+use Rattle.profile.specs.Profile.{same, placeIn, noNumber}
 use Rattle.profile.specs.declared.profile.Profile.{Profile}
 use Rattle.profile.proofs.Profiles.{same-refl, Come, number-here, number-next}
 
-module _ (numbers : List Number) (n : Number) where
+module _ (p : Profile) (numbers : List Number) (n : Number) where
   -- whether the number at a place is the same
   abbrev pub sameAt : ℕ → Bool
-  sameAt k = sameNumber (getD numbers k noNumber) n
+  sameAt k = same p (getD numbers k noNumber) n
 
   -- one that is the same is counted
   pub same-counted : (count k : ℕ) → k < count → sameAt k ≡ true → 0 < countTo sameAt count
@@ -33,7 +33,7 @@ module _ (numbers : List Number) (n : Number) where
       (λ (lt : k < count). rw (count-more sameAt count) (omega (arith, same-counted count k lt e)))
       (eq-or-lt-of-le (omega arith))
 
-  module _ (p : Profile) (count : ℕ) (long : count ≤ length numbers) where
+  module _ (count : ℕ) (long : count ≤ length numbers) where
     -- a search passes those that are not the same
     passes : (k : ℕ) → k ≤ count → countTo sameAt k ≡ 0 → Come p n count numbers k
     passes zero h none = omega arith
@@ -60,18 +60,18 @@ module _ (numbers : List Number) (n : Number) where
 module _ (p : Profile) (numbers : List Number) (count k : ℕ) (long : count ≤ length numbers) (h : k < count) where
   -- a search for a number finds it at its own place where none before it is the same
   pub first-here :
-      ltb 0 (countTo (sameAt numbers (getD numbers k noNumber)) k) ≡ false →
+      ltb 0 (countTo (sameAt p numbers (getD numbers k noNumber)) k) ≡ false →
       placeIn p (getD numbers k noNumber) (take count numbers) ≡ k
   first-here none =
       let n : Number = getD numbers k noNumber in
-      let few = ltb-false 0 (countTo (sameAt numbers n) k) none in
-      let come = passes numbers n p count long k (omega arith) (omega (arith, few)) in
-      sym (number-here p n count numbers k h (omega arith) (same-refl n) come)
+      let few = ltb-false 0 (countTo (sameAt p numbers n) k) none in
+      let come = passes p numbers n count long k (omega arith) (omega (arith, few)) in
+      sym (number-here p n count numbers k h (omega arith) (same-refl p n) come)
 
   -- and elsewhere where one is
   pub later-not :
-      ltb 0 (countTo (sameAt numbers (getD numbers k noNumber)) k) ≡ true →
+      ltb 0 (countTo (sameAt p numbers (getD numbers k noNumber)) k) ≡ true →
       placeIn p (getD numbers k noNumber) (take count numbers) ≡ k → ⊥
   later-not some e =
       let n : Number = getD numbers k noNumber in
-      omega (arith, stops numbers n p count long k (omega arith) (ltb-true 0 (countTo (sameAt numbers n) k) some))
+      omega (arith, stops p numbers n count long k (omega arith) (ltb-true 0 (countTo (sameAt p numbers n) k) some))

@@ -85,9 +85,9 @@ digits-same (x ∷ xs) (y ∷ ys) h =
     rw (eqb-true x y (each 0 h), digits-same xs ys (each 1 h))
 
 -- a number is the same as itself
-pub same-refl : (a : Number) → sameNumber a a ≡ true
-unfolding sameNumber
-same-refl a =
+pub same-refl : (p : Profile) (a : Number) → same p a a ≡ true
+unfolding same sameNumber
+same-refl p a =
     rw (
       eq-eqb (a .form) (a .form) refl,
       eq-eqb (a .kind) (a .kind) refl,
@@ -109,11 +109,6 @@ same-tidy a b h =
       digits-same (digitsOf a) (digitsOf b) (each 3 h),
     )
 
--- an access takes for the same what is the same
-pub same-plain : (p : Profile) (a b : Number) → same p a b ≡ sameNumber a b
-unfolding same
-same-plain p a b = refl
-
 -- ---- the place of a number
 
 -- a place is no further than there are numbers
@@ -132,8 +127,8 @@ module _ (p : Profile) (n : Number) (count : ℕ) (numbers : List Number) where
   step :
       (k : ℕ) → k < count → k < length numbers →
       placeIn p n (drop k (take count numbers))
-      ≡ pick (sameNumber (getD numbers k noNumber) n) 0 (1 + placeIn p n (drop (suc k) (take count numbers)))
-  unfolding placeIn same
+      ≡ pick (same p (getD numbers k noNumber) n) 0 (1 + placeIn p n (drop (suc k) (take count numbers)))
+  unfolding placeIn
   step k h long =
       rw (
         drop-cons (take count numbers) k noNumber (omega (arith, length-take count numbers)),
@@ -142,7 +137,7 @@ module _ (p : Profile) (n : Number) (count : ℕ) (numbers : List Number) where
 
   -- finds the number there
   pub number-here :
-      (k : ℕ) → k < count → k < length numbers → sameNumber (getD numbers k noNumber) n ≡ true → Come k →
+      (k : ℕ) → k < count → k < length numbers → same p (getD numbers k noNumber) n ≡ true → Come k →
       k ≡ placeIn p n (take count numbers)
   number-here k h long e come =
       let z : placeIn p n (drop k (take count numbers)) ≡ 0 = rw (step k h long, e) in
@@ -150,7 +145,7 @@ module _ (p : Profile) (n : Number) (count : ℕ) (numbers : List Number) where
 
   -- goes on where another number stands
   pub number-next :
-      (k : ℕ) → k < count → k < length numbers → sameNumber (getD numbers k noNumber) n ≡ false → Come k →
+      (k : ℕ) → k < count → k < length numbers → same p (getD numbers k noNumber) n ≡ false → Come k →
       Come (k + 1)
   number-next k h long e come =
       let z : placeIn p n (drop k (take count numbers)) ≡ 1 + placeIn p n (drop (suc k) (take count numbers)) =

@@ -148,9 +148,9 @@ profileRules p =
 unfoldable pub profileGood : Profile → Bool
 profileGood p = all (profileRules p)
 
--- what `same_number` promises
-abbrev pub SameNumber : Number → Number → Bool → Type 0
-SameNumber a b r = r ≡ sameNumber a b
+-- what `same` promises
+abbrev pub Same : Profile → Number → Number → Bool → Type 0
+Same p a b r = r ≡ same p a b
 
 -- what `number_place` promises
 abbrev pub NumberPlace : Profile → Number → ℕ → Type 0

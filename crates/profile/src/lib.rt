@@ -11,5 +11,5 @@ pub use profile::Prefix;
 pub use profile::Profile;
 pub use profile::SERVICES;
 pub use profile::number_place;
-pub use profile::same_number;
+pub use profile::same;
 pub use profile::service_slot;

@@ -7,7 +7,7 @@ ghost use Prim.Native.Nat.{_≤_};
 ghost use lib.ListN.{take, getD};
 ghost use lib.Dec.{ltb};
 ghost use Rattle.laws.specs.Places.{countTo};
-ghost use Rattle.profile.specs.Profile.{sameDigits, sameNumber, noNumber, prefixGood, numbersGood, servicesGood, subscriptionsGood, usesGood, diversionGood, prefixesGood, profileGood, SameNumber, NumberPlace, ServiceSlot};
+ghost use Rattle.profile.specs.Profile.{numbersMost, sameDigits, sameNumber, same, noNumber, prefixGood, numbersGood, servicesGood, subscriptionsGood, usesGood, diversionGood, prefixesGood, profileGood, Same, NumberPlace, ServiceSlot};
 
 // The most numbers, services and prefixes of a profile, and the most digits of one.
 pub const NUMBERS: usize = 4;
@@ -59,9 +59,9 @@ fn same_digits(a: [u8; 20], b: [u8; 20], n: usize) -> bool
     true
 }
 
-// Whether two numbers are the same.
-pub fn same_number(a: Number, b: Number) -> bool
-    ensures { λ r. ⌜ SameNumber a b r ⌝ }
+// Whether form, type and digits agree.
+fn same_number(a: Number, b: Number) -> bool
+    ensures { λ r. ⌜ r ≡ sameNumber a b ⌝ }
 {
     if a.form != b.form {
         return false;
@@ -81,6 +81,13 @@ pub fn same_number(a: Number, b: Number) -> bool
     same_digits(x, y, count)
 }
 
+// Whether an access takes two numbers for the same.
+pub fn same(p: Profile, a: Number, b: Number) -> bool
+    ensures { λ r. ⌜ Same p a b r ⌝ }
+{
+    same_number(a, b)
+}
+
 // The place of the first served number that is the same; how many there are where none is.
 pub fn number_place(p: Profile, n: Number) -> usize
     ensures { λ r. ⌜ NumberPlace p n r ⌝ }
@@ -93,7 +100,7 @@ pub fn number_place(p: Profile, n: Number) -> usize
             return k;
         }
         let x = numbers[k];
-        if same_number(x, n) {
+        if same(p, x, n) {
             return k;
         }
         k += 1;
@@ -121,14 +128,15 @@ pub fn service_slot(p: Profile, service: u8) -> usize
 }
 
 // Whether one of the first `count` numbers is the same.
-fn same_before(numbers: [Number; NUMBERS], n: Number, count: usize) -> bool
-    requires { ⌜ count ≤ 4 ⌝ }
-    ensures { λ r. ⌜ r ≡ ltb 0 (countTo (λ k. sameNumber (getD numbers k noNumber) n) count) ⌝ }
+fn same_before(p: Profile, n: Number, count: usize) -> bool
+    requires { ⌜ count ≤ numbersMost ⌝ }
+    ensures { λ r. ⌜ r ≡ ltb 0 (countTo (λ k. same p (getD (p .numbers) k noNumber) n) count) ⌝ }
 {
+    let numbers = p.numbers;
     let mut k: usize = 0;
     while k < count {
         let x = numbers[k];
-        if same_number(x, n) {
+        if same(p, x, n) {
             return true;
         }
         k += 1;
@@ -153,7 +161,7 @@ fn numbers_good(p: Profile) -> bool
         if !number_good(n) {
             return false;
         }
-        if same_before(numbers, n, k) {
+        if same_before(p, n, k) {
             return false;
         }
         k += 1;

@@ -5,13 +5,13 @@ use mathlib.Core.Bool.{Bool}
 use mathlib.Core.List.{List}
 use Rattle.laws.proofs.Picks.{both}
 use Rattle.numbers.specs.declared.number.Number.{Number}
-use Rattle.profile.specs.Profile.{SameNumber, NumberPlace, ServiceSlot}
+use Rattle.profile.specs.Profile.{Same, NumberPlace, ServiceSlot}
 use Rattle.profile.specs.Access.{ReadAccess}
 use Rattle.profile.specs.declared.profile.Profile.{Profile}
 use Rattle.profile.specs.declared.access.AccessRead.{AccessRead}
 
-pub only-same-number : (m n : Number) {a b : Bool} → SameNumber m n a → SameNumber m n b → a ≡ b
-only-same-number m n = both
+pub only-same : (p : Profile) (m n : Number) {a b : Bool} → Same p m n a → Same p m n b → a ≡ b
+only-same p m n = both
 
 pub only-number-place :
     (p : Profile) (n : Number) {a b : ℕ} → NumberPlace p n a → NumberPlace p n b → a ≡ b

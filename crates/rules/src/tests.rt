@@ -5,7 +5,7 @@ use numbers::Number;
 use profile::NUMBERS;
 use profile::Profile;
 use profile::number_place;
-use profile::same_number;
+use profile::same;
 use profile::service_slot;
 use requests::Request;
 ghost use mathlib.Core.Path.{_≡_};
@@ -96,7 +96,7 @@ pub(crate) fn selected_same(p: Profile, r: Request) -> bool
         }
         if is_asked(asked, k) {
             let n = numbers[k];
-            if same_number(n, number) {
+            if same(p, n, number) {
                 return true;
             }
         }

@@ -2,7 +2,6 @@ use Rattle.laws.proofs.Cases.{cases}
 use Rattle.profile.proofs.Profiles.{numberFits, numbersFit, numbers-fair}
 use Rattle.profile.proofs.Firsts.{first-here, later-not}
 use Rattle.profile.specs.Profile.{numbersMost, numbersGood}
-use Rattle.profile.specs.declared.profile.Profile.{Profile}
 use Rattle.laws.specs.Places.{everyTo}
 use Rattle.laws.proofs.Parts.{unmapped}
 use Rattle.laws.proofs.Walks.{every-none, every-more, every-fails}
@@ -17,11 +16,10 @@ use Rattle.profile.proofs.profile.numbers_good.Statement.{statement}
 use Rattle.profile.proofs.profile.numbers_good.Tie as tie
 
 abbrev Inv-loop : tie.InvT-loop
-Inv-loop count numbers k₀ k =
-    (k ≤ count) × ((p : Profile) → everyTo (numberFits p count numbers) k ≡ true)
+Inv-loop p count numbers k₀ k = (k ≤ count) × (everyTo (numberFits p count numbers) k ≡ true)
 
 abbrev μ-loop : tie.MeasureT-loop
-μ-loop count numbers k₀ k = count - k
+μ-loop p count numbers k₀ k = count - k
 
 cast-count : tie.Need-cast-count Inv-loop μ-loop
 cast-count c = search needs
@@ -37,7 +35,7 @@ returns-2 c = search cases
 loop-holds : tie.Need-loop-holds Inv-loop μ-loop
 loop-holds c =
     let s = c .before .before .before .before .args .p in
-    (omega arith, λ p. every-none (numberFits p (s .numbercount) (s .numbers)))
+    (omega arith, every-none (numberFits s (s .numbercount) (s .numbers)))
 
 mul-n : tie.Need-mul-n Inv-loop μ-loop
 mul-n c = search needs
@@ -84,16 +82,15 @@ loop-again c =
     let k = l .loop .k in
     let none = sym (c .before .same-before .ensures) ∙ c .if4 .left in (
       omega arith,
-      λ p.
-          every-more (numberFits p (s .numbercount) (s .numbers)) k (l .loop .inv .1 p)
-          (rw (
-            sym (c .before .before .before .number-good .ensures) ∙ not-false _ (c .before .before .if3 .left),
-            eq-eqb _ _ (first-here p (s .numbers) (s .numbercount) k (omega arith) (omega arith) none),
-          )),
+      every-more (numberFits s (s .numbercount) (s .numbers)) k (l .loop .inv .1)
+      (rw (
+        sym (c .before .before .before .number-good .ensures) ∙ not-false _ (c .before .before .if3 .left),
+        eq-eqb _ _ (first-here s (s .numbers) (s .numbercount) k (omega arith) (omega arith) none),
+      )),
     )
 
 returns-5 : tie.Need-returns-5 Inv-loop μ-loop
-returns-5 c = let l = c .before in let s = l .before .before .before .before .before .args .p in let e : l .loop .k ≡ s .numbercount = omega arith in sym (numbers-fair s (omega arith) (omega arith) ∙ ap (numbersFit s) (sym e) ∙ l .loop .inv .1 s)
+returns-5 c = let l = c .before in let s = l .before .before .before .before .before .args .p in let e : l .loop .k ≡ s .numbercount = omega arith in sym (numbers-fair s (omega arith) (omega arith) ∙ ap (numbersFit s) (sym e) ∙ l .loop .inv .1)
 
 pub numbers-good-spec : {M : Type 1} → statement M
 numbers-good-spec =

@@ -10,13 +10,13 @@ use Rattle.profile.proofs.profile.same_before.Statement.{statement}
 use Rattle.profile.proofs.profile.same_before.Tie as tie
 
 abbrev Inv-loop : tie.InvT-loop
-Inv-loop n count numbers k₀ k = (k ≤ count) × (0 ≡ countTo (sameAt numbers n) k)
+Inv-loop p n count numbers k₀ k = (k ≤ count) × (0 ≡ countTo (sameAt p numbers n) k)
 
 abbrev μ-loop : tie.MeasureT-loop
-μ-loop n count numbers k₀ k = count - k
+μ-loop p n count numbers k₀ k = count - k
 
 loop-holds : tie.Need-loop-holds Inv-loop μ-loop
-loop-holds c = (omega arith, sym (count-none (sameAt (c .args .t1) (c .args .n))))
+loop-holds c = (omega arith, sym (count-none (sameAt (c .before .args .p) (c .before .args .p .numbers) (c .before .args .n))))
 
 mul-x : tie.Need-mul-x Inv-loop μ-loop
 mul-x c = search needs
@@ -24,16 +24,16 @@ mul-x c = search needs
 array-copy-out-x : tie.Need-array-copy-out-x Inv-loop μ-loop
 array-copy-out-x c = search needs
 
-same-number-requires : tie.Need-same-number-requires Inv-loop μ-loop
-same-number-requires c κs = search needs
+same-requires : tie.Need-same-requires Inv-loop μ-loop
+same-requires c κs = search needs
 
 returns : tie.Need-returns Inv-loop μ-loop
 returns c =
     let l = c .before .before .before .before in
-    let s = l .before .args in
-    let same = sym (c .before .same-number .ensures) ∙ c .if1 .taken in
-    sym (lt-ltb 0 (countTo (sameAt (s .t1) (s .n)) (s .count))
-    (same-counted (s .t1) (s .n) (s .count) (l .loop .k) (omega arith) same))
+    let s = l .before .before .args in
+    let same = sym (c .before .same .ensures) ∙ c .if1 .taken in
+    sym (lt-ltb 0 (countTo (sameAt (s .p) (s .p .numbers) (s .n)) (s .count))
+    (same-counted (s .p) (s .p .numbers) (s .n) (s .count) (l .loop .k) (omega arith) same))
 
 add-k : tie.Need-add-k Inv-loop μ-loop
 add-k c = search needs
@@ -44,17 +44,17 @@ loop-less c = search needs
 loop-again : tie.Need-loop-again Inv-loop μ-loop
 loop-again c =
     let l = c .before .before .before .before in
-    let s = l .before .args in
-    let other = sym (c .before .same-number .ensures) ∙ c .if1 .left in
-    (omega arith, count-skip (sameAt (s .t1) (s .n)) (l .loop .k) 0 other (l .loop .inv .1))
+    let s = l .before .before .args in
+    let other = sym (c .before .same .ensures) ∙ c .if1 .left in
+    (omega arith, count-skip (sameAt (s .p) (s .p .numbers) (s .n)) (l .loop .k) 0 other (l .loop .inv .1))
 
 returns-2 : tie.Need-returns-2 Inv-loop μ-loop
 returns-2 c =
     let l = c .before in
-    let s = l .before .args in
+    let s = l .before .before .args in
     let all : l .loop .k ≡ s .count = omega arith in
-    let none : 0 ≡ countTo (sameAt (s .t1) (s .n)) (s .count) = l .loop .inv .1 ∙ ap (countTo (sameAt (s .t1) (s .n))) all in
-    sym (le-ltb 0 (countTo (sameAt (s .t1) (s .n)) (s .count)) (omega arith))
+    let none : 0 ≡ countTo (sameAt (s .p) (s .p .numbers) (s .n)) (s .count) = l .loop .inv .1 ∙ ap (countTo (sameAt (s .p) (s .p .numbers) (s .n))) all in
+    sym (le-ltb 0 (countTo (sameAt (s .p) (s .p .numbers) (s .n)) (s .count)) (omega arith))
 
 pub same-before-spec : {M : Type 1} → statement M
 same-before-spec =
@@ -65,7 +65,7 @@ same-before-spec =
     loop-holds
     mul-x
     array-copy-out-x
-    same-number-requires
+    same-requires
     returns
     add-k
     loop-less

@@ -11,11 +11,11 @@ use Rattle.rules.proofs.tests.selected_same.Statement.{statement}
 use Rattle.rules.proofs.tests.selected_same.Tie as tie
 
 abbrev Inv-loop : tie.InvT-loop
-Inv-loop asked count numbers number k₀ k =
-    (k ≤ numbersMost) × (length numbers ≡ numbersMost) × Compared asked count numbers number k
+Inv-loop p asked count numbers number k₀ k =
+    (k ≤ numbersMost) × (length numbers ≡ numbersMost) × Compared p asked count numbers number k
 
 abbrev μ-loop : tie.MeasureT-loop
-μ-loop asked count numbers number k₀ k = numbersMost - k
+μ-loop p asked count numbers number k₀ k = numbersMost - k
 
 number-asked-requires : tie.Need-number-asked-requires Inv-loop μ-loop
 number-asked-requires c κs = search needs
@@ -24,10 +24,10 @@ cast-count : tie.Need-cast-count Inv-loop μ-loop
 cast-count c = search needs
 
 loop-holds : tie.Need-loop-holds Inv-loop μ-loop
-loop-holds c = (omega arith, search (unmapped, needs), λ p r asks e. refl)
+loop-holds c = (omega arith, search (unmapped, needs), λ r asks e. refl)
 
 returns : tie.Need-returns Inv-loop μ-loop
-returns c = let l = c .before .before in let a = l .before .before .before .before .before in let s = a .before .args in sym (compared-none (a .number-asked .result) (s .p .numbercount) (s .p .numbers) (s .r .to .address .number) (l .loop .k) (omega arith) (l .loop .inv .2) (s .p) (s .r) (a .number-asked .ensures) refl)
+returns c = let l = c .before .before in let a = l .before .before .before .before .before in let s = a .before .args in sym (compared-none (s .p) (a .number-asked .result) (s .p .numbercount) (s .p .numbers) (s .r .to .address .number) (l .loop .k) (omega arith) (l .loop .inv .2) (s .r) (a .number-asked .ensures) refl)
 
 is-asked-requires : tie.Need-is-asked-requires Inv-loop μ-loop
 is-asked-requires c κs = search needs
@@ -38,11 +38,11 @@ mul-n c = search needs
 array-copy-out-n : tie.Need-array-copy-out-n Inv-loop μ-loop
 array-copy-out-n c = search needs
 
-same-number-requires : tie.Need-same-number-requires Inv-loop μ-loop
-same-number-requires c κs = search needs
+same-requires : tie.Need-same-requires Inv-loop μ-loop
+same-requires c κs = search needs
 
 returns-2 : tie.Need-returns-2 Inv-loop μ-loop
-returns-2 c = let l = c .before .before .before .before .before .before .before in let a = l .before .before .before .before .before in let s = a .before .args in sym (compared-here (a .number-asked .result) (s .p .numbercount) (s .p .numbers) (s .r .to .address .number) (l .loop .k) (omega arith) (omega arith) (omega arith) (sym (c .before .before .before .before .is-asked .ensures) ∙ c .before .before .before .if2 .taken) (sym (c .before .same-number .ensures) ∙ c .if3 .taken) (l .loop .inv .2) (s .p) (s .r) (a .number-asked .ensures) refl)
+returns-2 c = let l = c .before .before .before .before .before .before .before in let a = l .before .before .before .before .before in let s = a .before .args in sym (compared-here (s .p) (a .number-asked .result) (s .p .numbercount) (s .p .numbers) (s .r .to .address .number) (l .loop .k) (omega arith) (omega arith) (omega arith) (sym (c .before .before .before .before .is-asked .ensures) ∙ c .before .before .before .if2 .taken) (sym (c .before .same .ensures) ∙ c .if3 .taken) (l .loop .inv .2) (s .r) (a .number-asked .ensures) refl)
 
 add-k : tie.Need-add-k Inv-loop μ-loop
 add-k c = search needs
@@ -51,10 +51,10 @@ loop-less : tie.Need-loop-less Inv-loop μ-loop
 loop-less c = search needs
 
 loop-again : tie.Need-loop-again Inv-loop μ-loop
-loop-again c = let l = c .before .before .before .before in let a = l .before .before .before .before .before in let s = a .before .args in (omega arith, l .loop .inv .1, ⊎-elim (λ w. compared-other (a .number-asked .result) (s .p .numbercount) (s .p .numbers) (s .r .to .address .number) (l .loop .k) (omega arith) (omega arith) (omega arith) (sym (c .before .is-asked .ensures) ∙ w .0 .taken) (sym (w .2 .ensures) ∙ w .3 .left) (l .loop .inv .2)) (λ w. compared-skip (a .number-asked .result) (s .p .numbercount) (s .p .numbers) (s .r .to .address .number) (l .loop .k) (omega arith) (omega arith) (omega arith) (sym (c .before .is-asked .ensures) ∙ w .left) (l .loop .inv .2)) (c .if2 .came))
+loop-again c = let l = c .before .before .before .before in let a = l .before .before .before .before .before in let s = a .before .args in (omega arith, l .loop .inv .1, ⊎-elim (λ w. compared-other (s .p) (a .number-asked .result) (s .p .numbercount) (s .p .numbers) (s .r .to .address .number) (l .loop .k) (omega arith) (omega arith) (omega arith) (sym (c .before .is-asked .ensures) ∙ w .0 .taken) (sym (w .2 .ensures) ∙ w .3 .left) (l .loop .inv .2)) (λ w. compared-skip (s .p) (a .number-asked .result) (s .p .numbercount) (s .p .numbers) (s .r .to .address .number) (l .loop .k) (omega arith) (omega arith) (omega arith) (sym (c .before .is-asked .ensures) ∙ w .left) (l .loop .inv .2)) (c .if2 .came))
 
 returns-3 : tie.Need-returns-3 Inv-loop μ-loop
-returns-3 c = let l = c .before in let a = l .before .before .before .before .before in let s = a .before .args in sym (compared-none (a .number-asked .result) (s .p .numbercount) (s .p .numbers) (s .r .to .address .number) (l .loop .k) (omega arith) (l .loop .inv .2) (s .p) (s .r) (a .number-asked .ensures) refl)
+returns-3 c = let l = c .before in let a = l .before .before .before .before .before in let s = a .before .args in sym (compared-none (s .p) (a .number-asked .result) (s .p .numbercount) (s .p .numbers) (s .r .to .address .number) (l .loop .k) (omega arith) (l .loop .inv .2) (s .r) (a .number-asked .ensures) refl)
 
 pub selected-same-spec : {M : Type 1} → statement M
 selected-same-spec =
@@ -69,7 +69,7 @@ selected-same-spec =
     is-asked-requires
     mul-n
     array-copy-out-n
-    same-number-requires
+    same-requires
     returns-2
     add-k
     loop-less
