@@ -285,7 +285,6 @@ pub record GoodProfile (p : Profile) : Type 0 where
   pub some : 1 ≤ p .numbercount
   pub few : p .numbercount ≤ numbersMost
   pub numbers : (k : ℕ) → k < p .numbercount → numberGood (getD (p .numbers) k noNumber) ≡ true
-  pub services-some : 1 ≤ p .servicecount
   pub services-few : p .servicecount ≤ servicesMost
   pub rises : rising 0 (subscribedServices p) ≡ true
   pub flags : (k : ℕ) → k < 3 → getD (p .subscribed) k 0 ≤ 1
@@ -301,7 +300,6 @@ good-profile p h =
           let number : Number = getD (p .numbers) k noNumber in
           all-at (numberGood number ∷ eqb (placeIn p number (servedNumbers p)) k ∷ []) 0
           (every-at (numberFits p (p .numbercount) (p .numbers)) (p .numbercount) k lt (n .2));
-      services-some = s .0;
       services-few = s .1;
       rises = s .2;
       flags = subscriptions-each p (rule-at p 2 h);

@@ -5,13 +5,15 @@ use crate::profile::Prefix;
 use crate::profile::Profile;
 use crate::profile::SERVICES;
 use crate::profile::profile_good;
+use numbers::MOST;
 use numbers::Number;
 use octets::put_all;
 ghost use mathlib.Core.Path.{_≡_};
 ghost use Prim.Native.Nat.{_+_, _≤_};
 ghost use lib.ListN.{length};
 ghost use lib.Seq.{slice};
-ghost use Rattle.profile.specs.Access.{accessSize, noAccess, numberFrom, prefixFrom, prefixesFrom, profileFrom, ReadAccess};
+ghost use Rattle.numbers.specs.Number.{most};
+ghost use Rattle.profile.specs.Access.{numberSize, prefixSize, accessSize, noAccess, numberFrom, prefixFrom, prefixesFrom, profileFrom, ReadAccess};
 
 // Where the fields of the record stand, and their sizes.
 pub const NUMBERSAT: usize = 1;
@@ -43,11 +45,11 @@ fn no_access() -> AccessRead
         form: 0,
         kind: 0,
         count: 0,
-        digits: [0; 20],
+        digits: [0; MOST],
     };
     let prefix = Prefix {
         count: 0,
-        digits: [0; 20],
+        digits: [0; MOST],
     };
     AccessRead {
         ok: false,
@@ -71,18 +73,18 @@ fn no_access() -> AccessRead
 }
 
 // The twenty places for digits that begin at `at`.
-fn digits_from(s: &[u8], at: usize) -> [u8; 20]
-    requires { ⌜ at + 20 ≤ length (now s) ⌝ }
-    ensures { λ r. ⌜ r ≡ slice at (at + 20) (now (s .entry)) ⌝ }
+fn digits_from(s: &[u8], at: usize) -> [u8; MOST]
+    requires { ⌜ at + most ≤ length (now s) ⌝ }
+    ensures { λ r. ⌜ r ≡ slice at (at + most) (now (s .entry)) ⌝ }
 {
-    let mut digits = [0u8; 20];
-    put_all(&mut digits, 0, &s[at..at + 20]);
+    let mut digits = [0u8; MOST];
+    put_all(&mut digits, 0, &s[at..at + MOST]);
     digits
 }
 
 // The number whose record stands at `at`.
 fn number_from(s: &[u8], at: usize) -> Number
-    requires { ⌜ at + 23 ≤ length (now s) ⌝ }
+    requires { ⌜ at + numberSize ≤ length (now s) ⌝ }
     ensures { λ r. ⌜ r ≡ numberFrom (now (s .entry)) at ⌝ }
 {
     let digits = digits_from(s, at + 3);
@@ -96,7 +98,7 @@ fn number_from(s: &[u8], at: usize) -> Number
 
 // The prefix whose record stands at `at`.
 fn prefix_from(s: &[u8], at: usize) -> Prefix
-    requires { ⌜ at + 21 ≤ length (now s) ⌝ }
+    requires { ⌜ at + prefixSize ≤ length (now s) ⌝ }
     ensures { λ r. ⌜ r ≡ prefixFrom (now (s .entry)) at ⌝ }
 {
     let digits = digits_from(s, at + 1);

@@ -7,6 +7,7 @@ pub use access::NUMBERSAT;
 pub use access::NUMBERSIZE;
 pub use access::read_access;
 pub use profile::NUMBERS;
+pub use profile::PREFIXES;
 pub use profile::Prefix;
 pub use profile::Profile;
 pub use profile::SERVICES;

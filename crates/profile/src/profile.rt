@@ -1,5 +1,6 @@
 // A profile, and whether it breaks a rule (document 01, "Profile and table").
 use codes::service_code;
+use numbers::MOST;
 use numbers::Number;
 use numbers::number_good;
 ghost use mathlib.Core.Path.{_≡_};
@@ -7,22 +8,21 @@ ghost use Prim.Native.Nat.{_≤_};
 ghost use lib.ListN.{take, getD};
 ghost use lib.Dec.{ltb};
 ghost use Rattle.laws.specs.Places.{countTo};
+ghost use Rattle.numbers.specs.Number.{most};
 ghost use Rattle.profile.specs.Profile.{numbersMost, sameDigits, sameNumber, same, noNumber, prefixGood, numbersGood, servicesGood, subscriptionsGood, usesGood, diversionGood, prefixesGood, profileGood, Same, NumberPlace, ServiceSlot};
 
-// The most numbers, services and prefixes of a profile, and the most digits of one.
+// The most numbers, services and prefixes of a profile.
 pub const NUMBERS: usize = 4;
 
 pub const SERVICES: usize = 6;
 
-pub(crate) const PREFIXES: usize = 16;
-
-const DIGITS: usize = 20;
+pub const PREFIXES: usize = 16;
 
 // A special prefix: `count` digits as characters.
 #[repr(C)]
 pub struct Prefix {
     pub count: u8,
-    pub digits: [u8; 20],
+    pub digits: [u8; MOST],
 }
 
 // What the carrier has agreed with the subscriber. Places past a count carry no meaning; the fields from `subscribed` to `release`
@@ -45,8 +45,8 @@ pub struct Profile {
     pub prefixes: [Prefix; PREFIXES],
 }
 
-fn same_digits(a: [u8; 20], b: [u8; 20], n: usize) -> bool
-    requires { ⌜ n ≤ 20 ⌝ }
+fn same_digits(a: [u8; MOST], b: [u8; MOST], n: usize) -> bool
+    requires { ⌜ n ≤ most ⌝ }
     ensures { λ r. ⌜ r ≡ sameDigits (take n a) (take n b) ⌝ }
 {
     let mut i: usize = 0;
@@ -75,8 +75,8 @@ fn same_number(a: Number, b: Number) -> bool
     let count = a.count as usize;
     let x = a.digits;
     let y = b.digits;
-    if DIGITS < count {
-        return same_digits(x, y, DIGITS);
+    if MOST < count {
+        return same_digits(x, y, MOST);
     }
     same_digits(x, y, count)
 }

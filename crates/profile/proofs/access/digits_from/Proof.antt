@@ -22,7 +22,10 @@ put-all-requires : tie.Need-put-all-requires
 put-all-requires c κs = search needs
 
 returns : tie.Need-returns
-returns c = digits-copied (c .before .before .before .before .before .args .s .now) (c .before .before .before .before .before .args .at) (c .before .before .before .before .before .pre) (c .before .put-all .ensures)
+returns c =
+    digits-copied (c .before .before .before .before .before .args .s .now)
+    (c .before .before .before .before .before .args .at) (c .before .before .before .before .before .pre)
+    (c .before .put-all .ensures)
 
 pub digits-from-spec : {M : Type 1} → statement M
 digits-from-spec =

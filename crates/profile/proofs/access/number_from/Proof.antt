@@ -25,7 +25,10 @@ shared-slice-read-t11 : tie.Need-shared-slice-read-t11
 shared-slice-read-t11 c = search needs
 
 returns : tie.Need-returns
-returns c = number-made (c .before .before .before .before .before .args .s .now) (c .before .before .before .before .before .args .at) (c .before .before .before .digits-from .result) (c .before .before .before .digits-from .ensures)
+returns c =
+    number-made (c .before .before .before .before .before .args .s .now)
+    (c .before .before .before .before .before .args .at) (c .before .before .before .digits-from .result)
+    (c .before .before .before .digits-from .ensures)
 
 pub number-from-spec : {M : Type 1} → statement M
 number-from-spec =

@@ -1,3 +1,4 @@
+use Rattle.profile.specs.Profile.{prefixesMost}
 use Rattle.profile.proofs.Records.{Prefixed, prefixes-first, prefixes-next, prefixes-all}
 use Prim.Native.Nat.{_-_, _≤_}
 use native.Mathlib.Omega.{arith}
@@ -7,10 +8,10 @@ use Rattle.profile.proofs.access.prefixes_from.Statement.{statement}
 use Rattle.profile.proofs.access.prefixes_from.Tie as tie
 
 abbrev Inv-loop : tie.InvT-loop
-Inv-loop s prefixes₀ k₀ prefixes k = (k ≤ 16) × Prefixed s prefixes k
+Inv-loop s prefixes₀ k₀ prefixes k = (k ≤ prefixesMost) × Prefixed s prefixes k
 
 abbrev μ-loop : tie.MeasureT-loop
-μ-loop s prefixes₀ k₀ prefixes k = 16 - k
+μ-loop s prefixes₀ k₀ prefixes k = prefixesMost - k
 
 prefix-from-requires : tie.Need-prefix-from-requires Inv-loop μ-loop
 prefix-from-requires c κs = search needs
@@ -40,10 +41,18 @@ loop-less : tie.Need-loop-less Inv-loop μ-loop
 loop-less c = search needs
 
 loop-again : tie.Need-loop-again Inv-loop μ-loop
-loop-again c = (search needs, prefixes-next (c .before .before .before .before .before .args .s .now) (c .before .before .loop .prefixes) (c .before .before .loop .k) _ (c .before .loop-test .taken) (c .prefix-from2 .ensures) (c .before .before .loop .inv .1))
+loop-again c = (
+  search needs,
+  prefixes-next (c .before .before .before .before .before .args .s .now) (c .before .before .loop .prefixes)
+      (c .before .before .loop .k) _ (c .before .loop-test .taken) (c .prefix-from2 .ensures)
+      (c .before .before .loop .inv .1),
+)
 
 returns : tie.Need-returns Inv-loop μ-loop
-returns c = let l = c .before .loop in let done : l .k ≡ 16 = omega (arith, c .loop-test .left) in prefixes-all (c .before .before .before .before .args .s .now) (l .prefixes) (rw done at (l .inv .1))
+returns c =
+    let l = c .before .loop in
+    let done : l .k ≡ prefixesMost = omega (arith, c .loop-test .left) in
+    prefixes-all (c .before .before .before .before .args .s .now) (l .prefixes) (rw done at (l .inv .1))
 
 pub prefixes-from-spec : {M : Type 1} → statement M
 prefixes-from-spec =

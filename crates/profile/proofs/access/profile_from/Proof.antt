@@ -136,7 +136,12 @@ shared-slice-read-t62 : tie.Need-shared-slice-read-t62
 shared-slice-read-t62 c = search needs
 
 returns : tie.Need-returns
-returns c = let k = c .before .before .before .before .before .before .before .before .before .before .before .before .before .before .before .before .before .before .before in profile-made (k .before .before .before .before .before .before .args .s .now) _ _ _ _ _ (k .before .before .before .before .before .before .pre) (k .before .before .before .before .number-from .ensures) (k .before .before .before .number-from2 .ensures) (k .before .before .number-from3 .ensures) (k .before .number-from4 .ensures) (k .prefixes-from .ensures)
+returns c =
+    let k = c .before .before .before .before .before .before .before .before .before .before .before .before .before .before .before .before .before .before .before in
+    profile-made (k .before .before .before .before .before .before .args .s .now) _ _ _ _ _
+    (k .before .before .before .before .before .before .pre) (k .before .before .before .before .number-from .ensures)
+    (k .before .before .before .number-from2 .ensures) (k .before .before .number-from3 .ensures)
+    (k .before .number-from4 .ensures) (k .prefixes-from .ensures)
 
 pub profile-from-spec : {M : Type 1} → statement M
 profile-from-spec =

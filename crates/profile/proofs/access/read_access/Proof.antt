@@ -23,7 +23,13 @@ no-access-requires-2 c κs = search needs
 
 returns-2 : tie.Need-returns-2
 unfolding accessRead
-returns-2 c = rw (eq-eqb _ _ (c .before .before .before .before .if1 .left), ← c .before .before .before .profile-from .ensures, sym (c .before .before .profile-good .ensures) ∙ not-true _ (c .before .if2 .taken)) (c .no-access2 .ensures)
+returns-2 c =
+    rw (
+      eq-eqb _ _ (c .before .before .before .before .if1 .left),
+      ← c .before .before .before .profile-from .ensures,
+      sym (c .before .before .profile-good .ensures) ∙ not-true _ (c .before .if2 .taken),
+    )
+    (c .no-access2 .ensures)
 
 returns-3 : tie.Need-returns-3
 unfolding accessRead

@@ -34,7 +34,11 @@ same-requires : tie.Need-same-requires Inv-loop μ-loop
 same-requires c κs = search needs
 
 returns-2 : tie.Need-returns-2 Inv-loop μ-loop
-returns-2 c = let l = c .before .before .before .before .before in let s = l .before .before .before .args in let long : length (s .p .numbers) ≡ numbersMost = search (unmapped, needs) in number-here (s .p) (s .n) (s .p .numbercount) (s .p .numbers) (l .loop .k) (omega arith) (omega arith) (sym (c .before .same .ensures) ∙ c .if2 .taken) (l .loop .inv .1)
+returns-2 c =
+    let l = c .before .before .before .before .before in
+    let s = l .before .before .before .args in
+    let long : length (s .p .numbers) ≡ numbersMost = search (unmapped, needs) in
+    number-here (s .p) (s .n) (s .p .numbercount) (s .p .numbers) (l .loop .k) (omega arith) (omega arith) (sym (c .before .same .ensures) ∙ c .if2 .taken) (l .loop .inv .1)
 
 add-k : tie.Need-add-k Inv-loop μ-loop
 add-k c = search needs
@@ -43,10 +47,20 @@ loop-less : tie.Need-loop-less Inv-loop μ-loop
 loop-less c = search needs
 
 loop-again : tie.Need-loop-again Inv-loop μ-loop
-loop-again c = let l = c .before .before .before .before .before in let s = l .before .before .before .args in let long : length (s .p .numbers) ≡ numbersMost = search (unmapped, needs) in (omega arith, number-next (s .p) (s .n) (s .p .numbercount) (s .p .numbers) (l .loop .k) (omega arith) (omega arith) (sym (c .before .same .ensures) ∙ c .if2 .left) (l .loop .inv .1))
+loop-again c =
+    let l = c .before .before .before .before .before in
+    let s = l .before .before .before .args in
+    let long : length (s .p .numbers) ≡ numbersMost = search (unmapped, needs) in (
+      omega arith,
+      number-next (s .p) (s .n) (s .p .numbercount) (s .p .numbers) (l .loop .k) (omega arith) (omega arith) (sym (c .before .same .ensures) ∙ c .if2 .left) (l .loop .inv .1),
+    )
 
 returns-3 : tie.Need-returns-3 Inv-loop μ-loop
-returns-3 c = let l = c .before in let s = l .before .before .before .args in let long : length (s .p .numbers) ≡ numbersMost = search (unmapped, needs) in number-none (s .p) (s .n) (s .p .numbercount) (s .p .numbers) (l .loop .k) (omega arith) (l .loop .inv .1)
+returns-3 c =
+    let l = c .before in
+    let s = l .before .before .before .args in
+    let long : length (s .p .numbers) ≡ numbersMost = search (unmapped, needs) in
+    number-none (s .p) (s .n) (s .p .numbercount) (s .p .numbers) (l .loop .k) (omega arith) (l .loop .inv .1)
 
 pub number-place-spec : {M : Type 1} → statement M
 number-place-spec =

@@ -47,7 +47,12 @@ number-good-requires : tie.Need-number-good-requires Inv-loop μ-loop
 number-good-requires c κs = search needs
 
 returns-3 : tie.Need-returns-3 Inv-loop μ-loop
-returns-3 c = let l = c .before .before .before .before in let s = l .before .before .before .before .before .args .p in sym (numbers-fair s (omega arith) (omega arith) ∙ every-fails (numberFits s (s .numbercount) (s .numbers)) (s .numbercount) (l .loop .k) (omega arith) (rw (sym (c .before .number-good .ensures) ∙ not-true _ (c .if3 .taken))))
+returns-3 c =
+    let l = c .before .before .before .before in
+    let s = l .before .before .before .before .before .args .p in
+    sym
+    (numbers-fair s (omega arith) (omega arith)
+    ∙ every-fails (numberFits s (s .numbercount) (s .numbers)) (s .numbercount) (l .loop .k) (omega arith) (rw (sym (c .before .number-good .ensures) ∙ not-true _ (c .if3 .taken))))
 
 same-before-requires : tie.Need-same-before-requires Inv-loop μ-loop
 same-before-requires c κs = search needs
@@ -83,14 +88,18 @@ loop-again c =
     let none = sym (c .before .same-before .ensures) ∙ c .if4 .left in (
       omega arith,
       every-more (numberFits s (s .numbercount) (s .numbers)) k (l .loop .inv .1)
-      (rw (
-        sym (c .before .before .before .number-good .ensures) ∙ not-false _ (c .before .before .if3 .left),
-        eq-eqb _ _ (first-here s (s .numbers) (s .numbercount) k (omega arith) (omega arith) none),
-      )),
+          (rw (
+            sym (c .before .before .before .number-good .ensures) ∙ not-false _ (c .before .before .if3 .left),
+            eq-eqb _ _ (first-here s (s .numbers) (s .numbercount) k (omega arith) (omega arith) none),
+          )),
     )
 
 returns-5 : tie.Need-returns-5 Inv-loop μ-loop
-returns-5 c = let l = c .before in let s = l .before .before .before .before .before .args .p in let e : l .loop .k ≡ s .numbercount = omega arith in sym (numbers-fair s (omega arith) (omega arith) ∙ ap (numbersFit s) (sym e) ∙ l .loop .inv .1)
+returns-5 c =
+    let l = c .before in
+    let s = l .before .before .before .before .before .args .p in
+    let e : l .loop .k ≡ s .numbercount = omega arith in
+    sym (numbers-fair s (omega arith) (omega arith) ∙ ap (numbersFit s) (sym e) ∙ l .loop .inv .1)
 
 pub numbers-good-spec : {M : Type 1} → statement M
 numbers-good-spec =

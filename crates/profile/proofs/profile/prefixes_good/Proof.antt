@@ -22,7 +22,10 @@ cast-count : tie.Need-cast-count Inv-loop μ-loop
 cast-count c = search needs
 
 returns : tie.Need-returns Inv-loop μ-loop
-returns c = let s = c .before .before .args .p in let e : s .prefixcount ≡ 0 = omega (arith, c .if1 .taken) in sym (prefixes-fair s (omega arith) ∙ ap (everyTo (prefixFits (s .prefixes))) e ∙ every-none (prefixFits (s .prefixes)))
+returns c =
+    let s = c .before .before .args .p in
+    let e : s .prefixcount ≡ 0 = omega (arith, c .if1 .taken) in
+    sym (prefixes-fair s (omega arith) ∙ ap (everyTo (prefixFits (s .prefixes))) e ∙ every-none (prefixFits (s .prefixes)))
 
 returns-2 : tie.Need-returns-2 Inv-loop μ-loop
 unfolding prefixesGood
@@ -41,7 +44,12 @@ prefix-good-requires : tie.Need-prefix-good-requires Inv-loop μ-loop
 prefix-good-requires c κs = search needs
 
 returns-3 : tie.Need-returns-3 Inv-loop μ-loop
-returns-3 c = let l = c .before .before .before .before in let s = l .before .before .before .before .before .args .p in sym (prefixes-fair s (omega arith) ∙ every-fails (prefixFits (s .prefixes)) (s .prefixcount) (l .loop .k) (omega arith) (sym (c .before .prefix-good .ensures) ∙ not-true _ (c .if3 .taken)))
+returns-3 c =
+    let l = c .before .before .before .before in
+    let s = l .before .before .before .before .before .args .p in
+    sym
+    (prefixes-fair s (omega arith)
+    ∙ every-fails (prefixFits (s .prefixes)) (s .prefixcount) (l .loop .k) (omega arith) (sym (c .before .prefix-good .ensures) ∙ not-true _ (c .if3 .taken)))
 
 add-k : tie.Need-add-k Inv-loop μ-loop
 add-k c = search needs
@@ -50,10 +58,17 @@ loop-less : tie.Need-loop-less Inv-loop μ-loop
 loop-less c = search needs
 
 loop-again : tie.Need-loop-again Inv-loop μ-loop
-loop-again c = let l = c .before .before .before .before in let s = l .before .before .before .before .before .args .p in (omega arith, every-more (prefixFits (s .prefixes)) (l .loop .k) (l .loop .inv .1) (sym (c .before .prefix-good .ensures) ∙ not-false _ (c .if3 .left)))
+loop-again c =
+    let l = c .before .before .before .before in
+    let s = l .before .before .before .before .before .args .p in
+    (omega arith, every-more (prefixFits (s .prefixes)) (l .loop .k) (l .loop .inv .1) (sym (c .before .prefix-good .ensures) ∙ not-false _ (c .if3 .left)))
 
 returns-4 : tie.Need-returns-4 Inv-loop μ-loop
-returns-4 c = let l = c .before in let s = l .before .before .before .before .before .args .p in let e : l .loop .k ≡ s .prefixcount = omega arith in sym (prefixes-fair s (omega arith) ∙ ap (everyTo (prefixFits (s .prefixes))) (sym e) ∙ l .loop .inv .1)
+returns-4 c =
+    let l = c .before in
+    let s = l .before .before .before .before .before .args .p in
+    let e : l .loop .k ≡ s .prefixcount = omega arith in
+    sym (prefixes-fair s (omega arith) ∙ ap (everyTo (prefixFits (s .prefixes))) (sym e) ∙ l .loop .inv .1)
 
 pub prefixes-good-spec : {M : Type 1} → statement M
 prefixes-good-spec =

@@ -27,13 +27,30 @@ same-digits-requires : tie.Need-same-digits-requires
 same-digits-requires c κs = search needs
 
 returns-4 : tie.Need-returns-4
-returns-4 c = let s = c .before .before .before .before .before .before .before .before .before .before .before .before .before .before .args .a in let t = c .before .before .before .before .before .before .before .before .before .before .before .before .before .before .args .b in let long : length (s .digits) ≡ most = search needs in let other : length (t .digits) ≡ most = search needs in c .same-digits .ensures ∙ sym (same-left s t (c .before .before .before .before .before .before .before .before .before .before .before .if1 .left) (c .before .before .before .before .before .before .before .before .if2 .left) (c .before .before .before .before .before .if3 .left) ∙ same-all (s .digits) (t .digits) (s .count) (c .before .if4 .taken) long other)
+returns-4 c =
+    let s = c .before .before .before .before .before .before .before .before .before .before .before .before .before .before .args .a in
+    let t = c .before .before .before .before .before .before .before .before .before .before .before .before .before .before .args .b in
+    let long : length (s .digits) ≡ most = search needs in
+    let other : length (t .digits) ≡ most = search needs in
+    c .same-digits .ensures
+    ∙ sym
+    (same-left s t (c .before .before .before .before .before .before .before .before .before .before .before .if1 .left)
+    (c .before .before .before .before .before .before .before .before .if2 .left)
+    (c .before .before .before .before .before .if3 .left)
+    ∙ same-all (s .digits) (t .digits) (s .count) (c .before .if4 .taken) long other)
 
 same-digits-requires-2 : tie.Need-same-digits-requires-2
 same-digits-requires-2 c κs = search needs
 
 returns-5 : tie.Need-returns-5
-returns-5 c = let s = c .before .before .before .before .before .before .before .before .before .before .before .before .before .before .args .a in let t = c .before .before .before .before .before .before .before .before .before .before .before .before .before .before .args .b in c .same-digits2 .ensures ∙ sym (same-left s t (c .before .before .before .before .before .before .before .before .before .before .before .if1 .left) (c .before .before .before .before .before .before .before .before .if2 .left) (c .before .before .before .before .before .if3 .left))
+returns-5 c =
+    let s = c .before .before .before .before .before .before .before .before .before .before .before .before .before .before .args .a in
+    let t = c .before .before .before .before .before .before .before .before .before .before .before .before .before .before .args .b in
+    c .same-digits2 .ensures
+    ∙ sym
+    (same-left s t (c .before .before .before .before .before .before .before .before .before .before .before .if1 .left)
+    (c .before .before .before .before .before .before .before .before .if2 .left)
+    (c .before .before .before .before .before .if3 .left))
 
 pub same-number-spec : {M : Type 1} → statement M
 same-number-spec =

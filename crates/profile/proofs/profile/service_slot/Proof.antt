@@ -27,7 +27,11 @@ array-read-if2 : tie.Need-array-read-if2 Inv-loop μ-loop
 array-read-if2 c = search needs
 
 returns-2 : tie.Need-returns-2 Inv-loop μ-loop
-returns-2 c = let l = c .before .before .before in let s = l .before .before .before .args in let long : length (s .p .services) ≡ servicesMost = search needs in slot-here (s .service) (s .p .servicecount) (s .p .services) (l .loop .k) (omega arith) (omega arith) (c .if2 .taken) (l .loop .inv .1)
+returns-2 c =
+    let l = c .before .before .before in
+    let s = l .before .before .before .args in
+    let long : length (s .p .services) ≡ servicesMost = search needs in
+    slot-here (s .service) (s .p .servicecount) (s .p .services) (l .loop .k) (omega arith) (omega arith) (c .if2 .taken) (l .loop .inv .1)
 
 add-k : tie.Need-add-k Inv-loop μ-loop
 add-k c = search needs
@@ -36,10 +40,18 @@ loop-less : tie.Need-loop-less Inv-loop μ-loop
 loop-less c = search needs
 
 loop-again : tie.Need-loop-again Inv-loop μ-loop
-loop-again c = let l = c .before .before .before in let s = l .before .before .before .args in let long : length (s .p .services) ≡ servicesMost = search needs in (omega arith, slot-next (s .service) (s .p .servicecount) (s .p .services) (l .loop .k) (omega arith) (omega arith) (c .if2 .left) (l .loop .inv .1))
+loop-again c =
+    let l = c .before .before .before in
+    let s = l .before .before .before .args in
+    let long : length (s .p .services) ≡ servicesMost = search needs in
+    (omega arith, slot-next (s .service) (s .p .servicecount) (s .p .services) (l .loop .k) (omega arith) (omega arith) (c .if2 .left) (l .loop .inv .1))
 
 returns-3 : tie.Need-returns-3 Inv-loop μ-loop
-returns-3 c = let l = c .before in let s = l .before .before .before .args in let long : length (s .p .services) ≡ servicesMost = search needs in slot-none (s .service) (s .p .servicecount) (s .p .services) (l .loop .k) (omega arith) (l .loop .inv .1)
+returns-3 c =
+    let l = c .before in
+    let s = l .before .before .before .args in
+    let long : length (s .p .services) ≡ servicesMost = search needs in
+    slot-none (s .service) (s .p .servicecount) (s .p .services) (l .loop .k) (omega arith) (l .loop .inv .1)
 
 pub service-slot-spec : {M : Type 1} → statement M
 service-slot-spec =

@@ -36,13 +36,32 @@ array-read-code : tie.Need-array-read-code Inv-loop μ-loop
 array-read-code c = search needs
 
 returns-3 : tie.Need-returns-3 Inv-loop μ-loop
-returns-3 c = let l = c .before .before in let s = l .before .before .before .before .before .args .p in let long : length (s .services) ≡ servicesMost = search needs in rw (services-fair s (omega arith) (omega arith), l .loop .inv .1, rising-step (l .loop .below) (s .services) (s .servicecount) (l .loop .k) (omega arith) (omega arith), le-ltb _ _ (c .if3 .taken))
+returns-3 c =
+    let l = c .before .before in
+    let s = l .before .before .before .before .before .args .p in
+    let long : length (s .services) ≡ servicesMost = search needs in
+    rw (
+      services-fair s (omega arith) (omega arith),
+      l .loop .inv .1,
+      rising-step (l .loop .below) (s .services) (s .servicecount) (l .loop .k) (omega arith) (omega arith),
+      le-ltb _ _ (c .if3 .taken),
+    )
 
 service-code-requires : tie.Need-service-code-requires Inv-loop μ-loop
 service-code-requires c κs = search needs
 
 returns-4 : tie.Need-returns-4 Inv-loop μ-loop
-returns-4 c = let l = c .before .before .before .before in let s = l .before .before .before .before .before .args .p in let long : length (s .services) ≡ servicesMost = search needs in rw (services-fair s (omega arith) (omega arith), l .loop .inv .1, rising-step (l .loop .below) (s .services) (s .servicecount) (l .loop .k) (omega arith) (omega arith), lt-ltb _ _ (c .before .before .if3 .left), sym (c .before .service-code .ensures) ∙ not-true _ (c .if4 .taken))
+returns-4 c =
+    let l = c .before .before .before .before in
+    let s = l .before .before .before .before .before .args .p in
+    let long : length (s .services) ≡ servicesMost = search needs in
+    rw (
+      services-fair s (omega arith) (omega arith),
+      l .loop .inv .1,
+      rising-step (l .loop .below) (s .services) (s .servicecount) (l .loop .k) (omega arith) (omega arith),
+      lt-ltb _ _ (c .before .before .if3 .left),
+      sym (c .before .service-code .ensures) ∙ not-true _ (c .if4 .taken),
+    )
 
 add-k : tie.Need-add-k Inv-loop μ-loop
 add-k c = search needs
@@ -51,10 +70,25 @@ loop-less : tie.Need-loop-less Inv-loop μ-loop
 loop-less c = search needs
 
 loop-again : tie.Need-loop-again Inv-loop μ-loop
-loop-again c = let l = c .before .before .before .before in let s = l .before .before .before .before .before .args .p in let long : length (s .services) ≡ servicesMost = search needs in (omega arith, l .loop .inv .1 ∙ rw (rising-step (l .loop .below) (s .services) (s .servicecount) (l .loop .k) (omega arith) (omega arith), lt-ltb _ _ (c .before .before .if3 .left), sym (c .before .service-code .ensures) ∙ not-false _ (c .if4 .left)))
+loop-again c =
+    let l = c .before .before .before .before in
+    let s = l .before .before .before .before .before .args .p in
+    let long : length (s .services) ≡ servicesMost = search needs in (
+      omega arith,
+      l .loop .inv .1
+          ∙ rw (
+            rising-step (l .loop .below) (s .services) (s .servicecount) (l .loop .k) (omega arith) (omega arith),
+            lt-ltb _ _ (c .before .before .if3 .left),
+            sym (c .before .service-code .ensures) ∙ not-false _ (c .if4 .left),
+          ),
+    )
 
 returns-5 : tie.Need-returns-5 Inv-loop μ-loop
-returns-5 c = let l = c .before in let s = l .before .before .before .before .before .args .p in let e : l .loop .k ≡ s .servicecount = omega arith in sym (services-fair s (omega arith) (omega arith) ∙ l .loop .inv .1 ∙ rw e (rising-end (l .loop .below) (s .services) (s .servicecount)))
+returns-5 c =
+    let l = c .before in
+    let s = l .before .before .before .before .before .args .p in
+    let e : l .loop .k ≡ s .servicecount = omega arith in
+    sym (services-fair s (omega arith) (omega arith) ∙ l .loop .inv .1 ∙ rw e (rising-end (l .loop .below) (s .services) (s .servicecount)))
 
 pub services-good-spec : {M : Type 1} → statement M
 services-good-spec =
