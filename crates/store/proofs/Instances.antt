@@ -1,13 +1,13 @@
 -- The instance at a place, and what a row holds there, over plain values. Assumes nothing.
 use Prim.Native.Nat.{ℕ, _≤_}
 use mathlib.Core.Path.{_≡_, ap}
-use mathlib.Core.Bool.{true, false}
+use mathlib.Core.Bool.{true, false, not}
 use mathlib.Core.Option.{none, some}
 use lib.ListN.{length, List·getD-eq-default}
 use lib.Dec.{eqb}
 use borrow.Author.Tests.{eqb-false}
 use Rattle.laws.specs.Pick.{pick}
-use Rattle.laws.proofs.Picks.{pick-ind, pick-else}
+use Rattle.laws.proofs.Picks.{pick-ind, not-passed}
 use Rattle.numbers.specs.Address.{tidyAddress}
 use Rattle.store.specs.Row.{outside, cellAt, active, held, noHeld, heldAt}
 use Rattle.store.specs.declared.row.Cell.{Cell}
@@ -43,7 +43,7 @@ module _ (row : Row) (j : ℕ) where
   -- the service of an instance that is active is no 0
   pub active-some : active row j ≡ true → cellAt row j .service ≡ 0 → ⊥
   unfolding active
-  active-some h = eqb-false (cellAt row j .service) 0 (pick-else (eqb (cellAt row j .service) 0) true h .0)
+  active-some h = eqb-false (cellAt row j .service) 0 (not-passed (eqb (cellAt row j .service) 0) h)
 
   -- the row holds its address, and nothing where none is active
   pub held-some : active row j ≡ true → held row j ≡ some (tidyAddress (cellAt row j .address))
@@ -58,9 +58,9 @@ module _ (row : Row) (j : ℕ) where
   module _ (other : Row) (same : cellAt row j ≡ cellAt other j) where
     pub active-same : active row j ≡ active other j
     unfolding active
-    active-same = ap (λ (x : Cell). pick (eqb (x .service) 0) false true) same
+    active-same = ap (λ (x : Cell). not (eqb (x .service) 0)) same
 
     pub held-same : held row j ≡ held other j
     unfolding held active
     held-same =
-        ap (λ (x : Cell). pick (pick (eqb (x .service) 0) false true) (some (tidyAddress (x .address))) none) same
+        ap (λ (x : Cell). pick (not (eqb (x .service) 0)) (some (tidyAddress (x .address))) none) same

@@ -2,8 +2,8 @@
 -- Assumes nothing.
 use Prim.Native.Nat.{ℕ, _<_, _≤_}
 use mathlib.Core.Path.{_≡_, refl, sym, ap, _∙_}
-use mathlib.Core.Bool.{Bool, true, false}
-use mathlib.Core.List.{[], _∷_}
+use mathlib.Core.Bool.{Bool, true, false, not}
+use mathlib.Core.List.{List, [], _∷_}
 use mathlib.Core.Logic.{_⊎_, inl, inr, ⊎-elim}
 use mathlib.Core.Option.{Option, none, some}
 use native.Mathlib.Omega.{arith}
@@ -12,13 +12,15 @@ use lib.Seq.{take-all}
 use lib.Dec.{eqb, ltb, leb}
 use borrow.Author.Tests.{eq-eqb, ne-eqb, eqb-true, eqb-false, lt-ltb, ltb-true, ltb-false, le-leb, lt-leb, leb-true}
 use Rattle.laws.specs.Pick.{pick}
+use Rattle.laws.specs.Tests.{all}
 use Rattle.laws.specs.Places.{everyTo, countTo}
-use Rattle.laws.proofs.Picks.{pick-ind, pick-then, pick-else}
+use Rattle.laws.proofs.Picks.{pick-ind, pick-else, pick-last, not-passed}
 use Rattle.laws.proofs.Walks.{count-same, count-fewer, every-at, every-all, length-changed, changed-at, changed-past, gathered-few, gathered-ind}
 use Rattle.numbers.specs.Number.{numberGood}
 use Rattle.numbers.specs.Address.{tidyAddress, addressGood}
 use Rattle.numbers.specs.declared.address.Address.{Address}
 use Rattle.profile.specs.declared.profile.Profile.{Profile}
+use Rattle.profile.proofs.Profiles.{all-at}
 use Rattle.lists.specs.Entries.{allGood}
 use Rattle.lists.specs.declared.entry.Entry.{Entry}
 use Rattle.lists.proofs.Goods.{entry-good, all-none, all-one, all-both}
@@ -31,7 +33,7 @@ use Rattle.store.proofs.Turns.{withAt, putAt, clearAt, goodAt, none-at,
 -- ---- a cell that may be changed
 
 abbrev used : Cell → Bool
-used x = pick (eqb (x .service) 0) false true
+used x = not (eqb (x .service) 0)
 
 abbrev heldIn : Cell → Option Address
 heldIn x = pick (used x) (some (tidyAddress (x .address))) none
@@ -59,7 +61,7 @@ held-in-clear x false = refl
 -- the code of a place that is selected is no 0
 selected-code : (w : Places) (j : ℕ) → selected w j ≡ true → codeOfPlace w j ≡ 0 → ⊥
 unfolding selected
-selected-code w j h = eqb-false (codeOfPlace w j) 0 (pick-else (eqb (codeOfPlace w j) 0) true h .0)
+selected-code w j h = eqb-false (codeOfPlace w j) 0 (not-passed (eqb (codeOfPlace w j) 0) h)
 
 pick-or : (a b : Bool) → pick a true b ≡ pick b true a
 pick-or true true = refl
@@ -156,27 +158,27 @@ pub cell-good :
 unfolding cellGood
 cell-good p procedure j code address subscribed number slot service good =
     pick-ind (λ t. t ≡ true) (eqb code 0) (λ _. refl) (λ _.
-    rw (eq-eqb _ _ subscribed, lt-ltb _ _ number, lt-ltb _ _ slot, eq-eqb _ _ service) good)
+    rw (eq-eqb _ _ subscribed, lt-ltb _ _ number, lt-ltb _ _ slot, eq-eqb _ _ service, good))
 
 module _ (limit : ℕ) (p : Profile) (procedure : ℕ) where
   pub good-cells : (row : Row) → rowGood limit p procedure row ≡ true → (j : ℕ) → j < places → cellGood p procedure j (cellAt row j) ≡ true
   unfolding rowGood
   good-cells row good j h =
       every-at (goodAt p procedure row) places j h
-      (pick-then (everyTo (goodAt p procedure row) places) (leb (countTo (active row) places) limit) good .0)
+      (all-at (everyTo (goodAt p procedure row) places ∷ leb (countTo (active row) places) limit ∷ []) 0 good)
 
   pub good-few : (row : Row) → rowGood limit p procedure row ≡ true → countTo (active row) places ≤ limit
   unfolding rowGood
   good-few row good =
       leb-true (countTo (active row) places) limit
-      (pick-then (everyTo (goodAt p procedure row) places) (leb (countTo (active row) places) limit) good .1)
+      (all-at (everyTo (goodAt p procedure row) places ∷ leb (countTo (active row) places) limit ∷ []) 1 good)
 
   pub good-row :
       (row : Row) → ((j : ℕ) → j < places → cellGood p procedure j (cellAt row j) ≡ true) → countTo (active row) places ≤ limit →
       rowGood limit p procedure row ≡ true
   unfolding rowGood
   good-row row cells few =
-      rw (every-all (goodAt p procedure row) places cells) (le-leb (countTo (active row) places) limit few)
+      rw (every-all (goodAt p procedure row) places cells, le-leb (countTo (active row) places) limit few)
 
   -- by how many instances there are: a row without one breaks no rule
   pub row-none : (row : Row) → countTo (active row) places ≡ 0 → rowGood limit p procedure row ≡ true
@@ -193,8 +195,7 @@ module _ (limit : ℕ) (p : Profile) (procedure : ℕ) where
       (row : Row) → countTo (active row) places ≤ limit → rowGood limit p procedure row ≡ everyTo (goodAt p procedure row) places
   unfolding rowGood
   row-few row few =
-      rw (le-leb (countTo (active row) places) limit few)
-      (pick-ind (λ t. t ≡ everyTo (goodAt p procedure row) places) (everyTo (goodAt p procedure row) places) sym sym)
+      rw (le-leb (countTo (active row) places) limit few) (pick-last (everyTo (goodAt p procedure row) places))
 
   pub good-put :
       (w : Places) (address : Address) (row : Row) → rowGood limit p procedure row ≡ true → length (row .cells) ≡ places →
@@ -259,19 +260,19 @@ cell-rules :
 unfolding cellGood
 cell-rules p procedure j x good there =
     let code : ℕ = getD (p .services) (serviceOfPlace j) 0 in
-    let kind : Bool = pick (eqb (x .service) code) (addressGood (x .address)) false in
-    let slot : Bool = pick (ltb (serviceOfPlace j) (p .servicecount)) kind false in
-    let number : Bool = pick (ltb (numberOfPlace j) (p .numbercount)) slot false in
-    let a = pick-then (eqb (getD (p .subscribed) procedure 0) 1) number (rw (pick-else (eqb (x .service) 0) true there .0) at good) in
-    let b = pick-then (ltb (numberOfPlace j) (p .numbercount)) slot (a .1) in
-    let c = pick-then (ltb (serviceOfPlace j) (p .servicecount)) kind (b .1) in
-    let d = pick-then (eqb (x .service) code) (addressGood (x .address)) (c .1) in
+    let number : Bool = ltb (numberOfPlace j) (p .numbercount) in
+    let slot : Bool = ltb (serviceOfPlace j) (p .servicecount) in
+    let service : Bool = eqb (x .service) code in
+    let tests : List Bool =
+    eqb (getD (p .subscribed) procedure 0) 1 ∷ number ∷ slot ∷ service ∷ addressGood (x .address) ∷ [] in
+    let h : all tests ≡ true =
+    rw (not-passed (eqb (x .service) 0) there, pick-last (all tests)) at good in
     record {
-      subscribed = eqb-true (getD (p .subscribed) procedure 0) 1 (a .0);
-      number = ltb-true (numberOfPlace j) (p .numbercount) (b .0);
-      slot = ltb-true (serviceOfPlace j) (p .servicecount) (c .0);
-      service = eqb-true (x .service) code (d .0);
-      address = d .1;
+      subscribed = eqb-true (getD (p .subscribed) procedure 0) 1 (all-at tests 0 h);
+      number = ltb-true (numberOfPlace j) (p .numbercount) (all-at tests 1 h);
+      slot = ltb-true (serviceOfPlace j) (p .servicecount) (all-at tests 2 h);
+      service = eqb-true (x .service) code (all-at tests 3 h);
+      address = all-at tests 4 h;
     }
 
 pub active-rules :

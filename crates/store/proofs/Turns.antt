@@ -1,7 +1,7 @@
 -- One turn of the loops over the places of a row, over plain values: what the code's tests say of a place. Assumes nothing.
 use Prim.Native.Nat.{ℕ, zero, suc, _+_, _<_}
 use mathlib.Core.Path.{_≡_, refl, sym, _∙_}
-use mathlib.Core.Bool.{Bool, true, false, false≢true}
+use mathlib.Core.Bool.{Bool, true, false, not, false≢true}
 use mathlib.Core.Logic.{⊎-elim}
 use mathlib.Core.List.{List, [], _∷_, _++_, map}
 use native.Mathlib.Numerals.{add-one}
@@ -29,9 +29,9 @@ pub unmapped : {A B : Type 0} (f : A → B) (l : List A) (n : ℕ) → length (m
 unmapped f l n e = sym (length-map l f) ∙ e
 
 -- picks that say what their test says
-pick-off : (b : Bool) → pick b false true ≡ false → b ≡ true
-pick-off true h = refl
-pick-off false h = absurd (false≢true (sym h))
+not-off : (b : Bool) → not b ≡ false → b ≡ true
+not-off true h = refl
+not-off false h = absurd (false≢true (sym h))
 
 pick-none : (b : Bool) → _≡_ {A = ℕ} (pick b 1 0) 0 → b ≡ false
 pick-none true h = absurd (omega arith)
@@ -84,7 +84,7 @@ none-at f (suc n) k h none =
 
 pub good-none : (p : Profile) (procedure : ℕ) (row : Row) (j : ℕ) → active row j ≡ false → goodAt p procedure row j ≡ true
 unfolding active cellGood
-good-none p procedure row j none = rw (pick-off (eqb (cellAt row j .service) 0) none)
+good-none p procedure row j none = rw (not-off (eqb (cellAt row j .service) 0) none)
 
 -- what `entries` adds of a place
 abbrev pub entriesAt : Profile → ℕ → Places → Row → ℕ → List Entry

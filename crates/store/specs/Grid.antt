@@ -2,7 +2,7 @@
 use Prim.Native.Nat.{ℕ}
 use mathlib.Core.Path.{_≡_}
 use mathlib.Core.Bool.{Bool}
-use mathlib.Core.List.{List, [], _∷_}
+use mathlib.Core.List.{[], _∷_}
 use lib.ListN.{getD, replicate, take}
 use Rattle.laws.specs.Places.{everyTo}
 use Rattle.profile.specs.declared.profile.Profile.{Profile}

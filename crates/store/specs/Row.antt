@@ -2,16 +2,16 @@
 -- A place is a number and a service: the places of the first number come first, each number's by service code.
 use Prim.Native.Nat.{ℕ, _*_, _/_, _%_}
 use mathlib.Core.Path.{_≡_}
-use mathlib.Core.Bool.{Bool, true, false}
+use mathlib.Core.Bool.{Bool, true, false, not}
 use mathlib.Core.List.{List, [], _∷_}
 use mathlib.Core.Option.{Option, none, some}
-use lib.ListN.{getD, replicate}
+use lib.ListN.{getD}
 use lib.Dec.{ltb, leb, eqb}
 use Rattle.laws.specs.Pick.{pick}
+use Rattle.laws.specs.Tests.{all, any}
 use Rattle.laws.specs.Places.{everyTo, countTo, changedFrom, gathered}
 use Rattle.numbers.specs.Number.{numberOf}
 use Rattle.numbers.specs.Address.{tidyAddress, subOf, forwardedOf, addressGood}
-use Rattle.numbers.specs.declared.number.Number.{Number}
 use Rattle.numbers.specs.declared.address.Address.{Address}
 use Rattle.profile.specs.Profile.{numbersMost, servicesMost}
 use Rattle.profile.specs.declared.profile.Profile.{Profile}
@@ -50,7 +50,7 @@ cellAt row j = getD (row .cells) j outside
 
 -- whether an instance is active at the place
 unfoldable pub active : Row → ℕ → Bool
-active row j = pick (eqb (cellAt row j .service) 0) false true
+active row j = not (eqb (cellAt row j .service) 0)
 
 -- what a row holds at each place, whatever its layout: perhaps an address
 abbrev pub View : Type 0
@@ -73,7 +73,7 @@ abbrev pub codeOfPlace : Places → ℕ → ℕ
 codeOfPlace w j = getD (w .codes) j 0
 
 unfoldable pub selected : Places → ℕ → Bool
-selected w j = pick (eqb (codeOfPlace w j) 0) false true
+selected w j = not (eqb (codeOfPlace w j) 0)
 
 -- how many instances there are with one at every selected place
 unfoldable pub countWith : Places → Row → ℕ
@@ -110,19 +110,21 @@ entriesIn p procedure w row =
 -- "hold only subscribed procedures and services and profile numbers", and addresses by the rules for numbers
 unfoldable pub cellGood : Profile → ℕ → ℕ → Cell → Bool
 cellGood p procedure j x =
-    pick (eqb (x .service) 0) true
-    (pick (eqb (getD (p .subscribed) procedure 0) 1)
-    (pick (ltb (numberOfPlace j) (p .numbercount))
-    (pick (ltb (serviceOfPlace j) (p .servicecount))
-    (pick (eqb (x .service) (getD (p .services) (serviceOfPlace j) 0)) (addressGood (x .address)) false)
-    false)
-    false)
-    false)
+    any
+    (eqb (x .service) 0
+    ∷ all
+    (eqb (getD (p .subscribed) procedure 0) 1
+    ∷ ltb (numberOfPlace j) (p .numbercount)
+    ∷ ltb (serviceOfPlace j) (p .servicecount)
+    ∷ eqb (x .service) (getD (p .services) (serviceOfPlace j) 0)
+    ∷ addressGood (x .address)
+    ∷ [])
+    ∷ [])
 
 -- "at most 8 for each procedure", over the limit
 unfoldable pub rowGood : ℕ → Profile → ℕ → Row → Bool
 rowGood limit p procedure row =
-    pick (everyTo (λ j. cellGood p procedure j (cellAt row j)) places) (leb (countTo (active row) places) limit) false
+    all (everyTo (λ j. cellGood p procedure j (cellAt row j)) places ∷ leb (countTo (active row) places) limit ∷ [])
 
 -- what the methods of a row promise
 abbrev pub Instances : Row → ℕ → Type 0

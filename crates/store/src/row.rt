@@ -4,6 +4,7 @@ use lists::Entry;
 use lists::LIMIT;
 use lists::no_entries;
 use numbers::Address;
+use numbers::MOST;
 use numbers::Number;
 use numbers::address_good;
 use profile::NUMBERS;
@@ -54,10 +55,10 @@ pub(crate) fn no_cell() -> Cell
                 form: 0,
                 kind: 0,
                 count: 0,
-                digits: [0; 20],
+                digits: [0; MOST],
             },
             subcount: 0,
-            sub: [0; 20],
+            sub: [0; MOST],
         },
     }
 }

@@ -1,4 +1,5 @@
 use Rattle.store.specs.Row.{cellGood}
+use Rattle.laws.proofs.Picks.{pick-last}
 use borrow.Author.Tests.{eq-eqb, ne-eqb, le-ltb, lt-ltb}
 use borrow.Author.Needs.{needs}
 use Rattle.store.proofs.row.cell_good.Statement.{statement}
@@ -68,6 +69,8 @@ returns-6 c =
       lt-ltb _ _ (k .before .before .if3 .left),
       lt-ltb _ _ (k .if4 .left),
       eq-eqb _ _ (c .before .before .if5 .left),
+      pick-last,
+      pick-last,
     )
     (c .address-good .ensures)
 
