@@ -25,7 +25,8 @@ use Rattle.rules.specs.Judge.{judge, applied}
 use Rattle.answers.specs.declared.answer.Answer.the-variants.{Listing, Result, Error}
 use Rattle.exchange.specs.Table.{withRow, withLast}
 use Rattle.exchange.specs.Question.{question}
-use Rattle.exchange.specs.Step.{moved, resultOf, handled, stepOf, step, Handles, Steps}
+use Rattle.exchange.specs.Step.{moved, resultOf, handled, stepOf, step}
+use Rattle.exchange.specs.inner.Step.{Handles, Steps}
 use Rattle.exchange.specs.declared.question.Question.{Question}
 use Rattle.exchange.specs.declared.table.Table.{Table}
 use Rattle.exchange.specs.declared.step.Stepped.{Stepped}

@@ -15,7 +15,7 @@ ghost use mathlib.Core.Path.{_≡_};
 ghost use lib.Signed.{mag};
 ghost use lib.Dec.{eqb};
 ghost use Rattle.laws.specs.Pick.{pick};
-ghost use Rattle.exchange.specs.Step.{Handles, Steps};
+ghost use Rattle.exchange.specs.inner.Step.{Handles, Steps};
 
 // The last handled identifier afterwards, what becomes of the row of the request's procedure, the answer, and the entries of a list.
 pub(crate) struct Stepped {

@@ -25,7 +25,8 @@ use Rattle.requests.specs.declared.request.Request.{Request}
 use Rattle.store.specs.Row.{places, numberOfPlace, serviceOfPlace, selected}
 use Rattle.store.specs.declared.row.Places.{Places}
 use Rattle.store.proofs.Turns.{is-selected, not-selected}
-use Rattle.rules.specs.Selection.{numberChosen, everyNumber, isAsked, Asks, serviceChosen, selects, placesOf}
+use Rattle.rules.specs.Selection.{numberChosen, serviceChosen, selects, placesOf}
+use Rattle.rules.specs.inner.Asked.{everyNumber, Asks, isChosen, slotCode}
 
 -- ---- the number that is asked for
 
@@ -49,15 +50,6 @@ module _ (p : Profile) (s : Served) where
       rw (ne-eqb _ _ msn, ne-eqb _ _ one, ne-eqb asked everyNumber (omega arith), e)
 
 -- ---- the codes: each number that is chosen gets those of its services
-
--- what `number_chosen` promises
-abbrev isChosen : ℕ → ℕ → ℕ → Bool
-isChosen asked numbers k = pick (ltb k numbers) (isAsked asked k) false
-
--- what `codes_of` promises of a service
-abbrev pub slotCode : ℕ → List ℕ → ℕ → ℕ → ℕ
-slotCode slots services service slot =
-    pick (ltb slot slots) (pick (serviceChosen service (getD services slot 0)) (getD services slot 0) 0) 0
 
 below-or-from : (j n : ℕ) → (j < n) ⊎ (n ≤ j)
 below-or-from j n =

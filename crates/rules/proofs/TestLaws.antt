@@ -12,7 +12,7 @@ use Rattle.numbers.specs.declared.number.Number.{Number}
 use Rattle.profile.specs.Profile.{same, noNumber}
 use Rattle.profile.specs.declared.profile.Profile.{Profile}
 use Rattle.requests.specs.declared.request.Request.{Request}
-use Rattle.rules.specs.Selection.{isAsked, Asks}
+use Rattle.rules.specs.inner.Asked.{everyNumber, isAsked, Asks}
 use Rattle.rules.specs.Judge.{selectedSame}
 
 module _ (p : Profile) (asked count : ℕ) (numbers : List Number) (to : Number) where
@@ -31,7 +31,7 @@ module _ (p : Profile) (asked count : ℕ) (numbers : List Number) (to : Number)
 
   -- one number more
   compare :
-      (k : ℕ) → k < count → k < length numbers → k < 255 → Compared k →
+      (k : ℕ) → k < count → k < length numbers → k < everyNumber → Compared k →
       Answers (λ r.
       any (all (isAsked asked k ∷ isSame k ∷ []) ∷ selectedSame p r (k + 1) (drop (k + 1) (take count numbers)) ∷ []))
   unfolding selectedSame
@@ -41,19 +41,19 @@ module _ (p : Profile) (asked count : ℕ) (numbers : List Number) (to : Number)
 
   -- a selected number is the same
   pub compared-here :
-      (k : ℕ) → k < count → k < length numbers → k < 255 → isAsked asked k ≡ true → isSame k ≡ true → Compared k →
+      (k : ℕ) → k < count → k < length numbers → k < everyNumber → isAsked asked k ≡ true → isSame k ≡ true → Compared k →
       Answers (λ r. true)
   compared-here k h long small chosen alike so r asks e = rw (compare k h long small so r asks e, chosen, alike)
 
   -- a number that isn't selected
   pub compared-skip :
-      (k : ℕ) → k < count → k < length numbers → k < 255 → isAsked asked k ≡ false → Compared k →
+      (k : ℕ) → k < count → k < length numbers → k < everyNumber → isAsked asked k ≡ false → Compared k →
       Compared (k + 1)
   compared-skip k h long small chosen so r asks e = rw (compare k h long small so r asks e, chosen, pick-last)
 
   -- a selected number is another one
   pub compared-other :
-      (k : ℕ) → k < count → k < length numbers → k < 255 → isAsked asked k ≡ true → isSame k ≡ false → Compared k →
+      (k : ℕ) → k < count → k < length numbers → k < everyNumber → isAsked asked k ≡ true → isSame k ≡ false → Compared k →
       Compared (k + 1)
   compared-other k h long small chosen alike so r asks e =
       rw (compare k h long small so r asks e, chosen, alike, pick-last)

@@ -1,3 +1,4 @@
 pub mod Selection
 pub mod Judge
 pub mod Prefix
+pub mod inner

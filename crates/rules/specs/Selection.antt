@@ -1,5 +1,5 @@
 -- Which numbers and services a request selects (document 01, "Replies": "Served number").
-use Prim.Native.Nat.{ℕ, _<_}
+use Prim.Native.Nat.{ℕ}
 use mathlib.Core.Path.{_≡_}
 use mathlib.Core.Bool.{Bool}
 use mathlib.Core.List.{[], _∷_}
@@ -19,16 +19,6 @@ use Rattle.store.specs.declared.row.Places.{Places}
 unfoldable pub numberChosen : Profile → Served → ℕ → Bool
 numberChosen p served k =
     any (eqb (p .msn) 0 ∷ eqb (served .all) 1 ∷ eqb (placeIn p (served .number) (servedNumbers p)) k ∷ [])
-
--- `asked` tells which numbers are chosen: all where it is 255, else the one at that place
-abbrev pub everyNumber : ℕ
-everyNumber = 255
-
-abbrev pub isAsked : ℕ → ℕ → Bool
-isAsked asked k = any (eqb asked everyNumber ∷ eqb asked k ∷ [])
-
-abbrev pub Asks : Profile → Served → ℕ → Type 0
-Asks p served asked = (k : ℕ) → k < everyNumber → numberChosen p served k ≡ isAsked asked k
 
 -- "code 0: all subscribed"
 unfoldable pub serviceChosen : ℕ → ℕ → Bool

@@ -1,17 +1,14 @@
 // Digits that begin with a special prefix (document 01, "Replies, in the order checked").
+use numbers::MOST;
 use numbers::Number;
+use profile::PREFIXES;
 use profile::Prefix;
 use profile::Profile;
 ghost use mathlib.Core.Path.{_≡_};
 ghost use lib.ListN.{take};
 ghost use Rattle.numbers.specs.Number.{digitsOf};
-ghost use Rattle.rules.specs.Prefix.{begins, BeginsAny};
-
-// The most digits that an array holds.
-const DIGITS: usize = 20;
-
-// The most prefixes that an array holds.
-const PREFIXES: usize = 16;
+ghost use Rattle.profile.specs.Profile.{barred};
+ghost use Rattle.rules.specs.Prefix.{begins, beginsAny};
 
 // Whether the digits of a number begin with a prefix.
 fn begins_with(f: Prefix, n: Number) -> bool
@@ -22,7 +19,7 @@ fn begins_with(f: Prefix, n: Number) -> bool
     let prefix = f.digits;
     let digits = n.digits;
     let mut i: usize = 0;
-    while i < DIGITS {
+    while i < MOST {
         if count <= i {
             return true;
         }
@@ -39,7 +36,7 @@ fn begins_with(f: Prefix, n: Number) -> bool
 
 // Whether they begin with one of the profile's. Most profiles have none, and then the array is not copied.
 pub(crate) fn begins_any(p: Profile, n: Number) -> bool
-    ensures { λ b. ⌜ BeginsAny p n b ⌝ }
+    ensures { λ b. ⌜ b ≡ beginsAny (barred p) (digitsOf n) ⌝ }
 {
     let count = p.prefixcount as usize;
     if count == 0 {

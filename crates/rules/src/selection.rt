@@ -9,12 +9,11 @@ use store::PLACES;
 use store::Places;
 ghost use mathlib.Core.Path.{_≡_};
 ghost use mathlib.Core.Bool.{false};
-ghost use lib.Dec.{ltb};
-ghost use lib.ListN.{getD};
 ghost use Rattle.laws.specs.Pick.{pick};
 ghost use Rattle.laws.specs.Places.{eachFrom};
 ghost use Rattle.profile.specs.Profile.{servicesMost};
-ghost use Rattle.rules.specs.Selection.{Asks, isAsked, serviceChosen, PlacesOf};
+ghost use Rattle.rules.specs.Selection.{serviceChosen, PlacesOf};
+ghost use Rattle.rules.specs.inner.Asked.{Asks, isAsked, isChosen, slotCode};
 
 // What `number_asked` answers where a request selects every number.
 const EVERY: usize = 255;
@@ -46,7 +45,7 @@ pub(crate) fn is_asked(asked: usize, k: usize) -> bool
 
 // Whether the profile has a number at the place `k`, and it is selected.
 fn number_chosen(asked: usize, numbers: usize, k: usize) -> bool
-    ensures { λ b. ⌜ b ≡ pick (ltb k numbers) (isAsked asked k) false ⌝ }
+    ensures { λ b. ⌜ b ≡ isChosen asked numbers k ⌝ }
 {
     if k < numbers {
         return is_asked(asked, k);
@@ -69,7 +68,7 @@ fn code_chosen(known: bool, service: u8, code: u8) -> u8
 
 // The codes of a number that is selected: of each service of the profile that is, 0 in the other places.
 fn codes_of(p: Profile, service: u8) -> [u8; SERVICES]
-    ensures { λ codes. ⌜ codes ≡ eachFrom (λ slot. pick (ltb slot (p .servicecount)) (pick (serviceChosen service (getD (p .services) slot 0)) (getD (p .services) slot 0) 0) 0) servicesMost 0 ⌝ }
+    ensures { λ codes. ⌜ codes ≡ eachFrom (slotCode (p .servicecount) (p .services) service) servicesMost 0 ⌝ }
 {
     let offered = p.servicecount as usize;
     let services = p.services;

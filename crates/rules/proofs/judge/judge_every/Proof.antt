@@ -17,10 +17,20 @@ served-invalid-requires : tie.Need-served-invalid-requires
 served-invalid-requires c κs = search needs
 
 returns-3 : tie.Need-returns-3
-returns-3 c = rw (ne-eqb _ _ (c .before .before .before .before .if1 .left), sym (c .before .before .before .is-subscribed .ensures) ∙ not-false _ (c .before .before .if2 .left), sym (c .before .served-invalid .ensures) ∙ c .if3 .taken)
+returns-3 c =
+    rw (
+      ne-eqb _ _ (c .before .before .before .before .if1 .left),
+      sym (c .before .before .before .is-subscribed .ensures) ∙ not-false _ (c .before .before .if2 .left),
+      sym (c .before .served-invalid .ensures) ∙ c .if3 .taken,
+    )
 
 returns-4 : tie.Need-returns-4
-returns-4 c = rw (ne-eqb _ _ (c .before .before .before .before .if1 .left), sym (c .before .before .before .is-subscribed .ensures) ∙ not-false _ (c .before .before .if2 .left), sym (c .before .served-invalid .ensures) ∙ c .if3 .left)
+returns-4 c =
+    rw (
+      ne-eqb _ _ (c .before .before .before .before .if1 .left),
+      sym (c .before .before .before .is-subscribed .ensures) ∙ not-false _ (c .before .before .if2 .left),
+      sym (c .before .served-invalid .ensures) ∙ c .if3 .left,
+    )
 
 pub judge-every-spec : {M : Type 1} → statement M
 judge-every-spec =

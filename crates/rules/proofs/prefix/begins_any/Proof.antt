@@ -27,7 +27,10 @@ loop-holds : tie.Need-loop-holds Inv-loop μ-loop
 loop-holds c = (omega arith, search (unmapped, needs), refl)
 
 returns-2 : tie.Need-returns-2 Inv-loop μ-loop
-returns-2 c = let l = c .before .before in let s = l .before .before .before .before .args in tried-none (s .p .prefixcount) (s .p .prefixes) (digitsOf (s .n)) (l .loop .k) (omega arith) (l .loop .inv .2)
+returns-2 c =
+    let l = c .before .before in
+    let s = l .before .before .before .before .args in
+    tried-none (s .p .prefixcount) (s .p .prefixes) (digitsOf (s .n)) (l .loop .k) (omega arith) (l .loop .inv .2)
 
 mul-f : tie.Need-mul-f Inv-loop μ-loop
 mul-f c = search needs
@@ -39,7 +42,11 @@ begins-with-requires : tie.Need-begins-with-requires Inv-loop μ-loop
 begins-with-requires c κs = search needs
 
 returns-3 : tie.Need-returns-3 Inv-loop μ-loop
-returns-3 c = let l = c .before .before .before .before .before in let s = l .before .before .before .before .args in tried-here (s .p .prefixcount) (s .p .prefixes) (digitsOf (s .n)) (l .loop .k) (omega arith) (omega arith) (sym (c .before .begins-with .ensures) ∙ c .if3 .taken) (l .loop .inv .2)
+returns-3 c =
+    let l = c .before .before .before .before .before in
+    let s = l .before .before .before .before .args in
+    tried-here (s .p .prefixcount) (s .p .prefixes) (digitsOf (s .n)) (l .loop .k) (omega arith) (omega arith)
+    (sym (c .before .begins-with .ensures) ∙ c .if3 .taken) (l .loop .inv .2)
 
 add-k : tie.Need-add-k Inv-loop μ-loop
 add-k c = search needs
@@ -48,7 +55,14 @@ loop-less : tie.Need-loop-less Inv-loop μ-loop
 loop-less c = search needs
 
 loop-again : tie.Need-loop-again Inv-loop μ-loop
-loop-again c = let l = c .before .before .before .before .before in let s = l .before .before .before .before .args in (omega arith, l .loop .inv .1, tried-next (s .p .prefixcount) (s .p .prefixes) (digitsOf (s .n)) (l .loop .k) (omega arith) (omega arith) (sym (c .before .begins-with .ensures) ∙ c .if3 .left) (l .loop .inv .2))
+loop-again c =
+    let l = c .before .before .before .before .before in
+    let s = l .before .before .before .before .args in (
+      omega arith,
+      l .loop .inv .1,
+      tried-next (s .p .prefixcount) (s .p .prefixes) (digitsOf (s .n)) (l .loop .k) (omega arith) (omega arith)
+          (sym (c .before .begins-with .ensures) ∙ c .if3 .left) (l .loop .inv .2),
+    )
 
 returns-4 : tie.Need-returns-4 Inv-loop μ-loop
 returns-4 c = let l = c .before in let s = l .before .before .before .before .args in tried-none (s .p .prefixcount) (s .p .prefixes) (digitsOf (s .n)) (l .loop .k) (omega arith) (l .loop .inv .2)

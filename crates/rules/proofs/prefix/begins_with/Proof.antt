@@ -24,10 +24,17 @@ loop-holds : tie.Need-loop-holds Inv-loop μ-loop
 loop-holds c = (omega arith, refl)
 
 returns : tie.Need-returns Inv-loop μ-loop
-returns c = let l = c .before .before in let s = l .before .before .before .before .before .args in begun-all (s .f .count) (s .n .count) (s .f .digits) (s .n .digits) (l .loop .i) (omega arith) (l .loop .inv .1)
+returns c =
+    let l = c .before .before in
+    let s = l .before .before .before .before .before .args in
+    begun-all (s .f .count) (s .n .count) (s .f .digits) (s .n .digits) (l .loop .i) (omega arith) (l .loop .inv .1)
 
 returns-2 : tie.Need-returns-2 Inv-loop μ-loop
-returns-2 c = let l = c .before .before .before in let s = l .before .before .before .before .before .args in let room : length (s .f .digits) ≡ most = search needs in begun-short (s .f .count) (s .n .count) (s .f .digits) (s .n .digits) (l .loop .i) (omega arith) (omega arith) (omega arith) (l .loop .inv .1)
+returns-2 c =
+    let l = c .before .before .before in
+    let s = l .before .before .before .before .before .args in
+    let room : length (s .f .digits) ≡ most = search needs in
+    begun-short (s .f .count) (s .n .count) (s .f .digits) (s .n .digits) (l .loop .i) (omega arith) (omega arith) (omega arith) (l .loop .inv .1)
 
 array-read-if3 : tie.Need-array-read-if3 Inv-loop μ-loop
 array-read-if3 c = search needs
@@ -36,7 +43,12 @@ array-read-if3-2 : tie.Need-array-read-if3-2 Inv-loop μ-loop
 array-read-if3-2 c = search needs
 
 returns-3 : tie.Need-returns-3 Inv-loop μ-loop
-returns-3 c = let l = c .before .before .before .before in let s = l .before .before .before .before .before .args in let room : length (s .f .digits) ≡ most = search needs in let other : length (s .n .digits) ≡ most = search needs in begun-other (s .f .count) (s .n .count) (s .f .digits) (s .n .digits) (l .loop .i) (omega arith) (omega arith) (omega arith) (omega arith) (c .if3 .taken) (l .loop .inv .1)
+returns-3 c =
+    let l = c .before .before .before .before in
+    let s = l .before .before .before .before .before .args in
+    let room : length (s .f .digits) ≡ most = search needs in
+    let other : length (s .n .digits) ≡ most = search needs in
+    begun-other (s .f .count) (s .n .count) (s .f .digits) (s .n .digits) (l .loop .i) (omega arith) (omega arith) (omega arith) (omega arith) (c .if3 .taken) (l .loop .inv .1)
 
 add-i : tie.Need-add-i Inv-loop μ-loop
 add-i c = search needs
@@ -45,10 +57,21 @@ loop-less : tie.Need-loop-less Inv-loop μ-loop
 loop-less c = search needs
 
 loop-again : tie.Need-loop-again Inv-loop μ-loop
-loop-again c = let l = c .before .before .before .before in let s = l .before .before .before .before .before .args in let room : length (s .f .digits) ≡ most = search needs in let other : length (s .n .digits) ≡ most = search needs in (omega arith, begun-next (s .f .count) (s .n .count) (s .f .digits) (s .n .digits) (l .loop .i) (omega arith) (omega arith) (omega arith) (omega arith) (c .if3 .left) (l .loop .inv .1))
+loop-again c =
+    let l = c .before .before .before .before in
+    let s = l .before .before .before .before .before .args in
+    let room : length (s .f .digits) ≡ most = search needs in
+    let other : length (s .n .digits) ≡ most = search needs in (
+      omega arith,
+      begun-next (s .f .count) (s .n .count) (s .f .digits) (s .n .digits) (l .loop .i) (omega arith) (omega arith) (omega arith) (omega arith) (c .if3 .left) (l .loop .inv .1),
+    )
 
 returns-4 : tie.Need-returns-4 Inv-loop μ-loop
-returns-4 c = let l = c .before in let s = l .before .before .before .before .before .args in let room : length (s .f .digits) ≡ most = search needs in begun-all (s .f .count) (s .n .count) (s .f .digits) (s .n .digits) (l .loop .i) (omega arith) (l .loop .inv .1)
+returns-4 c =
+    let l = c .before in
+    let s = l .before .before .before .before .before .args in
+    let room : length (s .f .digits) ≡ most = search needs in
+    begun-all (s .f .count) (s .n .count) (s .f .digits) (s .n .digits) (l .loop .i) (omega arith) (l .loop .inv .1)
 
 pub begins-with-spec : {M : Type 1} → statement M
 begins-with-spec =

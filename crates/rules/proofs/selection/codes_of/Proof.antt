@@ -1,4 +1,4 @@
-use Rattle.rules.proofs.Selections.{slotCode}
+use Rattle.rules.specs.inner.Asked.{slotCode}
 use Rattle.laws.specs.Places.{eachFrom}
 use Rattle.laws.proofs.Each.{each-spelled, each-set, each-done}
 use Rattle.profile.specs.Profile.{servicesMost}

@@ -17,7 +17,10 @@ number-place-requires : tie.Need-number-place-requires
 number-place-requires c κs = search needs
 
 returns-3 : tie.Need-returns-3
-returns-3 c = let s = c .before .before .before .before .before .before .before .args in let long : length (s .p .numbers) ≡ numbersMost = search (unmapped, needs) in asks-one (s .p) (s .r .served) _ (c .before .before .before .before .before .if1 .left) (c .before .before .if2 .left) long (c .number-place .ensures)
+returns-3 c =
+    let s = c .before .before .before .before .before .before .before .args in
+    let long : length (s .p .numbers) ≡ numbersMost = search (unmapped, needs) in
+    asks-one (s .p) (s .r .served) _ (c .before .before .before .before .before .if1 .left) (c .before .before .if2 .left) long (c .number-place .ensures)
 
 pub number-asked-spec : {M : Type 1} → statement M
 number-asked-spec = tie.close (tie.spec returns returns-2 number-place-requires returns-3)

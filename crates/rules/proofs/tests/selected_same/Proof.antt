@@ -27,7 +27,13 @@ loop-holds : tie.Need-loop-holds Inv-loop μ-loop
 loop-holds c = (omega arith, search (unmapped, needs), λ r asks e. refl)
 
 returns : tie.Need-returns Inv-loop μ-loop
-returns c = let l = c .before .before in let a = l .before .before .before .before .before in let s = a .before .args in sym (compared-none (s .p) (a .number-asked .result) (s .p .numbercount) (s .p .numbers) (s .r .to .address .number) (l .loop .k) (omega arith) (l .loop .inv .2) (s .r) (a .number-asked .ensures) refl)
+returns c =
+    let l = c .before .before in
+    let a = l .before .before .before .before .before in
+    let s = a .before .args in
+    sym
+    (compared-none (s .p) (a .number-asked .result) (s .p .numbercount) (s .p .numbers) (s .r .to .address .number)
+    (l .loop .k) (omega arith) (l .loop .inv .2) (s .r) (a .number-asked .ensures) refl)
 
 is-asked-requires : tie.Need-is-asked-requires Inv-loop μ-loop
 is-asked-requires c κs = search needs
@@ -42,7 +48,15 @@ same-requires : tie.Need-same-requires Inv-loop μ-loop
 same-requires c κs = search needs
 
 returns-2 : tie.Need-returns-2 Inv-loop μ-loop
-returns-2 c = let l = c .before .before .before .before .before .before .before in let a = l .before .before .before .before .before in let s = a .before .args in sym (compared-here (s .p) (a .number-asked .result) (s .p .numbercount) (s .p .numbers) (s .r .to .address .number) (l .loop .k) (omega arith) (omega arith) (omega arith) (sym (c .before .before .before .before .is-asked .ensures) ∙ c .before .before .before .if2 .taken) (sym (c .before .same .ensures) ∙ c .if3 .taken) (l .loop .inv .2) (s .r) (a .number-asked .ensures) refl)
+returns-2 c =
+    let l = c .before .before .before .before .before .before .before in
+    let a = l .before .before .before .before .before in
+    let s = a .before .args in
+    sym
+    (compared-here (s .p) (a .number-asked .result) (s .p .numbercount) (s .p .numbers) (s .r .to .address .number)
+    (l .loop .k) (omega arith) (omega arith) (omega arith)
+    (sym (c .before .before .before .before .is-asked .ensures) ∙ c .before .before .before .if2 .taken)
+    (sym (c .before .same .ensures) ∙ c .if3 .taken) (l .loop .inv .2) (s .r) (a .number-asked .ensures) refl)
 
 add-k : tie.Need-add-k Inv-loop μ-loop
 add-k c = search needs
@@ -51,10 +65,31 @@ loop-less : tie.Need-loop-less Inv-loop μ-loop
 loop-less c = search needs
 
 loop-again : tie.Need-loop-again Inv-loop μ-loop
-loop-again c = let l = c .before .before .before .before in let a = l .before .before .before .before .before in let s = a .before .args in (omega arith, l .loop .inv .1, ⊎-elim (λ w. compared-other (s .p) (a .number-asked .result) (s .p .numbercount) (s .p .numbers) (s .r .to .address .number) (l .loop .k) (omega arith) (omega arith) (omega arith) (sym (c .before .is-asked .ensures) ∙ w .0 .taken) (sym (w .2 .ensures) ∙ w .3 .left) (l .loop .inv .2)) (λ w. compared-skip (s .p) (a .number-asked .result) (s .p .numbercount) (s .p .numbers) (s .r .to .address .number) (l .loop .k) (omega arith) (omega arith) (omega arith) (sym (c .before .is-asked .ensures) ∙ w .left) (l .loop .inv .2)) (c .if2 .came))
+loop-again c =
+    let l = c .before .before .before .before in
+    let a = l .before .before .before .before .before in
+    let s = a .before .args in (
+      omega arith,
+      l .loop .inv .1,
+      ⊎-elim
+          (λ w.
+          compared-other (s .p) (a .number-asked .result) (s .p .numbercount) (s .p .numbers) (s .r .to .address .number)
+          (l .loop .k) (omega arith) (omega arith) (omega arith) (sym (c .before .is-asked .ensures) ∙ w .0 .taken)
+          (sym (w .2 .ensures) ∙ w .3 .left) (l .loop .inv .2))
+          (λ w.
+          compared-skip (s .p) (a .number-asked .result) (s .p .numbercount) (s .p .numbers) (s .r .to .address .number)
+          (l .loop .k) (omega arith) (omega arith) (omega arith) (sym (c .before .is-asked .ensures) ∙ w .left)
+          (l .loop .inv .2)) (c .if2 .came),
+    )
 
 returns-3 : tie.Need-returns-3 Inv-loop μ-loop
-returns-3 c = let l = c .before in let a = l .before .before .before .before .before in let s = a .before .args in sym (compared-none (s .p) (a .number-asked .result) (s .p .numbercount) (s .p .numbers) (s .r .to .address .number) (l .loop .k) (omega arith) (l .loop .inv .2) (s .r) (a .number-asked .ensures) refl)
+returns-3 c =
+    let l = c .before in
+    let a = l .before .before .before .before .before in
+    let s = a .before .args in
+    sym
+    (compared-none (s .p) (a .number-asked .result) (s .p .numbercount) (s .p .numbers) (s .r .to .address .number)
+    (l .loop .k) (omega arith) (l .loop .inv .2) (s .r) (a .number-asked .ensures) refl)
 
 pub selected-same-spec : {M : Type 1} → statement M
 selected-same-spec =

@@ -6,7 +6,8 @@ use Rattle.exchange.proofs.Arrivals.{done-short, done-long, done-profil
 use Rattle.refusals.specs.declared.refusal.Refusal.the-variants.{ShortOutput, LongComponent, BadProfile, BadTable}
 use Rattle.exchange.proofs.Questions.{question-procedure}
 use Rattle.exchange.proofs.Steps.{step-of}
-use Rattle.exchange.specs.Step.{step, Stepping}
+use Rattle.exchange.specs.Step.{step}
+use Rattle.exchange.specs.inner.Step.{Stepping}
 use Rattle.exchange.specs.Arrive.{outputLeast}
 use Prim.Native.Nat.{_≤_, _<_}
 use lib.ListN.{length}
