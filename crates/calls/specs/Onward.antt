@@ -1,6 +1,5 @@
 -- What a diverted call carries on, by the profile and the call alone (document 01, "Calls"; Q.732.2-5, 2.5.2.5.1.2).
 use Prim.Native.Nat.{ℕ}
-use mathlib.Core.Path.{_≡_}
 use lib.Dec.{ltb, eqb}
 use Rattle.laws.specs.Pick.{pick}
 use Rattle.profile.specs.declared.profile.Profile.{Profile}
@@ -58,21 +57,3 @@ preferenceAfter c = pick (eqb (c .counter) 0) (pick (eqb (c .preference) 1) 0 (c
 -- "original: on the first diversion (counter 0) the served number, presentation likewise; later as received"
 unfoldable pub originalShown : Profile → Call → ℕ
 originalShown p c = pick (eqb (c .counter) 0) (chosen p c .release) (c .presentation)
-
--- ---- what the functions promise
-
--- what `reason_of` promises: the reason by its number
-abbrev pub ReasonOf : ℕ → Reason → Type 0
-ReasonOf event r = reasonNo r ≡ reasonOf event
-
--- what `option_after` promises
-abbrev pub OptionAfter : Profile → Call → ℕ → Type 0
-OptionAfter p c r = r ≡ optionAfter p c
-
--- what `preference_after` promises
-abbrev pub PreferenceAfter : Call → ℕ → Type 0
-PreferenceAfter c r = r ≡ preferenceAfter c
-
--- what `original_shown` promises
-abbrev pub OriginalShown : Profile → Call → ℕ → Type 0
-OriginalShown p c r = r ≡ originalShown p c

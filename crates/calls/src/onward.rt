@@ -3,7 +3,7 @@ use crate::call::BUSY;
 use crate::call::Call;
 use crate::call::OFFERED;
 use profile::Profile;
-ghost use Rattle.calls.specs.Onward.{ReasonOf, OptionAfter, PreferenceAfter, OriginalShown};
+ghost use Rattle.calls.specs.inner.Onward.{ReasonOf, OptionAfter, PreferenceAfter, OriginalShown};
 
 // Why a call is diverted.
 pub enum Reason {

@@ -15,7 +15,7 @@ use Rattle.sheet.specs.declared.read.InstanceRead.{InstanceRead}
 use Rattle.sheet.proofs.Bounds.{Bounded}
 use Rattle.sheet.proofs.Walks.{Left, left-first, left-none, left-bounded, left-others, left-is, left-next}
 use Rattle.listings.specs.Listing.{instanceLine, instanceLines}
-use Rattle.listings.specs.Write.{Counted, linesFound}
+use Rattle.listings.specs.inner.Write.{Counted, linesFound}
 
 -- ---- lines, one after the other
 

@@ -18,7 +18,7 @@ use Rattle.forms.specs.Form.{form1}
 use Rattle.forms.specs.declared.instance.Instance.{Instance}
 use Rattle.sheet.specs.Sheet.{Sheet, instancesFrom, noInstance, sheetIn}
 use Rattle.sheet.specs.Formed.{formedBy, Holds, OpeningOf}
-use Rattle.sheet.specs.Handling.{notWritten}
+use Rattle.sheet.specs.inner.Refused.{notWritten}
 use Rattle.sheet.specs.declared.form.Opening.{Opening}
 use Rattle.sheet.specs.declared.record.Handling.the-variants.{Done}
 use Rattle.sheet.specs.declared.record.Written.{Written}
@@ -28,7 +28,7 @@ use Rattle.sheet.proofs.Counts.{formed-count, formed-few, formed-last, formed-b
 use Rattle.sheet.proofs.SheetTrips.{countOf}
 use Rattle.sheet.proofs.AcceptedSheets.{Allowed, sheet-allowed}
 use Rattle.listings.specs.Listing.{procedureName, lineOf, headerLine, instanceLines, headerMost, linesMost, listing, listingMost, listingIn, listedSheet, ListsSheet, refusedLine, printedAs, printedSheet, PrintsSheet}
-use Rattle.listings.specs.Write.{linesFound}
+use Rattle.listings.specs.inner.Write.{linesFound}
 use Rattle.listings.proofs.Words.{decimal-one}
 use Rattle.listings.proofs.Lines.{header-most}
 use Rattle.listings.proofs.Lengths.{lines-most, more-most}

@@ -15,7 +15,7 @@ ghost use Rattle.forms.specs.Form.{form1};
 ghost use Rattle.sheet.specs.Sheet.{instancesFrom, noInstance};
 ghost use Rattle.sheet.specs.Formed.{Holds};
 ghost use Rattle.listings.specs.Listing.{headerLine, instanceLine};
-ghost use Rattle.listings.specs.Write.{Counted, linesFound};
+ghost use Rattle.listings.specs.inner.Write.{Counted, linesFound};
 
 // The header at the start of the output.
 pub(crate) fn write_header(out: &mut [u8], last: u16, count: u32) -> usize

@@ -16,7 +16,7 @@ ghost use Rattle.laws.specs.Over.{Wrote};
 ghost use Rattle.forms.specs.Form.{form1};
 ghost use Rattle.sheet.specs.Sheet.{sheetIn};
 ghost use Rattle.sheet.specs.Formed.{formedBy};
-ghost use Rattle.sheet.specs.Handling.{notWritten};
+ghost use Rattle.sheet.specs.inner.Refused.{notWritten};
 ghost use Rattle.listings.specs.Listing.{listingMost, listingIn, ListsSheet, PrintsSheet};
 
 // The most octets of a listing: 27 of its header, and at most 8 lines of each procedure, which have 74 for cfu, 74 for cfb and 75 for cfnr.

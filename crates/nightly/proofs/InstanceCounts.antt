@@ -17,7 +17,7 @@ use Rattle.store.specs.declared.grid.Grid.{Grid}
 use Rattle.forms.specs.declared.instance.Instance.{Instance}
 use Rattle.sheet.proofs.SheetTrips.{countOf}
 use Rattle.nightly.specs.Instances.{instancesOf}
-use Rattle.nightly.specs.Write.{placeInstances, rowInstances}
+use Rattle.nightly.specs.inner.Write.{placeInstances, rowInstances}
 use Rattle.nightly.proofs.WrittenTables.{rowOf, rowsTo, rows-all}
 
 count-both : (q : ℕ) (xs ys : List Instance) → countOf q (xs ++ ys) ≡ countOf q xs + countOf q ys

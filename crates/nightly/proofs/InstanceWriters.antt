@@ -22,7 +22,7 @@ use Rattle.forms.specs.declared.form.Form.{Form}
 use Rattle.forms.specs.declared.instance.Instance.{Instance}
 use Rattle.sheet.specs.Instance.{allGroups, addressFields, instanceFields}
 use Rattle.sheet.specs.Sheet.{sheetOctets}
-use Rattle.nightly.specs.Write.{Room, Space, WroteInstances, cellInstances, placeInstances}
+use Rattle.nightly.specs.inner.Write.{Room, Space, WroteInstances, cellInstances, placeInstances}
 use Rattle.sheet.proofs.Sizes.{instance-fields, instances-none, instances-one, instances-both, sheet-octets, InstanceFits, instance-most, head-most}
 use Rattle.nightly.proofs.Writers.{field-room, field-wrote, field-last, gathered-grows}
 

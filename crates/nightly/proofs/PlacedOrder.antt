@@ -29,7 +29,7 @@ use Rattle.sheet.proofs.Trips.{FieldsFit}
 use Rattle.sheet.proofs.SheetTrips.{Ascends, AllFit}
 use Rattle.nightly.specs.Instances.{instancesOf}
 use Rattle.nightly.specs.Record.{allIn, placeOfInstance, placed, allPlaced}
-use Rattle.nightly.specs.Write.{cellInstances, placeInstances}
+use Rattle.nightly.specs.inner.Write.{cellInstances, placeInstances}
 use Rattle.nightly.proofs.InstanceWriters.{place-same}
 use Rattle.nightly.proofs.WrittenTables.{rowOf, rows-all}
 use Rattle.nightly.proofs.PlacedCells.{Fitting, fitting, all-parts, few-services, few-numbers, place-inside, place-number, Shaped, shaped-none, none-active, placed-shaped, cell-here, cell-else}

@@ -21,7 +21,7 @@ use Rattle.forms.specs.declared.instance.Instance.{Instance}
 use Rattle.sheet.specs.Sheet.{instancesFrom, noInstance}
 use Rattle.sheet.specs.Formed.{Holds, InstanceFound}
 use Rattle.nightly.specs.Record.{inProfile, allIn, placed, allPlaced}
-use Rattle.nightly.specs.Reading.{notPlaced, gridRead}
+use Rattle.nightly.specs.inner.Reading.{notPlaced, gridRead}
 use Rattle.sheet.specs.declared.read.InstanceRead.{InstanceRead}
 use Rattle.nightly.specs.declared.table.GridRead.{GridRead}
 use Rattle.sheet.proofs.Bounds.{Bounded}

@@ -40,7 +40,7 @@ use Rattle.sheet.proofs.SheetTrips.{sheet-back}
 use Rattle.nightly.specs.Instances.{instanceOf, instancesOf}
 use Rattle.refusals.specs.Refusal.{tells}
 use Rattle.nightly.specs.Record.{TableRead, placeOfInstance, placed, allPlaced, readSheet}
-use Rattle.nightly.specs.Write.{placeInstances}
+use Rattle.nightly.specs.inner.Write.{placeInstances}
 use Rattle.nightly.proofs.WrittenTables.{rowOf, rows-all}
 use Rattle.nightly.proofs.WrittenInstances.{Arrays, one-place, table-sheeted, table-all}
 use Rattle.nightly.proofs.PlacedCells.{Shaped, shaped-none, none-active, placed-shaped, cell-here, cell-else}

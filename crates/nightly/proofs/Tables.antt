@@ -20,7 +20,7 @@ use Rattle.forms.specs.Form.{form1}
 use Rattle.sheet.specs.Sheet.{Sheet, instancesFrom, noInstance, sheetIn}
 use Rattle.sheet.specs.Formed.{openingIn, openingRead}
 use Rattle.nightly.specs.Record.{allIn, allPlaced, sheetAllowed, tableIn, TableRead, notRead, readSheet, ReadsSheet}
-use Rattle.nightly.specs.Reading.{notPlaced, gridRead, sheetRefused}
+use Rattle.nightly.specs.inner.Reading.{notPlaced, gridRead, sheetRefused}
 use Rattle.sheet.specs.declared.form.Opening.{Opening}
 use Rattle.nightly.specs.declared.table.GridRead.{GridRead}
 use Rattle.sheet.specs.declared.record.Handling.the-variants.{Done}

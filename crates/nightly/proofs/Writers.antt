@@ -19,7 +19,7 @@ use Rattle.numbers.specs.Address.{addressGood}
 use Rattle.numbers.specs.declared.address.Address.{Address}
 use Rattle.numbers.proofs.Goods.{digits-each, good-number, good-address}
 use Rattle.sheet.specs.Instance.{allGroups, addressFields}
-use Rattle.nightly.specs.Write.{Room, above, NoneBelow}
+use Rattle.nightly.specs.inner.Write.{Room, above, NoneBelow}
 use Rattle.sheet.proofs.Sizes.{fields-none, fields-more, fields-both}
 
 -- the first of some fields was written: there is room for the others, and with them all are written

@@ -33,7 +33,7 @@ use Rattle.sheet.proofs.Trips.{FieldsFit, tidyInstance}
 use Rattle.sheet.proofs.SheetTrips.{Ascends, countOf, AllFit, Sheeted}
 use Rattle.nightly.specs.Instances.{instanceOf, instancesOf}
 use Rattle.nightly.specs.Record.{inProfile, allIn, placeOfInstance}
-use Rattle.nightly.specs.Write.{placeInstances}
+use Rattle.nightly.specs.inner.Write.{placeInstances}
 use Rattle.nightly.proofs.WrittenTables.{SubOctets, row-good, rowOf, rows-all}
 use Rattle.nightly.proofs.WrittenOrder.{Ahead, Ascending, instances-ascend}
 use Rattle.nightly.proofs.InstanceCounts.{procedure-count, procedure-none}

@@ -26,7 +26,7 @@ use Rattle.forms.specs.Order.{before}
 use Rattle.forms.specs.declared.instance.Instance.{Instance}
 use Rattle.forms.proofs.Orders.{before-procedure, before-number, before-service}
 use Rattle.nightly.specs.Instances.{instancesOf}
-use Rattle.nightly.specs.Write.{placeInstances, rowInstances}
+use Rattle.nightly.specs.inner.Write.{placeInstances, rowInstances}
 use Rattle.nightly.proofs.WrittenTables.{row-good, rowOf, rows-all}
 
 -- ---- lists that ascend

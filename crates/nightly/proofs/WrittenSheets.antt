@@ -20,10 +20,11 @@ use Rattle.exchange.proofs.Tables.{table-good}
 use Rattle.forms.specs.Form.{form1}
 use Rattle.sheet.specs.Size.{sheetMost}
 use Rattle.sheet.specs.Sheet.{sheetOctets}
-use Rattle.sheet.specs.Handling.{notMade, made, notWritten}
+use Rattle.sheet.specs.Handling.{notMade, made}
+use Rattle.sheet.specs.inner.Refused.{notWritten}
 use Rattle.nightly.specs.Instances.{instancesOf}
 use Rattle.nightly.specs.Record.{wroteSheet, WritesSheet}
-use Rattle.nightly.specs.Write.{Space, GridWritable}
+use Rattle.nightly.specs.inner.Write.{Space, GridWritable}
 use Rattle.sheet.specs.declared.record.Handling.the-variants.{Done}
 use Rattle.sheet.specs.declared.record.Written.{Written}
 use Rattle.nightly.proofs.WrittenTables.{instances-few, grid-writable}

@@ -34,7 +34,7 @@ use Rattle.forms.specs.declared.instance.Instance.{Instance}
 use Rattle.sheet.specs.Size.{sheetMost}
 use Rattle.sheet.specs.Sheet.{sheetOctets}
 use Rattle.nightly.specs.Instances.{instancesOf}
-use Rattle.nightly.specs.Write.{placeInstances, rowInstances, GridWritable}
+use Rattle.nightly.specs.inner.Write.{placeInstances, rowInstances, GridWritable}
 use Rattle.sheet.proofs.Sizes.{AllFit, all-fit-none, all-fit-one, all-fit-both, sheet-most}
 
 -- ---- how many instances there are

@@ -1,4 +1,3 @@
 pub mod Instances
 pub mod Record
-pub mod Reading
-pub mod Write
+pub mod inner

@@ -23,7 +23,7 @@ ghost use Rattle.forms.specs.Form.{form1};
 ghost use Rattle.sheet.specs.Sheet.{instancesFrom, noInstance};
 ghost use Rattle.sheet.specs.Formed.{Holds};
 ghost use Rattle.nightly.specs.Record.{inProfile, placeOfInstance, ReadsSheet};
-ghost use Rattle.nightly.specs.Reading.{gridRead, notPlaced, sheetRefused};
+ghost use Rattle.nightly.specs.inner.Reading.{gridRead, notPlaced, sheetRefused};
 
 // The table that was read; a fresh one where the sheet is refused.
 pub struct SheetRead {

@@ -22,10 +22,10 @@ ghost use Rattle.laws.specs.Over.{Wrote};
 ghost use Rattle.numbers.specs.Number.{most};
 ghost use Rattle.numbers.specs.Address.{addressGood};
 ghost use Rattle.sheet.specs.Instance.{allGroups, addressFields};
-ghost use Rattle.sheet.specs.Handling.{notWritten};
+ghost use Rattle.sheet.specs.inner.Refused.{notWritten};
 ghost use Rattle.nightly.specs.Instances.{instancesOf};
 ghost use Rattle.nightly.specs.Record.{WritesSheet};
-ghost use Rattle.nightly.specs.Write.{Room, above, NoneBelow, Space, WroteInstances, cellInstances, rowInstances, Writable, RowWritable, GridWritable};
+ghost use Rattle.nightly.specs.inner.Write.{Room, above, NoneBelow, Space, WroteInstances, cellInstances, rowInstances, Writable, RowWritable, GridWritable};
 
 // The most octets of an instance, and of a sheet: form, last handled and count are five.
 const INSTANCEMOST: usize = 67;

@@ -6,7 +6,7 @@ use Rattle.laws.specs.Got.{Got, got, wrong}
 use Rattle.requests.specs.Request.{requestRead}
 use Rattle.requests.specs.declared.request.Request.{Request}
 use Rattle.requests.specs.declared.request.RequestRead.{RequestRead}
-use Rattle.sconcetoad.specs.Said.{nothing, asked}
+use Rattle.sconcetoad.specs.Said.{nothingSaid, asked}
 use Rattle.sconcetoad.specs.declared.said.Said.{Said}
 
 -- a request that was read is told
@@ -21,7 +21,7 @@ asked-found identifier operation wrong r e h =
 -- an argument that is wrong is not
 pub asked-none :
     (identifier operation : ℤ) (g : Got Request) (r : RequestRead) → r ≡ requestRead g → r .ok ≡ false →
-    nothing ≡ asked identifier operation g
+    nothingSaid ≡ asked identifier operation g
 asked-none identifier operation (got request next) r e h =
     absurd (false≢true (sym h ∙ ap (λ (x : RequestRead). x .ok) e))
 asked-none identifier operation wrong r e h = refl

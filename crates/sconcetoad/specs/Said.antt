@@ -12,19 +12,19 @@ use Rattle.requests.specs.declared.request.Request.{Request}
 use Rattle.sconcetoad.specs.declared.said.Said.{Said}
 
 -- nothing is asked
-abbrev pub nothing : Said
-nothing = record { asks = 0; identifier = pos 0; operation = pos 0; request = noRequest }
+abbrev pub nothingSaid : Said
+nothingSaid = record { asks = 0; identifier = pos 0; operation = pos 0; request = noRequest }
 
 abbrev pub asked : ℤ → ℤ → Got Request → Said
 asked identifier operation (got request next) = record { asks = 1; identifier = identifier; operation = operation; request = request }
-asked identifier operation wrong = nothing
+asked identifier operation wrong = nothingSaid
 
 abbrev pub saidOf : List ℕ → Heard → Said
-saidOf s NotOne = nothing
-saidOf s Silent = nothing
-saidOf s OtherTag = nothing
-saidOf s NoIdentifier = nothing
-saidOf s (NoOperation identifier) = nothing
+saidOf s NotOne = nothingSaid
+saidOf s Silent = nothingSaid
+saidOf s OtherTag = nothingSaid
+saidOf s NoIdentifier = nothingSaid
+saidOf s (NoOperation identifier) = nothingSaid
 saidOf s (Asks identifier operation at end) = asked identifier (operation .value) (argumentAt operation s at end)
 
 -- what `sconcetoad_said` promises

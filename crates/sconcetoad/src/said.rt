@@ -10,7 +10,7 @@ use requests::hear;
 ghost use mathlib.Core.Path.{_≡_};
 ghost use mathlib.Core.List.{[]};
 ghost use Rattle.numbers.specs.Number.{numberOf};
-ghost use Rattle.sconcetoad.specs.Said.{nothing, SaidBy};
+ghost use Rattle.sconcetoad.specs.Said.{nothingSaid, SaidBy};
 
 // What a component asks for: `asks` is 1 where it is a request that can be read, and then the rest is that request.
 #[repr(C)]
@@ -33,7 +33,7 @@ fn blank() -> Number
 }
 
 fn nothing_said() -> Said
-    ensures { λ r. ⌜ r ≡ nothing ⌝ }
+    ensures { λ r. ⌜ r ≡ nothingSaid ⌝ }
 {
     let own = blank();
     let number = blank();

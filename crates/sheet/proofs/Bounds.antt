@@ -10,7 +10,7 @@ use borrow.Author.Tests.{eqb-true, leb-true}
 use Rattle.laws.specs.Pick.{pick}
 use Rattle.laws.proofs.Gots.{Something, found-then, found-is}
 use Rattle.laws.specs.Tests.{all}
-use Rattle.laws.proofs.Picks.{pick-ind, pick-then, pick-else, pick-last}
+use Rattle.laws.proofs.Picks.{pick-ind, pick-then, pick-last}
 use Rattle.codes.specs.Codes.{serviceCode}
 use Rattle.numbers.specs.Number.{unknown, most, fair}
 use Rattle.numbers.specs.declared.address.Address.{Address}
@@ -22,7 +22,7 @@ use Rattle.forms.specs.declared.form.Form.{Form}
 use Rattle.forms.specs.declared.instance.Instance.{Instance}
 use Rattle.sheet.specs.Instance.{fieldAt, fieldsAt, kindGood, addressFrom, serviceOf, instanceFrom}
 use Rattle.sheet.specs.Sheet.{runOf, instancesFrom}
-use Rattle.sheet.specs.Reading.{fieldBelow}
+use Rattle.sheet.specs.inner.Reading.{fieldBelow}
 use Rattle.sheet.proofs.Fields.{Passing, field-passes, below-small, fields-passing}
 
 pub record AddressBounded (a : Address) : Type 0 where

@@ -18,7 +18,7 @@ use Rattle.groups.specs.declared.groups.Groups.{Groups}
 use Rattle.groups.specs.declared.groups.Groups.the-variants as groups
 use Rattle.numbers.specs.Number.{most, padded}
 use Rattle.sheet.specs.Instance.{fieldOf, fieldAt, fieldsAt}
-use Rattle.sheet.specs.Reading.{anyField, fieldBelow, fieldsBelow, fieldRead, fieldsRead}
+use Rattle.sheet.specs.inner.Reading.{anyField, fieldBelow, fieldsBelow, fieldRead, fieldsRead}
 use Rattle.sheet.specs.declared.field.FieldRead.{FieldRead}
 use Rattle.sheet.specs.declared.field.FieldsRead.{FieldsRead}
 

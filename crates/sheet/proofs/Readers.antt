@@ -12,7 +12,7 @@ use Rattle.laws.specs.Pick.{pick}
 use Rattle.laws.specs.Tests.{all}
 use Rattle.laws.specs.Got.{Got, got, wrong, andThen}
 use Rattle.laws.proofs.Gots.{found-is}
-use Rattle.laws.proofs.Picks.{pick-ind, pick-then, pick-else}
+use Rattle.laws.proofs.Picks.{pick-ind, pick-then}
 use Rattle.codes.specs.Codes.{serviceCode}
 use Rattle.numbers.specs.Number.{most, unknown, padded, fair, digitsOf, numberGood, numberOf}
 use Rattle.codes.specs.Digits.{typeGood, allDigits}
@@ -25,7 +25,7 @@ use Rattle.numbers.proofs.Readers.{record-good}
 use Rattle.forms.specs.declared.instance.Instance.{Instance}
 use Rattle.sheet.specs.Instance.{fieldAt, fieldsAt, kindGood, addressFrom, serviceOf}
 use Rattle.sheet.specs.Formed.{instanceRead}
-use Rattle.sheet.specs.Reading.{fieldBelow, fieldsBelow, numberFromFields, forwardedRead}
+use Rattle.sheet.specs.inner.Reading.{fieldBelow, fieldsBelow, numberFromFields, forwardedRead}
 use Rattle.sheet.specs.declared.field.FieldsRead.{FieldsRead}
 use Rattle.sheet.specs.declared.read.ForwardedRead.{ForwardedRead}
 use Rattle.sheet.specs.declared.read.InstanceRead.{InstanceRead}

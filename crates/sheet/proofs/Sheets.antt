@@ -20,7 +20,7 @@ use Rattle.forms.proofs.Orders.{follows-few}
 use Rattle.sheet.specs.Instance.{fieldAt, instanceFrom}
 use Rattle.sheet.specs.Sheet.{Sheet, runOf, instancesFrom, noInstance, sheetIn}
 use Rattle.sheet.specs.Formed.{formedBy, Opened, openingIn, openingRead}
-use Rattle.sheet.specs.Reading.{anyField, fieldBelow, passedRead}
+use Rattle.sheet.specs.inner.Reading.{anyField, fieldBelow, passedRead}
 use Rattle.sheet.specs.declared.form.Opening.{Opening}
 use Rattle.sheet.specs.declared.form.Passed.{Passed}
 use Rattle.sheet.specs.declared.form.SheetForm.{SheetForm}

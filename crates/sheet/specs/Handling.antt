@@ -5,7 +5,6 @@ use Rattle.refusals.specs.Refusal.{refusalNo, Told, refuses, tells}
 use Rattle.refusals.specs.declared.refusal.Refusal.{Refusal}
 use Rattle.sheet.specs.declared.record.Handling.{Handling}
 use Rattle.sheet.specs.declared.record.Handling.the-variants.{Refuses, Done}
-use Rattle.sheet.specs.declared.record.Written.{Written}
 
 -- what is told: the refusal, or that it is done
 abbrev pub handlingTold : Handling → Told (Unit {0})
@@ -23,7 +22,3 @@ notMade refusal = record { told = refuses (refusalNo refusal); octets = [] }
 
 abbrev pub made : List ℕ → Made
 made octets = record { told = tells tt; octets = octets }
-
--- what is answered where nothing is written
-abbrev pub notWritten : Refusal → Written
-notWritten refusal = record { outcome = Refuses refusal; count = 0 }

@@ -3,4 +3,4 @@ pub mod Instance
 pub mod Sheet
 pub mod Formed
 pub mod Handling
-pub mod Reading
+pub mod inner

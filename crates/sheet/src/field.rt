@@ -5,7 +5,7 @@ ghost use mathlib.Core.Path.{_≡_};
 ghost use Prim.Native.Nat.{_+_, _≤_};
 ghost use Rattle.laws.specs.Got.{wrong};
 ghost use Rattle.numbers.specs.Number.{most};
-ghost use Rattle.sheet.specs.Reading.{anyField, fieldBelow, fieldsBelow, fieldRead, fieldsRead};
+ghost use Rattle.sheet.specs.inner.Reading.{anyField, fieldBelow, fieldsBelow, fieldRead, fieldsRead};
 
 // A field, and the place after it; or `ok` is false.
 pub(crate) struct FieldRead {

@@ -11,7 +11,7 @@ ghost use Prim.Native.Nat.{_≤_};
 ghost use Rattle.laws.specs.Got.{wrong};
 ghost use Rattle.sheet.specs.Sheet.{runOf, instancesFrom, noInstance};
 ghost use Rattle.sheet.specs.Formed.{formedBy, SheetFormed, openingRead, OpeningOf};
-ghost use Rattle.sheet.specs.Reading.{passedRead};
+ghost use Rattle.sheet.specs.inner.Reading.{passedRead};
 
 // The last handled identifier and how many instances there are; or `ok` is false, and both are 0.
 pub struct SheetForm {

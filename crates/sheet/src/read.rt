@@ -16,7 +16,7 @@ ghost use Rattle.numbers.specs.Number.{numberRead};
 ghost use Rattle.sheet.specs.Instance.{fieldAt, serviceOf, addressFrom};
 ghost use Rattle.sheet.specs.Sheet.{noInstance};
 ghost use Rattle.sheet.specs.Formed.{instanceRead, InstanceFound};
-ghost use Rattle.sheet.specs.Reading.{numberFromFields, noAddress, fieldRead, forwardedRead};
+ghost use Rattle.sheet.specs.inner.Reading.{numberFromFields, noAddress, fieldRead, forwardedRead};
 
 // The bounds of the fields of every form: forms of a number unknown and public, octets.
 const FORMS: u32 = 2;

@@ -1,6 +1,6 @@
 use Rattle.nightly.proofs.InstanceWriters.{places-first, places-space, places-next}
 use Rattle.nightly.proofs.WrittenTables.{rowsTo, rowOf, rows-all}
-use Rattle.nightly.specs.Write.{WroteInstances}
+use Rattle.nightly.specs.inner.Write.{WroteInstances}
 use Rattle.store.specs.Grid.{procedures}
 use lib.ListN.{length}
 use native.Mathlib.Omega.{arith}

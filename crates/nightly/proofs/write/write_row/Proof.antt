@@ -1,5 +1,5 @@
 use Rattle.nightly.proofs.InstanceWriters.{places-first, places-space, places-next, place-same}
-use Rattle.nightly.specs.Write.{WroteInstances, placeInstances}
+use Rattle.nightly.specs.inner.Write.{WroteInstances, placeInstances}
 use Rattle.store.specs.Row.{places}
 use Rattle.laws.specs.Places.{gathered}
 use lib.ListN.{length}

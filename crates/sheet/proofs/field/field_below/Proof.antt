@@ -1,5 +1,5 @@
 use mathlib.Core.Path.{sym, ap, _∙_}
-use Rattle.sheet.specs.Reading.{anyField, fieldRead}
+use Rattle.sheet.specs.inner.Reading.{anyField, fieldRead}
 use Rattle.sheet.proofs.Fields.{field-found, field-none, below-is, below-not, below-none}
 use borrow.Author.Tests.{not-true, not-false}
 use borrow.Author.Needs.{needs}

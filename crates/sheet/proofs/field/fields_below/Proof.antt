@@ -1,5 +1,5 @@
 use Rattle.sheet.proofs.Fields.{Come, come-first, come-wrong, come-next, come-all, field-found, field-none, below-small}
-use Rattle.sheet.specs.Reading.{fieldBelow}
+use Rattle.sheet.specs.inner.Reading.{fieldBelow}
 use borrow.Author.Tests.{not-true, not-false}
 use borrow.Author.Needs.{needs}
 use native.Mathlib.Omega.{arith}

@@ -1,6 +1,6 @@
 use Rattle.sheet.proofs.Fields.{field-found, field-none, below-small}
 use Rattle.sheet.proofs.Sheets.{opening-no-form, opening-other, opening-no-last, opening-no-count, opening-is}
-use Rattle.sheet.specs.Reading.{anyField, fieldBelow}
+use Rattle.sheet.specs.inner.Reading.{anyField, fieldBelow}
 use borrow.Author.Tests.{not-true, not-false}
 use Prim.Native.Nat.{_+_, _<_}
 use native.Mathlib.Omega.{arith}

@@ -1,6 +1,6 @@
 use Rattle.sheet.proofs.Fields.{field-found, field-none, below-small, fields-found, fields-none}
 use Rattle.sheet.proofs.Readers.{address-no-number, address-no-count, address-no-octets, address-found}
-use Rattle.sheet.specs.Reading.{fieldBelow, fieldsBelow, numberFromFields}
+use Rattle.sheet.specs.inner.Reading.{fieldBelow, fieldsBelow, numberFromFields}
 use Rattle.numbers.proofs.Readers.{number-found, number-none}
 use borrow.Author.Tests.{not-true, not-false}
 use native.Mathlib.Omega.{arith}

@@ -1,7 +1,7 @@
 use Rattle.sheet.proofs.Fields.{field-found, field-none, below-small}
 use Rattle.sheet.proofs.Readers.{forwarded-found, forwarded-none, service-octet}
 use Rattle.sheet.specs.Instance.{fieldAt, serviceOf, addressFrom, instanceFrom}
-use Rattle.sheet.specs.Reading.{fieldBelow}
+use Rattle.sheet.specs.inner.Reading.{fieldBelow}
 use borrow.Author.Tests.{not-true, not-false}
 use Prim.Native.Nat.{_<_}
 use native.Mathlib.Omega.{arith}

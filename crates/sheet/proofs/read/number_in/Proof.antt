@@ -1,6 +1,6 @@
 use Rattle.sheet.proofs.Fields.{field-found, field-none, below-small, fields-found, fields-none}
 use Rattle.sheet.proofs.Readers.{number-no-form, number-no-kind, number-no-count, number-no-digits, number-refused, number-found}
-use Rattle.sheet.specs.Reading.{fieldBelow, fieldsBelow}
+use Rattle.sheet.specs.inner.Reading.{fieldBelow, fieldsBelow}
 use borrow.Author.Tests.{not-true, not-false}
 use native.Mathlib.Omega.{arith}
 use mathlib.Core.Path.{sym, _∙_}

@@ -1,6 +1,6 @@
 use Rattle.sheet.proofs.Fields.{field-found, field-none, below-small}
 use Rattle.sheet.proofs.Readers.{service-none, service-all, service-other, service-found}
-use Rattle.sheet.specs.Reading.{fieldBelow, fieldRead}
+use Rattle.sheet.specs.inner.Reading.{fieldBelow, fieldRead}
 use borrow.Author.Tests.{not-true, not-false}
 use native.Mathlib.Omega.{arith}
 use mathlib.Core.Path.{sym, ap, _∙_}
