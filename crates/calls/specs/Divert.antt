@@ -4,7 +4,7 @@ use mathlib.Core.Path.{_≡_}
 use mathlib.Core.Bool.{not}
 use mathlib.Core.List.{List, [], _∷_}
 use mathlib.Core.Option.{Option, none, some}
-use lib.ListN.{getD, replicate}
+use lib.ListN.{getD}
 use lib.Dec.{ltb, leb, eqb}
 use Rattle.laws.specs.Pick.{pick}
 use Rattle.laws.specs.Tests.{any, test, first}
@@ -12,7 +12,8 @@ use Rattle.refusals.specs.Refusal.{refusalNo, Told, refuses, tells}
 use Rattle.refusals.specs.declared.refusal.Refusal.{Refusal}
 use Rattle.refusals.specs.declared.refusal.Refusal.the-variants.{BadProfile, BadTable, BadCall, LimitReached}
 use Rattle.codes.specs.Codes.{placeOf}
-use Rattle.numbers.specs.Number.{numberOf}
+use Rattle.numbers.specs.Number.{blankNumber}
+use Rattle.numbers.specs.Address.{blankAddress}
 use Rattle.numbers.specs.declared.number.Number.{Number}
 use Rattle.numbers.specs.declared.address.Address.{Address}
 use Rattle.profile.specs.Access.{accessRead}
@@ -86,7 +87,7 @@ servedOf p c = getD (p .numbers) (c .number) noNumber
 
 -- "The caller's notice: .. with forwarded-to number at 2", and no number else
 unfoldable pub noticed : ℕ → Address → Number
-noticed option called = pick (eqb option 2) (called .number) (numberOf 0 0 [])
+noticed option called = pick (eqb option 2) (called .number) blankNumber
 
 -- "counter one more"; "called number: the forwarded-to address; redirecting number: the served number, presentation allowed only if
 -- released"
@@ -112,13 +113,13 @@ pub record Comes : Type 0 where
 unfoldable pub noOnward : Onward
 noOnward = record {
   counter = 0;
-  called = record { number = numberOf 0 0 []; subcount = 0; sub = replicate 20 0 };
-  redirecting = numberOf 0 0 [];
+  called = blankAddress;
+  redirecting = blankNumber;
   redirectingshown = 0;
   originalshown = 0;
   preference = 0;
   option = 0;
-  noticed = numberOf 0 0 [];
+  noticed = blankNumber;
 }
 
 abbrev pub noneGoes : Told Course → Comes

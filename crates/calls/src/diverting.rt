@@ -12,6 +12,8 @@ use crate::onward::reason_of;
 use exchange::Table;
 use numbers::Address;
 use numbers::Number;
+use numbers::blank_address;
+use numbers::blank_number;
 use profile::Profile;
 use profile::SERVICES;
 use profile::read_access;
@@ -59,31 +61,17 @@ pub struct Diversion {
     pub call: Onward,
 }
 
-fn no_number() -> Number
-    ensures { λ r. ⌜ r ≡ numberOf 0 0 [] ⌝ }
-{
-    Number {
-        form: 0,
-        kind: 0,
-        count: 0,
-        digits: [0; 20],
-    }
-}
-
 // No call goes on.
 fn stays_here(outcome: Coming) -> Diversion
     ensures { λ d. ⌜ Becomes (noneGoes (comingTold outcome)) d ⌝ }
 {
-    let none = no_number();
+    let none = blank_number();
+    let called = blank_address();
     Diversion {
         outcome,
         call: Onward {
             counter: 0,
-            called: Address {
-                number: none,
-                subcount: 0,
-                sub: [0; 20],
-            },
+            called,
             redirecting: none,
             redirectingshown: 0,
             originalshown: 0,
@@ -134,7 +122,7 @@ fn noticed_of(option: u8, called: Address) -> Number
         let number = called.number;
         return number;
     }
-    no_number()
+    blank_number()
 }
 
 // The call goes on to the address of its instance.

@@ -9,7 +9,7 @@ use lib.Dec.{eqb}
 use Rattle.laws.specs.Pick.{pick}
 use Rattle.laws.specs.Tests.{all}
 use Rattle.laws.specs.Places.{eachFrom}
-use Rattle.numbers.specs.Number.{most, numberOf}
+use Rattle.numbers.specs.Number.{most, blankNumber}
 use Rattle.numbers.specs.declared.number.Number.{Number}
 use Rattle.profile.specs.Profile.{numbersMost, servicesMost, prefixesMost, profileGood}
 use Rattle.profile.specs.declared.profile.Prefix.{Prefix}
@@ -79,7 +79,7 @@ profileFrom s = record {
 abbrev pub noProfile : Profile
 noProfile = record {
   numbercount = 0;
-  numbers = replicate numbersMost (numberOf 0 0 []);
+  numbers = replicate numbersMost blankNumber;
   servicecount = 0;
   services = replicate servicesMost 0;
   subscribed = replicate 3 0;

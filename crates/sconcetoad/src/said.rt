@@ -1,15 +1,10 @@
 // What a component asks for, as C is told.
-use numbers::Address;
-use numbers::Forwarded;
-use numbers::Number;
 use requests::Heard;
 use requests::Request;
-use requests::Served;
 use requests::argument_at;
+use requests::blank_request;
 use requests::hear;
 ghost use mathlib.Core.Path.{_≡_};
-ghost use mathlib.Core.List.{[]};
-ghost use Rattle.numbers.specs.Number.{numberOf};
 ghost use Rattle.sconcetoad.specs.Said.{nothingSaid, SaidBy};
 
 // What a component asks for: `asks` is 1 where it is a request that can be read, and then the rest is that request.
@@ -21,42 +16,15 @@ pub struct Said {
     pub request: Request,
 }
 
-fn blank() -> Number
-    ensures { λ r. ⌜ r ≡ numberOf 0 0 [] ⌝ }
-{
-    Number {
-        form: 0,
-        kind: 0,
-        count: 0,
-        digits: [0; 20],
-    }
-}
-
 fn nothing_said() -> Said
     ensures { λ r. ⌜ r ≡ nothingSaid ⌝ }
 {
-    let own = blank();
-    let number = blank();
+    let request = blank_request();
     Said {
         asks: 0,
         identifier: 0,
         operation: 0,
-        request: Request {
-            procedure: 0,
-            service: 0,
-            served: Served {
-                all: 0,
-                number: own,
-            },
-            to: Forwarded {
-                address: Address {
-                    number,
-                    subcount: 0,
-                    sub: [0; 20],
-                },
-                user: 0,
-            },
-        },
+        request,
     }
 }
 

@@ -9,6 +9,7 @@ use forms::Instance;
 use numbers::Address;
 use numbers::Number;
 use numbers::NumberRead;
+use numbers::blank_number;
 use numbers::number_good;
 ghost use mathlib.Core.Path.{_≡_};
 ghost use Rattle.laws.specs.Got.{wrong};
@@ -45,21 +46,10 @@ pub struct InstanceRead {
     pub next: usize,
 }
 
-fn blank() -> Number
-    ensures { λ r. ⌜ r ≡ noAddress .number ⌝ }
-{
-    Number {
-        form: 0,
-        kind: 0,
-        count: 0,
-        digits: [0; 20],
-    }
-}
-
 fn no_number() -> NumberRead
     ensures { λ r. ⌜ r ≡ numberRead wrong ⌝ }
 {
-    let number = blank();
+    let number = blank_number();
     NumberRead {
         ok: false,
         number,
@@ -107,7 +97,7 @@ fn number_in(s: &[u8], at: usize) -> NumberRead
 fn no_address() -> Address
     ensures { λ r. ⌜ r ≡ noAddress ⌝ }
 {
-    let number = blank();
+    let number = blank_number();
     Address {
         number,
         subcount: 0,

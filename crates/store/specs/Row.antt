@@ -10,8 +10,7 @@ use lib.Dec.{ltb, leb, eqb}
 use Rattle.laws.specs.Pick.{pick}
 use Rattle.laws.specs.Tests.{all, any}
 use Rattle.laws.specs.Places.{everyTo, countTo, changedFrom, gathered}
-use Rattle.numbers.specs.Number.{numberOf}
-use Rattle.numbers.specs.Address.{tidyAddress, subOf, forwardedOf, addressGood}
+use Rattle.numbers.specs.Address.{tidyAddress, addressGood, blankAddress}
 use Rattle.numbers.specs.declared.address.Address.{Address}
 use Rattle.profile.specs.Profile.{numbersMost, servicesMost}
 use Rattle.profile.specs.declared.profile.Profile.{Profile}
@@ -39,7 +38,7 @@ abbrev pub cellOf : ℕ → Address → Cell
 cellOf code address = record { service = code; address = address }
 
 abbrev pub noCell : Cell
-noCell = cellOf 0 (forwardedOf (numberOf 0 0 []) (subOf []) .address)
+noCell = cellOf 0 blankAddress
 
 -- the cell of a place, and what stands for one past the array
 abbrev pub outside : Cell

@@ -8,12 +8,12 @@ returns : tie.Need-returns
 unfolding noticed
 returns c = rw (eq-eqb _ _ (c .before .if1 .taken))
 
-no-number-requires : tie.Need-no-number-requires
-no-number-requires c κs = search needs
+blank-number-requires : tie.Need-blank-number-requires
+blank-number-requires c κs = search needs
 
 returns-2 : tie.Need-returns-2
 unfolding noticed
-returns-2 c = rw (ne-eqb _ _ (c .before .if1 .left)) (c .no-number .ensures)
+returns-2 c = rw (ne-eqb _ _ (c .before .if1 .left)) (c .blank-number .ensures)
 
 pub noticed-of-spec : {M : Type 1} → statement M
-noticed-of-spec = tie.close (tie.spec returns no-number-requires returns-2)
+noticed-of-spec = tie.close (tie.spec returns blank-number-requires returns-2)
