@@ -26,7 +26,8 @@ use Rattle.numbers.specs.declared.number.Number.{Number}
 use Rattle.numbers.specs.declared.address.Forwarded.{Forwarded}
 use Rattle.numbers.proofs.Trips.{NotNull, number-not-null, number-back, address-back}
 use Rattle.requests.specs.Heard.{argumentDepth, insideDepth, local}
-use Rattle.requests.specs.Request.{activation, deactivation, interrogation, codeAt, serviceAt, individual, allNumbers, servedIn, servedAt, privateAt, privates, noForwarded, requestOf, lastIn, activationIn, deactivationIn, interrogationIn, contentsIn, argumentAt}
+use Rattle.requests.specs.Request.{activation, deactivation, interrogation, codeAt, serviceAt, individual, allNumbers, servedIn, servedAt}
+use Rattle.requests.specs.Request.{privateAt, privates, noForwarded, requestOf, lastIn, activationIn, deactivationIn, interrogationIn, contentsIn, argumentAt}
 use Rattle.requests.specs.Sent.{servedGood, sendable, servedOctets, toOctets, contentsOctets, tidyServed, tidyRequest}
 use Rattle.requests.specs.declared.request.Served.{Served}
 use Rattle.requests.specs.declared.request.Request.{Request}

@@ -21,7 +21,8 @@ use Rattle.numbers.proofs.Goods.{ToUnless, address-read}
 use Rattle.codes.proofs.Tables.{procedure-code, service-all}
 use Rattle.requests.specs.Part.{lastAt, tagIs}
 use Rattle.requests.specs.Heard.{argumentDepth, insideDepth}
-use Rattle.requests.specs.Request.{activation, deactivation, interrogation, codeAt, serviceAt, servedAt, noForwarded, privates, lastIn, activationIn, deactivationIn, interrogationIn, contentsIn, argumentIn, localAt, argumentAt}
+use Rattle.requests.specs.Request.{activation, deactivation, interrogation, codeAt, serviceAt, servedAt, noForwarded, privates}
+use Rattle.requests.specs.Request.{lastIn, activationIn, deactivationIn, interrogationIn, contentsIn, argumentIn, localAt, argumentAt}
 use Rattle.requests.specs.declared.heard.Operation.{Operation}
 use Rattle.requests.specs.declared.request.Request.{Request}
 

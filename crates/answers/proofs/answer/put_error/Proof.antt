@@ -94,20 +94,24 @@ same-length : tie.Need-same-length
 same-length c = search needs
 
 returns-2 : tie.Need-returns-2
-returns-2 c = let a = c .before .before .before .before .before .before .before .before .before .before .before .before .before .before .before .before .args in
+returns-2 c =
+    let back = c .before .before .before .before .before .before .before .before .before .before .before .before in
+    let a = back .before .before .before .before .args in
     let id = a .identifier in
     let own = identOctets id in
     let error = identOctets (pos (a .value)) in
-    let same = toZ-ofZ (c .before .before .before .before .before .before .before .before .before .before .before .before .before .before .before .before .fits .identifier) in
-    let value = toZ-pos w16 {n = a .value} (omega (arith, c .before .before .before .before .before .before .before .before .before .before .before .before .before .before .before .before .fits .value)) in
-    let few = ident-most id (c .before .before .before .before .before .before .before .before .before .before .before .before .before .before .before .before .fits .identifier .sfits) in
-    let few2 = ident-most (pos (a .value)) (omega (arith, c .before .before .before .before .before .before .before .before .before .before .before .before .before .before .before .before .fits .value)) in
-    let size = rw same at (c .before .before .before .before .before .before .before .before .before .before .before .before .before .before .ident-size .ensures) in
-    let size2 = rw value at (c .before .before .before .before .before .before .before .before .before .before .before .before .before .ident-size2 .ensures) in
-    let inside : c .before .before .before .before .before .before .before .before .before .before .before .before .before .before .ident-size .result + c .before .before .before .before .before .before .before .before .before .before .before .before .before .ident-size2 .result ≡ length (own ++ error) = omega (arith, length-append own error, size, size2) in
+    let same = toZ-ofZ (back .before .before .before .before .fits .identifier) in
+    let value = toZ-pos w16 {n = a .value} (omega (arith, back .before .before .before .before .fits .value)) in
+    let few = ident-most id (back .before .before .before .before .fits .identifier .sfits) in
+    let few2 = ident-most (pos (a .value)) (omega (arith, back .before .before .before .before .fits .value)) in
+    let size = rw same at (back .before .before .ident-size .ensures) in
+    let size2 = rw value at (back .before .ident-size2 .ensures) in
+    let inside : back .before .before .ident-size .result + back .before .ident-size2 .result ≡ length (own ++ error) = omega (arith, length-append own error, size, size2) in
     let long = length-small 0xA3 (own ++ error) (omega (arith, inside, size, size2, few, few2)) in
-    let fits : 0 + length (element 0xA3 (own ++ error)) ≤ length (a .out .now) = omega (arith, inside, long, c .before .before .before .before .before .before .before .before .before .before .before .before .if1 .left) in
-    puts-all fits (headed fits inside (c .before .before .before .before .before .before .before .before .before .before .put-head .ensures) (λ h. puts-then h (rw same at (c .before .before .before .before .before .before .put-ident .ensures)) (λ k. wrote k (rw value at (c .before .before .put-ident2 .ensures)))))
+    let fits : 0 + length (element 0xA3 (own ++ error)) ≤ length (a .out .now) = omega (arith, inside, long, back .if1 .left) in
+    puts-all fits (headed fits inside (c .before .before .before .before .before .before .before .before .before .before .put-head .ensures)
+    (λ h. puts-then h (rw same at (c .before .before .before .before .before .before .put-ident .ensures))
+    (λ k. wrote k (rw value at (c .before .before .put-ident2 .ensures)))))
 
 pub put-error-spec : {M : Type 1} → statement M
 put-error-spec =

@@ -54,9 +54,11 @@ write-problem-requires c κs = let a = c .before .before .before .before .before
     let problem = problemOctets (a .problem) in
     let three = length-small (problemNo (a .problem)) (problemValue (a .problem) ∷ []) (omega arith) in
     let size = c .before .before .before .before .before .before .before .before .before .before .whose-size .ensures in
-    let inside : c .before .before .before .before .before .before .before .before .before .before .whose-size .result + 3 ≡ length (whose ++ problem) = omega (arith, length-append whose problem, size .0, three) in
+    let inside : c .before .before .before .before .before .before .before .before .before .before .whose-size .result + 3 ≡ length (whose ++ problem) =
+    omega (arith, length-append whose problem, size .0, three) in
     let long = length-small 0xA4 (whose ++ problem) (omega (arith, inside, size .1)) in
-    let fits : 0 + length (element 0xA4 (whose ++ problem)) ≤ length (a .out .now) = omega (arith, inside, long, c .before .before .before .before .before .before .before .before .before .if1 .left) in
+    let fits : 0 + length (element 0xA4 (whose ++ problem)) ≤ length (a .out .now) =
+    omega (arith, inside, long, c .before .before .before .before .before .before .before .before .before .if1 .left) in
     room-then problem (room-headed (whose ++ problem) fits inside (c .before .before .before .before .before .before .before .put-head .ensures)) (c .before .before .before .write-whose .ensures)
 
 same-length : tie.Need-same-length
@@ -68,10 +70,13 @@ returns-2 c = let a = c .before .before .before .before .before .before .before 
     let problem = problemOctets (a .problem) in
     let three = length-small (problemNo (a .problem)) (problemValue (a .problem) ∷ []) (omega arith) in
     let size = c .before .before .before .before .before .before .before .before .before .before .before .before .before .whose-size .ensures in
-    let inside : c .before .before .before .before .before .before .before .before .before .before .before .before .before .whose-size .result + 3 ≡ length (whose ++ problem) = omega (arith, length-append whose problem, size .0, three) in
+    let inside : c .before .before .before .before .before .before .before .before .before .before .before .before .before .whose-size .result + 3 ≡ length (whose ++ problem) =
+    omega (arith, length-append whose problem, size .0, three) in
     let long = length-small 0xA4 (whose ++ problem) (omega (arith, inside, size .1)) in
-    let fits : 0 + length (element 0xA4 (whose ++ problem)) ≤ length (a .out .now) = omega (arith, inside, long, c .before .before .before .before .before .before .before .before .before .before .before .before .if1 .left) in
-    puts-all fits (headed fits inside (c .before .before .before .before .before .before .before .before .before .before .put-head .ensures) (λ h. then (c .before .before .before .before .before .before .write-whose .ensures) (c .before .before .write-problem .ensures)))
+    let fits : 0 + length (element 0xA4 (whose ++ problem)) ≤ length (a .out .now) =
+    omega (arith, inside, long, c .before .before .before .before .before .before .before .before .before .before .before .before .if1 .left) in
+    puts-all fits (headed fits inside (c .before .before .before .before .before .before .before .before .before .before .put-head .ensures)
+    (λ h. then (c .before .before .before .before .before .before .write-whose .ensures) (c .before .before .write-problem .ensures)))
 
 pub put-reject-spec : {M : Type 1} → statement M
 put-reject-spec =

@@ -17,7 +17,9 @@ returns c = let found = sym (c .before .before .before .before .head-at .ensures
 
 returns-2 : tie.Need-returns-2
 unfolding listAt
-returns-2 c = let found = sym (c .before .before .before .before .before .head-at .ensures) ∙ c .before .before .before .tag .given .1 in rw (found, eq-eqb _ _ (c .before .if1 .left), ne-eqb _ _ (c .if2 .taken))
+returns-2 c =
+    let found = sym (c .before .before .before .before .before .head-at .ensures) ∙ c .before .before .before .tag .given .1 in
+    rw (found, eq-eqb _ _ (c .before .if1 .left), ne-eqb _ _ (c .if2 .taken))
 
 sequence-at-requires : tie.Need-sequence-at-requires
 sequence-at-requires c κs = search needs
@@ -27,7 +29,9 @@ enum-told c = search needs
 
 returns-3 : tie.Need-returns-3
 unfolding listAt
-returns-3 c = let found = sym (c .before .before .before .before .before .before .head-at .ensures) ∙ c .before .before .before .before .tag .given .1 in rw (found, eq-eqb _ _ (c .before .before .if1 .left), eq-eqb _ _ (c .before .if2 .left)) (c .sequence-at .ensures)
+returns-3 c =
+    let found = sym (c .before .before .before .before .before .before .head-at .ensures) ∙ c .before .before .before .before .tag .given .1 in
+    rw (found, eq-eqb _ _ (c .before .before .if1 .left), eq-eqb _ _ (c .before .if2 .left)) (c .sequence-at .ensures)
 
 returns-4 : tie.Need-returns-4
 unfolding listAt

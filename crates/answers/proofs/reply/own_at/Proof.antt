@@ -23,7 +23,11 @@ returns : tie.Need-returns
 unfolding ownAt
 returns c = let id : SFits w16 (c .before .before .before .before .value .given .0 .0) = search needs in
     let found = sym (c .before .before .before .before .before .before .ident-at .ensures) ∙ c .before .before .before .before .value .given .1 in
-    let same = sym (rw (toZ-ofZ id, toZ-ofZ (c .before .before .before .before .before .before .before .before .fits .identifier)) at (c .before .before .same-ident .ensures)) ∙ c .before .if1 .taken in
+    let same = sym (rw (
+      toZ-ofZ id,
+      toZ-ofZ (c .before .before .before .before .before .before .before .before .fits .identifier),
+    ) at (c .before .before .same-ident .ensures))
+    ∙ c .before .if1 .taken in
     rw (found, same) (c .said-at .ensures)
 
 enum-told : tie.Need-enum-told

@@ -38,7 +38,8 @@ returns-3 : tie.Need-returns-3
 unfolding reply
 returns-3 c =
     let found = sym (c .before .before .before .before .before .before .before .head-at .ensures) ∙ c .before .before .before .before .before .tag .given .1 in
-    replies (rw (found, eq-eqb _ _ (c .before .before .before .if1 .left), sym (c .before .before .reply-tag .ensures) ∙ not-false _ (c .before .if2 .left)) (rw (toZ-ofZ (c .before .before .before .before .before .before .before .before .before .fits .identifier)) at (c .own-at .ensures)))
+    replies (rw (found, eq-eqb _ _ (c .before .before .before .if1 .left), sym (c .before .before .reply-tag .ensures) ∙ not-false _ (c .before .if2 .left))
+    (rw (toZ-ofZ (c .before .before .before .before .before .before .before .before .before .fits .identifier)) at (c .own-at .ensures)))
 
 returns-4 : tie.Need-returns-4
 unfolding reply

@@ -17,14 +17,18 @@ returns c = let found = sym (c .before .before .before .before .head-at .ensures
 
 returns-2 : tie.Need-returns-2
 unfolding setAt
-returns-2 c = let found = sym (c .before .before .before .before .before .head-at .ensures) ∙ c .before .before .before .tag .given .1 in rw (found, eq-eqb _ _ (c .before .if1 .left), ne-eqb _ _ (c .if2 .taken))
+returns-2 c =
+    let found = sym (c .before .before .before .before .before .head-at .ensures) ∙ c .before .before .before .tag .given .1 in
+    rw (found, eq-eqb _ _ (c .before .if1 .left), ne-eqb _ _ (c .if2 .taken))
 
 enum-told : tie.Need-enum-told
 enum-told c = search needs
 
 returns-3 : tie.Need-returns-3
 unfolding setAt
-returns-3 c = let found = sym (c .before .before .before .before .before .head-at .ensures) ∙ c .before .before .before .tag .given .1 in rw (found, eq-eqb _ _ (c .before .if1 .left), eq-eqb _ _ (c .if2 .left))
+returns-3 c =
+    let found = sym (c .before .before .before .before .before .head-at .ensures) ∙ c .before .before .before .tag .given .1 in
+    rw (found, eq-eqb _ _ (c .before .if1 .left), eq-eqb _ _ (c .if2 .left))
 
 returns-4 : tie.Need-returns-4
 unfolding setAt

@@ -41,7 +41,8 @@ returns-2 c =
     let a = c .before .before .before .before .before .before .before .before .before .args in
     let l = c .before .before .before .before .before .before .loop in
     let unread = entry-none (entryAt _ _ _) _ (c .before .before .before .entry-at .ensures) (not-true _ (c .before .if2 .taken)) in
-    let none = reached-wrong instancesMost (a .s .now) (a .at) (a .end) (l .count) (l .here) (l .entries) (l .inv) (c .before .before .before .before .before .loop-test .taken) (c .before .before .before .before .if1 .left) unread in
+    let none = reached-wrong instancesMost (a .s .now) (a .at) (a .end) (l .count) (l .here) (l .entries) (l .inv)
+    (c .before .before .before .before .before .loop-test .taken) (c .before .before .before .before .if1 .left) unread in
     rw none (c .not-entries2 .ensures)
 
 mul-entries : tie.Need-mul-entries Inv-loop μ-loop
@@ -61,7 +62,8 @@ loop-again c =
     let a = c .before .before .before .before .before .before .before .before .before .args in
     let l = c .before .before .before .before .before .before .loop in
     let found = entry-found (entryAt _ _ _) _ (c .before .before .before .entry-at .ensures) (not-false _ (c .before .if2 .left)) in
-    reached-next instancesMost (a .s .now) (a .at) (a .end) (l .count) (l .here) (l .entries) (l .inv) (c .before .before .before .before .before .loop-test .taken) (c .before .before .before .before .if1 .left) _ _ found
+    reached-next instancesMost (a .s .now) (a .at) (a .end) (l .count) (l .here) (l .entries) (l .inv) (c .before .before .before .before .before .loop-test .taken)
+    (c .before .before .before .before .if1 .left) _ _ found
 
 cast-t14 : tie.Need-cast-t14 Inv-loop μ-loop
 cast-t14 c = search (needs, c .before .loop .inv .few)

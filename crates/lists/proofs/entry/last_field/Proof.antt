@@ -37,13 +37,15 @@ not-entry-requires-3 c κs = search needs
 returns-3 : tie.Need-returns-3
 unfolding lastField
 returns-3 c =
-    let to = address-found (addressAt _ _ _ _) _ (c .before .before .before .before .before .before .before .before .address-at .ensures) (not-false _ (c .before .before .before .before .before .before .if1 .left)) in
+    let to = address-found (addressAt _ _ _ _) _ (c .before .before .before .before .before .before .before .before .address-at .ensures)
+    (not-false _ (c .before .before .before .before .before .before .if1 .left)) in
     rw (to, eq-eqb _ _ (c .before .before .before .before .if2 .left), sym (c .before .before .is-kept .ensures) ∙ not-true _ (c .before .if3 .taken)) (c .not-entry3 .ensures)
 
 returns-4 : tie.Need-returns-4
 unfolding lastField
 returns-4 c =
-    let to = address-found (addressAt _ _ _ _) _ (c .before .before .before .before .before .before .before .before .address-at .ensures) (not-false _ (c .before .before .before .before .before .before .if1 .left)) in
+    let to = address-found (addressAt _ _ _ _) _ (c .before .before .before .before .before .before .before .before .address-at .ensures)
+    (not-false _ (c .before .before .before .before .before .before .if1 .left)) in
     rw (to, eq-eqb _ _ (c .before .before .before .before .if2 .left), sym (c .before .before .is-kept .ensures) ∙ not-false _ (c .before .if3 .left))
 
 pub last-field-spec : {M : Type 1} → statement M

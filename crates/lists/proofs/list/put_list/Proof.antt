@@ -45,19 +45,43 @@ add-inside : tie.Need-add-inside
 add-inside c =
     let same = toZ-ofZ (c .before .before .before .before .before .before .before .fits .identifier) in
     let count = rw same at (c .before .ident-size .ensures) in
-    omega (arith, count, ident-most (c .before .before .before .before .before .before .before .args .identifier) (c .before .before .before .before .before .before .before .fits .identifier .sfits), head-most _ (c .head-size2 .ensures), head-most _ (c .before .before .head-size .ensures), c .before .before .before .before .write-entries .ensures .1)
+    omega (
+      arith,
+      count,
+      ident-most (c .before .before .before .before .before .before .before .args .identifier)
+          (c .before .before .before .before .before .before .before .fits .identifier .sfits),
+      head-most _ (c .head-size2 .ensures),
+      head-most _ (c .before .before .head-size .ensures),
+      c .before .before .before .before .write-entries .ensures .1,
+    )
 
 add-inside-2 : tie.Need-add-inside-2
 add-inside-2 c =
     let same = toZ-ofZ (c .before .before .before .before .before .before .before .fits .identifier) in
     let count = rw same at (c .before .ident-size .ensures) in
-    omega (arith, count, ident-most (c .before .before .before .before .before .before .before .args .identifier) (c .before .before .before .before .before .before .before .fits .identifier .sfits), head-most _ (c .head-size2 .ensures), head-most _ (c .before .before .head-size .ensures), c .before .before .before .before .write-entries .ensures .1)
+    omega (
+      arith,
+      count,
+      ident-most (c .before .before .before .before .before .before .before .args .identifier)
+          (c .before .before .before .before .before .before .before .fits .identifier .sfits),
+      head-most _ (c .head-size2 .ensures),
+      head-most _ (c .before .before .head-size .ensures),
+      c .before .before .before .before .write-entries .ensures .1,
+    )
 
 cast-head-size-3 : tie.Need-cast-head-size-3
 cast-head-size-3 c =
     let same = toZ-ofZ (c .before .before .before .before .before .before .before .fits .identifier) in
     let count = rw same at (c .before .ident-size .ensures) in
-    omega (arith, count, ident-most (c .before .before .before .before .before .before .before .args .identifier) (c .before .before .before .before .before .before .before .fits .identifier .sfits), head-most _ (c .head-size2 .ensures), head-most _ (c .before .before .head-size .ensures), c .before .before .before .before .write-entries .ensures .1)
+    omega (
+      arith,
+      count,
+      ident-most (c .before .before .before .before .before .before .before .args .identifier)
+          (c .before .before .before .before .before .before .before .fits .identifier .sfits),
+      head-most _ (c .head-size2 .ensures),
+      head-most _ (c .before .before .head-size .ensures),
+      c .before .before .before .before .write-entries .ensures .1,
+    )
 
 head-size-requires-3 : tie.Need-head-size-requires-3
 head-size-requires-3 c κs = search needs
@@ -66,14 +90,24 @@ add-if1 : tie.Need-add-if1
 add-if1 c =
     let same = toZ-ofZ (c .before .before .before .before .before .before .before .before .fits .identifier) in
     let count = rw same at (c .before .before .ident-size .ensures) in
-    omega (arith, count, ident-most (c .before .before .before .before .before .before .before .before .args .identifier) (c .before .before .before .before .before .before .before .before .fits .identifier .sfits), head-most _ (c .before .head-size2 .ensures), head-most _ (c .before .before .before .head-size .ensures), c .before .before .before .before .before .write-entries .ensures .1, head-most _ (c .head-size3 .ensures))
+    omega (
+      arith,
+      count,
+      ident-most (c .before .before .before .before .before .before .before .before .args .identifier)
+          (c .before .before .before .before .before .before .before .before .fits .identifier .sfits),
+      head-most _ (c .before .head-size2 .ensures),
+      head-most _ (c .before .before .before .head-size .ensures),
+      c .before .before .before .before .before .write-entries .ensures .1,
+      head-most _ (c .head-size3 .ensures),
+    )
 
 returns : tie.Need-returns
 returns c =
     let a = c .before .before .before .before .before .before .before .before .before .args in
     let same = toZ-ofZ (c .before .before .before .before .before .before .before .before .before .fits .identifier) in
     let entries = c .before .before .before .before .before .before .write-entries .ensures in
-    let known = lengths (a .identifier) (listed (a .list)) (entries .0 .moved ∙ zero-add _) (c .before .before .before .before .head-size .ensures) (rw same at (c .before .before .before .ident-size .ensures)) (c .before .before .head-size2 .ensures) in
+    let known = lengths (a .identifier) (listed (a .list)) (entries .0 .moved ∙ zero-add _) (c .before .before .before .before .head-size .ensures)
+    (rw same at (c .before .before .before .ident-size .ensures)) (c .before .before .head-size2 .ensures) in
     let long = list-long (a .identifier) (listed (a .list)) known (c .before .head-size3 .ensures) in
     puts-none (omega (arith, long, c .if1 .taken))
 
@@ -81,7 +115,15 @@ cast-put-head : tie.Need-cast-put-head
 cast-put-head c =
     let same = toZ-ofZ (c .before .before .before .before .before .before .before .before .before .before .fits .identifier) in
     let count = rw same at (c .before .before .before .before .ident-size .ensures) in
-    omega (arith, count, ident-most (c .before .before .before .before .before .before .before .before .before .before .args .identifier) (c .before .before .before .before .before .before .before .before .before .before .fits .identifier .sfits), head-most _ (c .before .before .before .head-size2 .ensures), head-most _ (c .before .before .before .before .before .head-size .ensures), c .before .before .before .before .before .before .before .write-entries .ensures .1)
+    omega (
+      arith,
+      count,
+      ident-most (c .before .before .before .before .before .before .before .before .before .before .args .identifier)
+          (c .before .before .before .before .before .before .before .before .before .before .fits .identifier .sfits),
+      head-most _ (c .before .before .before .head-size2 .ensures),
+      head-most _ (c .before .before .before .before .before .head-size .ensures),
+      c .before .before .before .before .before .before .before .write-entries .ensures .1,
+    )
 
 put-head-requires : tie.Need-put-head-requires
 put-head-requires c κs = search needs
@@ -90,7 +132,12 @@ put-ident-requires : tie.Need-put-ident-requires
 put-ident-requires c κs = search needs
 
 cast-put-head-2 : tie.Need-cast-put-head-2
-cast-put-head-2 c = omega (arith, head-most _ (c .before .before .before .before .before .before .before .before .before .before .before .before .before .head-size .ensures), c .before .before .before .before .before .before .before .before .before .before .before .before .before .before .before .write-entries .ensures .1)
+cast-put-head-2 c =
+    omega (
+      arith,
+      head-most _ (c .before .before .before .before .before .before .before .before .before .before .before .before .before .head-size .ensures),
+      c .before .before .before .before .before .before .before .before .before .before .before .before .before .before .before .write-entries .ensures .1,
+    )
 
 put-head-requires-2 : tie.Need-put-head-requires-2
 put-head-requires-2 c κs = search needs
@@ -109,7 +156,9 @@ array-share-prefix-scratch c = search needs
 
 slice-aggregate-put-all : tie.Need-slice-aggregate-put-all
 slice-aggregate-put-all c =
-    let entries = c .before .before .before .before .before .before .before .before .before .before .before .before .before .before .before .before .before .before .before .before .before .before .before .before .before .before .before .before .write-entries .ensures in
+    let back = c .before .before .before .before .before .before .before .before .before .before .before .before in
+    let far = back .before .before .before .before .before .before .before .before .before .before .before .before in
+    let entries = far .before .before .before .before .write-entries .ensures in
     wrote-count (entries .0) (omega (arith, entries .1))
 
 put-all-requires : tie.Need-put-all-requires
@@ -120,14 +169,22 @@ same-length c = search needs
 
 returns-2 : tie.Need-returns-2
 returns-2 c =
-    let a = c .before .before .before .before .before .before .before .before .before .before .before .before .before .before .before .before .before .before .before .before .before .before .before .before .before .before .before .before .before .before .before .before .before .before .args in
-    let same = toZ-ofZ (c .before .before .before .before .before .before .before .before .before .before .before .before .before .before .before .before .before .before .before .before .before .before .before .before .before .before .before .before .before .before .before .before .before .before .fits .identifier) in
-    let entries = c .before .before .before .before .before .before .before .before .before .before .before .before .before .before .before .before .before .before .before .before .before .before .before .before .before .before .before .before .before .before .before .write-entries .ensures in
-    let known = lengths (a .identifier) (listed (a .list)) (entries .0 .moved ∙ zero-add _) (c .before .before .before .before .before .before .before .before .before .before .before .before .before .before .before .before .before .before .before .before .before .before .before .before .before .before .before .before .before .head-size .ensures) (rw same at (c .before .before .before .before .before .before .before .before .before .before .before .before .before .before .before .before .before .before .before .before .before .before .before .before .before .before .before .before .ident-size .ensures)) (c .before .before .before .before .before .before .before .before .before .before .before .before .before .before .before .before .before .before .before .before .before .before .before .before .before .before .before .head-size2 .ensures) in
-    let long = list-long (a .identifier) (listed (a .list)) known (c .before .before .before .before .before .before .before .before .before .before .before .before .before .before .before .before .before .before .before .before .before .before .before .before .before .before .head-size3 .ensures) in
-    let fits : 0 + length (listOctets (a .identifier) (listed (a .list))) ≤ length (a .out .now) = omega (arith, long, c .before .before .before .before .before .before .before .before .before .before .before .before .before .before .before .before .before .before .before .before .before .before .before .before .before .if1 .left) in
+    let back = c .before .before .before .before .before .before .before .before .before .before .before .before in
+    let far = back .before .before .before .before .before .before .before .before .before .before .before .before in
+    let a = far .before .before .before .before .before .before .before .before .before .before .args in
+    let same = toZ-ofZ (far .before .before .before .before .before .before .before .before .before .before .fits .identifier) in
+    let entries = far .before .before .before .before .before .before .before .write-entries .ensures in
+    let known = lengths (a .identifier) (listed (a .list)) (entries .0 .moved ∙ zero-add _) (far .before .before .before .before .before .head-size .ensures)
+    (rw same at (far .before .before .before .before .ident-size .ensures)) (far .before .before .before .head-size2 .ensures) in
+    let long = list-long (a .identifier) (listed (a .list)) known (far .before .before .head-size3 .ensures) in
+    let fits : 0 + length (listOctets (a .identifier) (listed (a .list))) ≤ length (a .out .now) = omega (arith, long, far .before .if1 .left) in
     puts-all fits
-    (list-wrote (a .identifier) (listed (a .list)) known fits (c .before .before .before .before .before .before .before .before .before .before .before .before .before .before .before .before .before .before .before .before .before .before .before .put-head .ensures) (rw same at (c .before .before .before .before .before .before .before .before .before .before .before .before .before .before .before .before .before .before .before .put-ident .ensures)) (c .before .before .before .before .before .before .before .before .before .before .before .before .before .before .before .put-head2 .ensures) (c .before .before .before .before .before .before .before .before .before .before .before .put-ident2 .ensures) (c .before .before .before .before .before .before .before .put-head3 .ensures) (rw (wrote-taken (entries .0) (omega (arith, entries .1))) at (c .before .before .put-all .ensures)))
+    (list-wrote (a .identifier) (listed (a .list)) known fits
+    (back .before .before .before .before .before .before .before .before .before .before .before .put-head .ensures)
+    (rw same at (back .before .before .before .before .before .before .before .put-ident .ensures)) (back .before .before .before .put-head2 .ensures)
+    (c .before .before .before .before .before .before .before .before .before .before .before .put-ident2 .ensures)
+    (c .before .before .before .before .before .before .before .put-head3 .ensures)
+    (rw (wrote-taken (entries .0) (omega (arith, entries .1))) at (c .before .before .put-all .ensures)))
 
 pub put-list-spec : {M : Type 1} → statement M
 put-list-spec =

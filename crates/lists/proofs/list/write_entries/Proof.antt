@@ -36,7 +36,9 @@ array-copy-out-e : tie.Need-array-copy-out-e Inv-loop μ-loop
 array-copy-out-e c = search needs
 
 write-entry-requires : tie.Need-write-entry-requires Inv-loop μ-loop
-write-entry-requires c κs = written-room _ _ _ (c .before .before .before .before .loop .inv .1) (c .before .before .before .loop-test .taken) (c .before .before .before .before .before .before .before .before .pre)
+write-entry-requires c κs =
+    written-room _ _ _ (c .before .before .before .before .loop .inv .1) (c .before .before .before .loop-test .taken)
+    (c .before .before .before .before .before .before .before .before .pre)
 
 add-i : tie.Need-add-i Inv-loop μ-loop
 add-i c = search needs
@@ -47,9 +49,13 @@ loop-less c = search needs
 loop-again : tie.Need-loop-again Inv-loop μ-loop
 loop-again c =
     let l = c .before .before .before .before .before .before .before .loop in
-    let long : length (c .before .before .before .before .before .before .before .before .before .before .before .args .list .entries) ≡ instancesMost = search (unmapped, needs, c .before .before .before .before .before .before .before .before .before .before .before .good) in
-    let one = c .before .before .write-entry .ensures in
-    (search needs, written-next _ _ _ (l .inv .1) _ long (c .before .before .before .before .before .before .loop-test .taken) (omega (arith, c .before .before .before .before .before .if1 .left)) (one .0) (one .1))
+    let long : length (c .before .before .before .before .before .before .before .before .before .before .before .args .list .entries) ≡ instancesMost =
+    search (unmapped, needs, c .before .before .before .before .before .before .before .before .before .before .before .good) in
+    let one = c .before .before .write-entry .ensures in (
+      search needs,
+      written-next _ _ _ (l .inv .1) _ long (c .before .before .before .before .before .before .loop-test .taken)
+          (omega (arith, c .before .before .before .before .before .if1 .left)) (one .0) (one .1),
+    )
 
 same-length-2 : tie.Need-same-length-2 Inv-loop μ-loop
 same-length-2 c = search needs

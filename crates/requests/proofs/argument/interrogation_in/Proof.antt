@@ -50,7 +50,8 @@ last-in-requires c κs = search needs
 returns-3 : tie.Need-returns-3
 unfolding interrogationIn
 returns-3 c =
-    let procedure = value-found _ _ _ _ (c .before .before .before .before .before .before .before .before .before .procedure-at .ensures) (c .before .before .before .before .before .before .before .procedure .given .1) in
+    let procedure = value-found _ _ _ _ (c .before .before .before .before .before .before .before .before .before .procedure-at .ensures)
+    (c .before .before .before .before .before .before .before .procedure .given .1) in
     let service = value-found _ _ _ _ (c .before .before .before .before .before .service-at .ensures) (c .before .before .before .service .given .1) in
     rw (procedure, service, ← c .before .to-nowhere .ensures) (c .last-in .ensures)
 

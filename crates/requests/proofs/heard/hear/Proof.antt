@@ -43,7 +43,12 @@ returns-4 : tie.Need-returns-4
 unfolding heard
 returns-4 c =
     let found = sym (c .before .before .before .before .before .before .before .before .head-at .ensures) ∙ c .before .before .before .before .before .before .tag .given .1 in
-    hears (rw (found, eq-eqb _ _ (c .before .before .before .before .if1 .left), sym (c .before .before .before .reply-tag .ensures) ∙ c .before .before .if2 .left, eq-eqb _ _ (c .before .if3 .left)) (c .identifier-at .ensures))
+    hears (rw (
+      found,
+      eq-eqb _ _ (c .before .before .before .before .if1 .left),
+      sym (c .before .before .before .reply-tag .ensures) ∙ c .before .before .if2 .left,
+      eq-eqb _ _ (c .before .if3 .left),
+    ) (c .identifier-at .ensures))
 
 returns-5 : tie.Need-returns-5
 unfolding heard

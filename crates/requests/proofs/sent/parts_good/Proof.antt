@@ -16,11 +16,21 @@ served-good-requires c κs = search needs
 
 returns : tie.Need-returns
 returns c = let a = c .before .before .before .before .before .before .before .before .args in
-    rw (parts-good-is (a .operation) (a .r), eq-eqb _ _ (c .before .before .before .before .before .before .if1 .taken), sym (c .before .before .before .before .before .service-code .ensures) ∙ c .before .before .before .before .if2 .taken, sym (c .before .before .to-good .ensures) ∙ c .before .if3 .taken) (c .served-good .ensures)
+    rw (
+      parts-good-is (a .operation) (a .r),
+      eq-eqb _ _ (c .before .before .before .before .before .before .if1 .taken),
+      sym (c .before .before .before .before .before .service-code .ensures) ∙ c .before .before .before .before .if2 .taken,
+      sym (c .before .before .to-good .ensures) ∙ c .before .if3 .taken,
+    ) (c .served-good .ensures)
 
 returns-2 : tie.Need-returns-2
 returns-2 c = let a = c .before .before .before .before .before .before .before .args in
-    rw (parts-good-is (a .operation) (a .r), eq-eqb _ _ (c .before .before .before .before .before .if1 .taken), sym (c .before .before .before .before .service-code .ensures) ∙ c .before .before .before .if2 .taken, sym (c .before .to-good .ensures) ∙ c .if3 .left)
+    rw (
+      parts-good-is (a .operation) (a .r),
+      eq-eqb _ _ (c .before .before .before .before .before .if1 .taken),
+      sym (c .before .before .before .before .service-code .ensures) ∙ c .before .before .before .if2 .taken,
+      sym (c .before .to-good .ensures) ∙ c .if3 .left,
+    )
 
 returns-3 : tie.Need-returns-3
 returns-3 c = let a = c .before .before .before .before .args in
@@ -34,7 +44,12 @@ served-good-requires-2 c κs = search needs
 
 returns-4 : tie.Need-returns-4
 returns-4 c = let a = c .before .before .before .before .before .before .args in
-    rw (parts-good-is (a .operation) (a .r), ne-eqb _ _ (c .before .before .before .before .if1 .left), eq-eqb _ _ (c .before .before .before .if4 .taken), sym (c .before .before .service-code2 .ensures) ∙ c .before .if5 .taken) (c .served-good2 .ensures)
+    rw (
+      parts-good-is (a .operation) (a .r),
+      ne-eqb _ _ (c .before .before .before .before .if1 .left),
+      eq-eqb _ _ (c .before .before .before .if4 .taken),
+      sym (c .before .before .service-code2 .ensures) ∙ c .before .if5 .taken,
+    ) (c .served-good2 .ensures)
 
 returns-5 : tie.Need-returns-5
 returns-5 c = let a = c .before .before .before .before .before .args in
@@ -42,11 +57,23 @@ returns-5 c = let a = c .before .before .before .before .before .args in
 
 returns-6 : tie.Need-returns-6
 returns-6 c = let a = c .before .before .before .before .before .before .before .args in
-    rw (parts-good-is (a .operation) (a .r), ne-eqb _ _ (c .before .before .before .before .before .if1 .left), ne-eqb _ _ (c .before .before .before .before .if4 .left), eq-eqb _ _ (c .before .before .before .if6 .taken), eq-eqb _ _ (c .before .if7 .taken))
+    rw (
+      parts-good-is (a .operation) (a .r),
+      ne-eqb _ _ (c .before .before .before .before .before .if1 .left),
+      ne-eqb _ _ (c .before .before .before .before .if4 .left),
+      eq-eqb _ _ (c .before .before .before .if6 .taken),
+      eq-eqb _ _ (c .before .if7 .taken),
+    )
 
 returns-7 : tie.Need-returns-7
 returns-7 c = let a = c .before .before .before .before .before .before .args in
-    rw (parts-good-is (a .operation) (a .r), ne-eqb _ _ (c .before .before .before .before .if1 .left), ne-eqb _ _ (c .before .before .before .if4 .left), eq-eqb _ _ (c .before .before .if6 .taken), ne-eqb _ _ (c .if7 .left))
+    rw (
+      parts-good-is (a .operation) (a .r),
+      ne-eqb _ _ (c .before .before .before .before .if1 .left),
+      ne-eqb _ _ (c .before .before .before .if4 .left),
+      eq-eqb _ _ (c .before .before .if6 .taken),
+      ne-eqb _ _ (c .if7 .left),
+    )
 
 returns-8 : tie.Need-returns-8
 returns-8 c = let a = c .before .before .before .before .args in
