@@ -24,7 +24,8 @@ use Rattle.profile.proofs.Profiles.{all-at}
 use Rattle.lists.specs.Entries.{allGood}
 use Rattle.lists.specs.declared.entry.Entry.{Entry}
 use Rattle.lists.proofs.Goods.{entry-good, all-none, all-one, all-both}
-use Rattle.store.specs.Row.{places, numberOfPlace, serviceOfPlace, noCell, cellOf, outside, cellAt, active, held, codeOfPlace, selected, countWith, putIn, clearIn, entryOfPlace, entriesIn, cellGood, rowGood}
+use Rattle.store.specs.Row.{places, numberOfPlace, serviceOfPlace, noCell, cellOf, outside, cellAt, active, held}
+use Rattle.store.specs.Row.{codeOfPlace, selected, countWith, putIn, clearIn, entryOfPlace, entriesIn, cellGood, rowGood}
 use Rattle.store.specs.declared.row.Cell.{Cell}
 use Rattle.store.specs.declared.row.Row.{Row}
 use Rattle.store.specs.declared.row.Places.{Places}

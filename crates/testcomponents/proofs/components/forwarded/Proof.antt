@@ -33,10 +33,13 @@ text-requires-3 : tie.Need-text-requires-3
 text-requires-3 c κs = search needs
 
 array-share-prefix-sub : tie.Need-array-share-prefix-sub
-array-share-prefix-sub c = let long : length (c .before .before .before .before .before .before .before .before .before .before .before .before .before .args .to .address .sub) ≡ 20 = search needs in omega arith
+array-share-prefix-sub c =
+    let long : length (c .before .before .before .before .before .before .before .before .before .before .before .before .before .args .to .address .sub) ≡ 20 = search needs in omega arith
 
 slice-aggregate-octets : tie.Need-slice-aggregate-octets
-slice-aggregate-octets c = let long : length (c .before .before .before .before .before .before .before .before .before .before .before .before .before .before .args .to .address .sub) ≡ 20 = search needs in simp length-take (omega arith)
+slice-aggregate-octets c =
+    let long : length (c .before .before .before .before .before .before .before .before .before .before .before .before .before .before .args .to .address .sub) ≡ 20 = search needs in
+    simp length-take (omega arith)
 
 octets-requires : tie.Need-octets-requires
 octets-requires c κs = search needs

@@ -27,7 +27,9 @@ octet-passes-requires : tie.Need-octet-passes-requires Inv-loop μ-loop
 octet-passes-requires c κs = search needs
 
 returns : tie.Need-returns Inv-loop μ-loop
-returns c = let l = c .before .before .before .before in let a = l .before .before .args in sym (every-fails _ (length (a .s .now)) (l .loop .i) (c .before .before .before .loop-test .taken) (sym (c .before .octet-passes .ensures) ∙ not-true _ (c .if1 .taken)))
+returns c =
+    let l = c .before .before .before .before in let a = l .before .before .args in sym
+    (every-fails _ (length (a .s .now)) (l .loop .i) (c .before .before .before .loop-test .taken) (sym (c .before .octet-passes .ensures) ∙ not-true _ (c .if1 .taken)))
 
 add-i : tie.Need-add-i Inv-loop μ-loop
 add-i c = search needs

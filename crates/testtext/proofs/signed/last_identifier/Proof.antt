@@ -49,7 +49,14 @@ below-zero-requires c κs = search needs
 returns-4 : tie.Need-returns-4
 unfolding signedBy negated
 returns-4 c = let k = c .before .before .before .before in
-    rw (← k .before .before .find .ensures .is, ← k .before .last-number .ensures, le-ltb _ _ (k .if1 .left), eq-eqb _ _ (c .before .before .if2 .left), ne-eqb _ _ (c .before .if3 .left)) (toZ-ofZ {w = w16} (sfits-of (c .below-zero .ok)) ∙ c .below-zero .ensures)
+    rw (
+      ← k .before .before .find .ensures .is,
+      ← k .before .last-number .ensures,
+      le-ltb _ _ (k .if1 .left),
+      eq-eqb _ _ (c .before .before .if2 .left),
+      ne-eqb _ _
+          (c .before .if3 .left),
+    ) (toZ-ofZ {w = w16} (sfits-of (c .below-zero .ok)) ∙ c .below-zero .ensures)
 
 pub last-identifier-spec : {M : Type 1} → statement M
 last-identifier-spec =
