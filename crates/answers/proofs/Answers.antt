@@ -103,7 +103,7 @@ module _ (identifier : ℤ) (operation : ℕ) (range : mag identifier < 32768) w
       own-in identifier operation 0xA2 a s range result-tag i refl (i .stands) (omega arith)
       ∙ rw (ne-eqb operation interrogation other, eq-eqb (i .start + length a) (length s) last)
 
--- a reject without an identifier is nobody's: "So a reject with NULL never closes a request" (A55)
+-- a reject without an identifier is nobody's, so that it never closes a request (A55)
 pub null-back :
     (identifier : ℤ) (operation : ℕ) (problem : Problem) (es : List Entry) →
     reply identifier operation (answerOctets (answer.Reject whose.Null problem) es) ≡ Dropped

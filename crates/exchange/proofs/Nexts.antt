@@ -201,7 +201,7 @@ module _ (access : List ℕ) (t : Table) (s : List ℕ) (size : ℕ) where
   pub done-shaped : Shaped t → Shaped (done access t s size .table)
   done-shaped so = done-ind (λ d. Shaped (d .table)) (λ _. so) (λ _ _. step-shaped profile t s so)
 
-  -- "A local refusal hands the table back unchanged, writes nothing"
+  -- "A local refusal hands the table or picture back unchanged, writes nothing"
   pub refusal-nothing :
       (n : ℕ) → done access t s size .told ≡ refuses n → (done access t s size .table ≡ t) × (done access t s size .octets ≡ [])
   refusal-nothing n =
@@ -218,7 +218,7 @@ module _ (access : List ℕ) (t : Table) (s : List ℕ) (size : ℕ) where
       (λ _ _ _ _. refl)
       (λ _ _ h result error. step-same profile t s (λ e. result (sym (number-told _ x h) ∙ e)) (λ e. error (sym (number-told _ x h) ∙ e)))
 
-  -- "A refused request alters no registration": no answer but a result does
+  -- a refused request alters no registration: no answer but a result does
   pub error-nothing :
       (x : Answered) → done access t s size .told ≡ tells x → (x .number ≡ 0xA2 → ⊥) →
       done access t s size .table .grid ≡ t .grid

@@ -97,7 +97,7 @@ module _ (p : Profile) (t : Table) (identifier : ℤ) (r : Request) where
         (everywhere now (applied operation r (placesOf p r) row) is)))
     verdict-all operation now asks is (some e) = nothing e refl (moved-grid p t identifier t)
 
-    -- "every selected number and service gets the address, replacing an older one, all together"
+    -- "every selected number and service .. gets the address, replacing an older one, all together"
     pub activation-all : AllOrNothing (some (tidyAddress (r .to .address))) (handled p t identifier activation r)
     unfolding handled
     activation-all =

@@ -33,7 +33,7 @@ noEntry = entryOf blankNumber 0 0 blankAddress
 
 -- ---- written
 
--- "servedUserNr, basicService, procedure, forwardedToAddress"
+-- servedUserNr, basicService, procedure, forwardedToAddress (clause 7.1)
 abbrev pub fieldsOctets : Entry → List ℕ
 fieldsOctets e =
     numberOctets (e .served)

@@ -88,20 +88,20 @@ lastIn procedure service to s at end =
     andThen (servedAt argumentDepth s at end)
     (λ served place. onlyIf (privates s place end) (got (requestOf procedure service to served) end))
 
--- "procedure, basicService, forwardedToAddress, servedUserNr"
+-- procedure, basicService, forwardedToAddress, servedUserNr (clause 7.1)
 unfoldable pub activationIn : List ℕ → ℕ → ℕ → Got Request
 activationIn s at end =
     andThen (codeAt procedureCode argumentDepth s at end) (λ procedure p.
     andThen (codeAt serviceCode argumentDepth s p end) (λ service q.
     andThen (addressAt argumentDepth s q end) (λ to r. lastIn procedure service to s r end)))
 
--- "procedure, basicService, servedUserNr"
+-- procedure, basicService, servedUserNr (clause 7.1)
 unfoldable pub deactivationIn : List ℕ → ℕ → ℕ → Got Request
 deactivationIn s at end =
     andThen (codeAt procedureCode argumentDepth s at end) (λ procedure p.
     andThen (codeAt serviceCode argumentDepth s p end) (λ service q. lastIn procedure service noForwarded s q end))
 
--- "procedure, basicService DEFAULT allServices, servedUserNr"
+-- procedure, basicService, which is allServices where it is left out, servedUserNr (clause 7.1)
 unfoldable pub interrogationIn : List ℕ → ℕ → ℕ → Got Request
 interrogationIn s at end =
     andThen (codeAt procedureCode argumentDepth s at end) (λ procedure p.

@@ -29,7 +29,7 @@ use Rattle.sheet.proofs.Parts.{then-through}
 
 -- ---- what stands before the instances
 
--- "at most" is "below the next"
+-- "at most" is below the next
 most-below : (n most : ℕ) → leb n most ≡ ltb n (most + 1)
 most-below n most = let next : most + 1 ≡ suc most = omega arith in rw next (sym (leb·suc-suc n most))
 

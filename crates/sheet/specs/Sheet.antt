@@ -48,7 +48,7 @@ noInstance = record {
   address = record { number = record { form = 0; kind = 0; count = 0; digits = replicate 20 0 }; subcount = 0; sub = replicate 20 0 };
 }
 
--- the whole input, "nothing after": by the rules of the form alone
+-- the whole input, "Nothing after": by the rules of the form alone
 unfoldable pub sheetIn : Form → List ℕ → Got Sheet
 sheetIn f s =
     andThen (fieldAt (eqb (f .code)) s 0) (λ _ p.

@@ -82,7 +82,7 @@ countWith w row = countTo (λ j. pick (active row j) true (selected w j)) places
 unfoldable pub activeOf : Places → Row → ℕ
 activeOf w row = countTo (λ j. pick (selected w j) (active row j) false) places
 
--- "every selected number and service gets the address, replacing an older one, all together"
+-- "every selected number and service .. gets the address, replacing an older one, all together"
 unfoldable pub putIn : Places → Address → Row → Row
 putIn w address row = record {
   cells = changedFrom (λ j x. pick (selected w j) (cellOf (codeOfPlace w j) address) x) 0 (row .cells);
