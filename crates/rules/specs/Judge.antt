@@ -75,10 +75,20 @@ notProvided p r = all (not (eqb (r .service) 0) ∷ not (isProvided p (r .servic
 abbrev pub userSpecified : Request → Bool
 userSpecified r = eqb (r .to .user) 1
 
+-- "public type 1", and the most digits of such a number
+abbrev pub international : ℕ
+international = 1
+
+abbrev pub internationalMost : ℕ
+internationalMost = 15
+
 -- "other number kind, or public type 1 with more than 15 digits"
 unfoldable pub otherKind : Number → Bool
 otherKind n =
-    any (eqb (n .form) other ∷ all (eqb (n .form) public ∷ eqb (n .kind) 1 ∷ ltb 15 (n .count) ∷ []) ∷ [])
+    any
+    (eqb (n .form) other
+    ∷ all (eqb (n .form) public ∷ eqb (n .kind) international ∷ ltb internationalMost (n .count) ∷ [])
+    ∷ [])
 
 -- "forwarded-to number the same as a selected served number", the first of ns having the place `from`
 unfoldable pub selectedSame : Profile → Request → ℕ → List Number → Bool
@@ -93,6 +103,7 @@ selectedSame p r from (n ∷ ns) =
 unfoldable pub fits : ℕ → Profile → ℕ → Bool
 fits most p count = leb count most
 
+-- "more than 8 instances of the procedure afterwards"
 unfoldable pub noRoom : ℕ → Profile → Places → Row → Bool
 noRoom most p w row = not (fits most p (countWith w row))
 

@@ -1,4 +1,4 @@
--- How the code tells which numbers a request selects: one octet.
+-- How the code tells which numbers and services a request selects.
 use Prim.Native.Nat.{ℕ, _<_}
 use mathlib.Core.Path.{_≡_}
 use mathlib.Core.Bool.{Bool, false}
@@ -11,7 +11,7 @@ use Rattle.profile.specs.declared.profile.Profile.{Profile}
 use Rattle.requests.specs.declared.request.Served.{Served}
 use Rattle.rules.specs.Selection.{numberChosen, serviceChosen}
 
--- all of them where it is 255, else the one at that place
+-- one number tells it: all of them where it is 255, else the one at that place
 abbrev pub everyNumber : ℕ
 everyNumber = 255
 
