@@ -57,23 +57,47 @@ same-length c = search needs
 
 returns : tie.Need-returns
 returns c =
-    let back = c .before .before .before .before .before .before .before .before .before .before .before .before in
-    let far = back .before .before .before .before .before .before .before .before .before .before .before .before in
-    let e = far .before .args .e in
-    let own : length (e .served .digits) ≡ most = search (needs, far .before .good) in
-    let digits : length (e .address .number .digits) ≡ most = search (needs, far .before .good .1 .1 .0 .1 .1 .1 .1 .1 .0) in
-    let sub : length (e .address .sub) ≡ most = search (needs, far .before .good .1 .1 .0 .1 .1 .1 .1 .1 .0) in
+    let e = c .before .before .before .before .before .before .before .before .before .before .before .before
+    .before .before .before .before .before .before .before .before .before .before .before .before .before .args .e in
+    let own : length (e .served .digits) ≡ most =
+    search (
+      needs,
+      c .before .before .before .before .before .before .before .before .before .before .before .before
+          .before .before .before .before .before .before .before .before .before .before .before .before .before .good,
+    ) in
+    let digits : length (e .address .number .digits) ≡ most =
+    search (
+      needs,
+      c .before .before .before .before .before .before .before .before .before .before .before .before
+          .before .before .before .before .before .before .before .before .before .before .before .before .before .good .1 .1 .0 .1 .1 .1 .1 .1 .0,
+    ) in
+    let sub : length (e .address .sub) ≡ most =
+    search (
+      needs,
+      c .before .before .before .before .before .before .before .before .before .before .before .before
+          .before .before .before .before .before .before .before .before .before .before .before .before .before .good .1 .1 .0 .1 .1 .1 .1 .1 .0,
+    ) in
     let few = every-entry-most e own digits sub in
-    let all = entry-wrote e (omega (arith, few, far .before .pre))
+    let all = entry-wrote e
     (omega (
       arith,
-      back .before .before .before .before .before .before .before .before .address-size .ensures,
-      back .before .before .before .before .before .before .before .before .before .number-size .ensures,
+      few,
+      c .before .before .before .before .before .before .before .before .before .before .before .before
+          .before .before .before .before .before .before .before .before .before .before .before .before .before .pre,
+    ))
+    (omega (
+      arith,
+      c .before .before .before .before .before .before .before .before .before .before .before .before
+          .before .before .before .before .before .before .before .before .address-size .ensures,
+      c .before .before .before .before .before .before .before .before .before .before .before .before
+          .before .before .before .before .before .before .before .before .before .number-size .ensures,
       fields-size e,
     ))
-    (back .before .before .before .before .before .before .put-head .ensures) (back .before .before .put-number .ensures)
+    (c .before .before .before .before .before .before .before .before .before .before .before .before .before .before .before .before .before .before .put-head .ensures)
+    (c .before .before .before .before .before .before .before .before .before .before .before .before .before .before .put-number .ensures)
     (c .before .before .before .before .before .before .before .before .before .before .put-enumerated .ensures)
-    (c .before .before .before .before .before .before .put-enumerated2 .ensures) (c .before .before .put-address .ensures) in
+    (c .before .before .before .before .before .before .put-enumerated2 .ensures)
+    (c .before .before .put-address .ensures) in
     (all, omega (arith, few, all .moved))
 
 pub write-entry-spec : {M : Type 1} → statement M
