@@ -4,18 +4,15 @@ use mathlib.Core.Bool.{Bool}
 use mathlib.Core.List.{List, [], _∷_, _++_}
 use lib.Dec.{ltb, eqb}
 use Rattle.laws.specs.Tests.{all}
-use Rattle.laws.specs.Got.{Got, got, wrong, andThen}
-use Rattle.octets.specs.Head.{headAt}
+use Rattle.laws.specs.Got.{Got, got, andThen}
 use Rattle.octets.specs.Element.{element}
 use Rattle.values.specs.Enumerated.{enumeratedAt, enumeratedOctets}
-use Rattle.octets.specs.declared.head.Head.{Head}
-use Rattle.octets.specs.declared.head.Head.the-variants as head
 use Rattle.numbers.specs.Number.{other, valueOf, numberAt, tidyNumber, numberGood, numberOctets, blankNumber}
 use Rattle.numbers.specs.Address.{blankAddress, addressAt, tidyAddress, addressGood, addressOctets}
 use Rattle.numbers.specs.declared.number.Number.{Number}
 use Rattle.numbers.specs.declared.address.Address.{Address}
 use Rattle.numbers.specs.declared.address.Forwarded.{Forwarded}
-use Rattle.requests.specs.Part.{onlyIf}
+use Rattle.requests.specs.Part.{onlyIf, partAt}
 use Rattle.requests.specs.Heard.{argumentDepth}
 use Rattle.lists.specs.declared.entry.Entry.{Entry}
 
@@ -81,10 +78,8 @@ unfoldable pub fieldsIn : List ℕ → ℕ → ℕ → ℕ → Got Entry
 fieldsIn s start stop next =
     andThen (numberAt fieldDepth s start stop) (λ served place. codesIn served s place stop next)
 
-abbrev pub entryIn : List ℕ → Head → Got Entry
-entryIn s (head.Is tag start stop next) = onlyIf (eqb tag 0x30) (fieldsIn s start stop next)
-entryIn s head.Bad = wrong
-
 -- the entry at `at`, of the octets of s before `end`
 unfoldable pub entryAt : List ℕ → ℕ → ℕ → Got Entry
-entryAt s at end = entryIn s (headAt entryDepth s at end)
+entryAt s at end =
+    andThen (partAt entryDepth s at end)
+    (λ entry next. onlyIf (eqb (entry .tag) 0x30) (fieldsIn s (entry .start) (entry .stop) next))

@@ -9,7 +9,7 @@ use native.Mathlib.Omega.{arith}
 use lib.IntN.{pos}
 use lib.ListN.{length}
 use borrow.Author.Tests.{lt-ltb, eq-eqb, ne-eqb}
-use Rattle.laws.specs.Got.{got}
+use Rattle.laws.specs.Got.{got, andThen}
 use Rattle.laws.specs.Stands.{Stands}
 use Rattle.laws.proofs.Stands.{stands-left, stands-right}
 use Rattle.octets.specs.Head.{headAt}
@@ -25,6 +25,7 @@ use Rattle.numbers.specs.Number.{numberAt}
 use Rattle.numbers.specs.declared.number.Number.{Number}
 use Rattle.numbers.specs.declared.address.Forwarded.{Forwarded}
 use Rattle.numbers.proofs.Trips.{NotNull, number-not-null, number-back, address-back}
+use Rattle.requests.specs.Part.{partOf}
 use Rattle.requests.specs.Heard.{argumentDepth, insideDepth, local}
 use Rattle.requests.specs.Request.{activation, deactivation, interrogation, codeAt, serviceAt, individual, allNumbers, servedIn, servedAt}
 use Rattle.requests.specs.Request.{privateAt, privates, noForwarded, requestOf, lastIn, activationIn, deactivationIn, interrogationIn, contentsIn, argumentAt}
@@ -70,7 +71,7 @@ pub one-back :
 unfolding servedAt
 one-back depth s at end {n} {next} h = in-head (headAt depth s at end) (number-not-null depth s at end h)
   where
-    in-head : (x : Head) → NotNull x → servedIn depth s at end x ≡ got (individual n) next
+    in-head : (x : Head) → NotNull x → andThen (partOf x) (servedIn depth s at end) ≡ got (individual n) next
     in-head (head.Is tag start stop after) other = rw (ne-eqb tag 0x05 other, h)
     in-head head.Bad other = absurd other
 

@@ -8,13 +8,9 @@ use lib.ListN.{length}
 use lib.Dec.{eqb}
 use Rattle.laws.specs.Pick.{pick}
 use Rattle.laws.specs.Tests.{any}
-use Rattle.octets.specs.Head.{headAt}
-use Rattle.values.specs.Ident.{identAt}
+use Rattle.laws.specs.Got.{got, andThen}
 use Rattle.skip.specs.Skip.{skipDepth}
-use Rattle.octets.specs.declared.head.Head.{Head}
-use Rattle.octets.specs.declared.head.Head.the-variants as head
-use Rattle.values.specs.declared.ident.Ident.{Ident}
-use Rattle.values.specs.declared.ident.Ident.the-variants as ident
+use Rattle.requests.specs.Part.{orElse, onlyIf, signedAt, Part, partAt}
 use Rattle.requests.specs.declared.heard.Heard.{Heard}
 use Rattle.requests.specs.declared.heard.Heard.the-variants.{NotOne, Silent, OtherTag, NoIdentifier, NoOperation, Asks}
 use Rattle.requests.specs.declared.heard.Operation.{Operation}
@@ -39,31 +35,29 @@ abbrev pub local : ℤ → Operation
 local value = record { value = value }
 
 -- "operation unreadable (a linked identifier too)"
-abbrev pub operationOf : ℤ → ℕ → Ident → Heard
-operationOf identifier end (ident.Is value place) = Asks identifier (local value) place end
-operationOf identifier end ident.Unreadable = NoOperation identifier
-
 unfoldable pub operationAt : ℤ → List ℕ → ℕ → ℕ → Heard
-operationAt identifier s at end = operationOf identifier end (identAt insideDepth s at end)
+operationAt identifier s at end =
+    orElse (NoOperation identifier)
+    (andThen (signedAt insideDepth s at end) (λ value next. got (Asks identifier (local value) next end) end))
 
 -- "identifier unreadable"
-abbrev pub identifierOf : List ℕ → ℕ → Ident → Heard
-identifierOf s end (ident.Is identifier place) = operationAt identifier s place end
-identifierOf s end ident.Unreadable = NoIdentifier
-
 unfoldable pub identifierAt : List ℕ → ℕ → ℕ → Heard
-identifierAt s at end = identifierOf s end (identAt insideDepth s at end)
+identifierAt s at end =
+    orElse NoIdentifier
+    (andThen (signedAt insideDepth s at end) (λ identifier next. got (operationAt identifier s next end) end))
 
--- "not one element filling the input (empty input too)", "outer tag A2, A3, A4", "another outer tag but A1"
-abbrev pub componentOf : List ℕ → Head → Heard
-componentOf s (head.Is tag start stop next) =
-    pick (eqb next (length s))
-    (pick (replyTag tag) Silent (pick (eqb tag 0xA1) (identifierAt s start stop) OtherTag))
-    NotOne
-componentOf s head.Bad = NotOne
+-- "outer tag A2, A3, A4", "another outer tag but A1"
+abbrev pub heardIn : List ℕ → Part → Heard
+heardIn s component =
+    pick (replyTag (component .tag)) Silent
+    (pick (eqb (component .tag) 0xA1) (identifierAt s (component .start) (component .stop)) OtherTag)
 
+-- what the component s says: "not one element filling the input (empty input too)", or what stands in it
 unfoldable pub heard : List ℕ → Heard
-heard s = componentOf s (headAt componentDepth s 0 (length s))
+heard s =
+    orElse NotOne
+    (andThen (partAt componentDepth s 0 (length s)) (λ component next.
+    onlyIf (eqb next (length s)) (got (heardIn s component) next)))
 
 -- The row of document 01's table that holds, counted from 1. The rows after these are no longer about the component's octets alone:
 -- a component that asks is at none of the first five, and has the number of the next.

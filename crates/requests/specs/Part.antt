@@ -41,10 +41,14 @@ abbrev pub partOf : Head → Got Part
 partOf (head.Is tag start stop next) = got (record { tag = tag; start = start; stop = stop }) next
 partOf head.Bad = wrong
 
+-- an element, and the place after it
+abbrev pub partAt : ℕ → List ℕ → ℕ → ℕ → Got Part
+partAt depth s at end = partOf (headAt depth s at end)
+
 -- an element whose tag passes the test, and nothing after it
 abbrev pub lastAt : (ℕ → Bool) → ℕ → List ℕ → ℕ → ℕ → Got Part
 lastAt good depth s at end =
-    andThen (partOf (headAt depth s at end))
+    andThen (partAt depth s at end)
     (λ part next. onlyIf (all (eqb next end ∷ good (part .tag) ∷ [])) (got part next))
 
 abbrev pub tagIs : ℕ → ℕ → Bool

@@ -9,11 +9,8 @@ use lib.Dec.{ltb, eqb}
 use Rattle.laws.specs.Pick.{pick}
 use Rattle.laws.specs.Tests.{all}
 use Rattle.laws.specs.Got.{Got, got, wrong, andThen}
-use Rattle.octets.specs.Head.{headAt}
 use Rattle.values.specs.Enumerated.{enumeratedTag, enumeratedAt}
 use Rattle.skip.specs.Skip.{fills, skipAt}
-use Rattle.octets.specs.declared.head.Head.{Head}
-use Rattle.octets.specs.declared.head.Head.the-variants as head
 use Rattle.skip.specs.declared.skip.Skip.{Skip}
 use Rattle.skip.specs.declared.skip.Skip.the-variants as skip
 use Rattle.codes.specs.Codes.{procedureCode, serviceCode}
@@ -21,7 +18,7 @@ use Rattle.numbers.specs.Number.{valueOf, numberAt, blankNumber}
 use Rattle.numbers.specs.Address.{addressAt, blankForwarded}
 use Rattle.numbers.specs.declared.number.Number.{Number}
 use Rattle.numbers.specs.declared.address.Forwarded.{Forwarded}
-use Rattle.requests.specs.Part.{onlyIf, lastAt, tagIs}
+use Rattle.requests.specs.Part.{onlyIf, Part, partAt, lastAt, tagIs}
 use Rattle.requests.specs.Heard.{argumentDepth, insideDepth}
 use Rattle.requests.specs.declared.request.Served.{Served}
 use Rattle.requests.specs.declared.request.Request.{Request}
@@ -55,14 +52,13 @@ individual number = record { all = 0; number = number }
 abbrev pub allNumbers : Served
 allNumbers = record { all = 1; number = blankNumber }
 
-abbrev pub servedIn : ℕ → List ℕ → ℕ → ℕ → Head → Got Served
-servedIn depth s at end (head.Is tag start stop next) =
-    pick (eqb tag 0x05) (onlyIf (eqb start stop) (got allNumbers next))
+abbrev pub servedIn : ℕ → List ℕ → ℕ → ℕ → Part → ℕ → Got Served
+servedIn depth s at end part next =
+    pick (eqb (part .tag) 0x05) (onlyIf (eqb (part .start) (part .stop)) (got allNumbers next))
     (andThen (numberAt depth s at end) (λ number place. got (individual number) place))
-servedIn depth s at end head.Bad = wrong
 
 unfoldable pub servedAt : ℕ → List ℕ → ℕ → ℕ → Got Served
-servedAt depth s at end = servedIn depth s at end (headAt depth s at end)
+servedAt depth s at end = andThen (partAt depth s at end) (servedIn depth s at end)
 
 -- "After the last known element of an argument, elements with a private-class tag are skipped (house)."
 unfoldable pub privateAt : List ℕ → ℕ → ℕ → Skip
