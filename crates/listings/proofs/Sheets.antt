@@ -27,7 +27,8 @@ use Rattle.sheet.proofs.Formed.{Formed, formed-parts, opened-instances, opened-
 use Rattle.sheet.proofs.Counts.{formed-count, formed-few, formed-last, formed-bounded}
 use Rattle.sheet.proofs.SheetTrips.{countOf}
 use Rattle.sheet.proofs.AcceptedSheets.{Allowed, sheet-allowed}
-use Rattle.listings.specs.Listing.{procedureName, lineOf, headerLine, instanceLines, headerMost, linesMost, listing, listingMost, listingIn, listedSheet, ListsSheet, refusedLine, printedAs, printedSheet, PrintsSheet}
+use Rattle.listings.specs.Listing.{procedureName, lineOf, headerLine, instanceLines, headerMost, linesMost, listing}
+use Rattle.listings.specs.Listing.{listingMost, listingIn, listedSheet, ListsSheet, refusedLine, printedAs, printedSheet, PrintsSheet}
 use Rattle.listings.specs.inner.Write.{linesFound}
 use Rattle.listings.proofs.Words.{decimal-one}
 use Rattle.listings.proofs.Lines.{header-most}

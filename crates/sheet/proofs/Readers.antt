@@ -255,9 +255,3 @@ instance-found wrong r e h = absurd (false≢true (sym (ap (λ (x : InstanceRead
 pub instance-none : (g : Got Instance) (r : InstanceRead) → r ≡ instanceRead g → r .ok ≡ false → g ≡ wrong
 instance-none (got instance next) r e h = absurd (false≢true (sym h ∙ ap (λ (x : InstanceRead). x .ok) e))
 instance-none wrong r e h = refl
-
--- what was found is named, whether it is said or not
-pub instance-named :
-    (g : Got Instance) (r : InstanceRead) (i : Instance) (next : ℕ) → r ≡ instanceRead g → g ≡ got i next →
-    (r .instance ≡ i) × (r .next ≡ next)
-instance-named g r i next e f = (rw (e, f), rw (e, f))

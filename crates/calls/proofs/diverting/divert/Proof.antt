@@ -54,7 +54,9 @@ returns-3 c =
     (c .refuses3 .ensures)
 
 call-of-requires : tie.Need-call-of-requires
-call-of-requires c κs = good-call _ (c .before .before .before .before .before .before .before .before .before .before .args .call .now) (sym (c .before .call-good .ensures) ∙ not-false _ (c .if3 .left)) .size
+call-of-requires c κs =
+    good-call _ (c .before .before .before .before .before .before .before .before .before .before .args .call .now)
+    (sym (c .before .call-good .ensures) ∙ not-false _ (c .if3 .left)) .size
 
 divert-by-requires : tie.Need-divert-by-requires
 divert-by-requires c κs =

@@ -54,7 +54,9 @@ stays-here-requires-3 c κs = search needs
 returns-3 : tie.Need-returns-3
 returns-3 c =
     let a = c .before .before .before .before .before .before .before .before .before .before .before .before .args in
-    rw (found-none (a .p) (a .t2) (a .c) (c .before .before .before .before .before .before .before .before .before .before .if1 .left) _ _ _ (c .before .before .before .before .before .before .before .before .before .service-slot .ensures) (c .before .before .before .before .before .before .before .if2 .left)
+    rw (found-none (a .p) (a .t2) (a .c) (c .before .before .before .before .before .before .before .before .before .before .if1 .left) _ _ _
+    (c .before .before .before .before .before .before .before .before .before .service-slot .ensures)
+    (c .before .before .before .before .before .before .before .if2 .left)
     (c .before .before .before .before .before .before .procedure-of .ensures) (c .before .before .before .held-at .ensures) (not-true _ (c .before .if3 .taken)))
     (c .stays-here3 .ensures)
 
@@ -65,8 +67,11 @@ returns-4 : tie.Need-returns-4
 returns-4 c =
     let a = c .before .before .before .before .before .before .before .before .before .before .before .before .before .before .before .args in
     rw (
-      found-some (a .p) (a .t2) (a .c) (c .before .before .before .before .before .before .before .before .before .before .before .before .before .if1 .left) _ _ _ (c .before .before .before .before .before .before .before .before .before .before .before .before .service-slot .ensures) (c .before .before .before .before .before .before .before .before .before .before .if2 .left)
-          (c .before .before .before .before .before .before .before .before .before .procedure-of .ensures) (c .before .before .before .before .before .before .held-at .ensures) (not-false _ (c .before .before .before .before .if3 .left)),
+      found-some (a .p) (a .t2) (a .c) (c .before .before .before .before .before .before .before .before .before .before .before .before .before .if1 .left) _ _ _
+          (c .before .before .before .before .before .before .before .before .before .before .before .before .service-slot .ensures)
+          (c .before .before .before .before .before .before .before .before .before .before .if2 .left)
+          (c .before .before .before .before .before .before .before .before .before .procedure-of .ensures)
+          (c .before .before .before .before .before .before .held-at .ensures) (not-false _ (c .before .before .before .before .if3 .left)),
       le-ltb _ _ (c .before .if4 .taken),
     )
     (c .refuses .ensures)
@@ -80,8 +85,12 @@ returns-5 : tie.Need-returns-5
 returns-5 c =
     let a = c .before .before .before .before .before .before .before .before .before .before .before .before .before .before .before .before .args in
     rw (
-      found-some (a .p) (a .t2) (a .c) (c .before .before .before .before .before .before .before .before .before .before .before .before .before .before .if1 .left) _ _ _ (c .before .before .before .before .before .before .before .before .before .before .before .before .before .service-slot .ensures) (c .before .before .before .before .before .before .before .before .before .before .before .if2 .left)
-          (c .before .before .before .before .before .before .before .before .before .before .procedure-of .ensures) (c .before .before .before .before .before .before .before .held-at .ensures) (not-false _ (c .before .before .before .before .before .if3 .left)),
+      found-some (a .p) (a .t2) (a .c)
+          (c .before .before .before .before .before .before .before .before .before .before .before .before .before .before .if1 .left) _ _ _
+          (c .before .before .before .before .before .before .before .before .before .before .before .before .before .service-slot .ensures)
+          (c .before .before .before .before .before .before .before .before .before .before .before .if2 .left)
+          (c .before .before .before .before .before .before .before .before .before .before .procedure-of .ensures)
+          (c .before .before .before .before .before .before .before .held-at .ensures) (not-false _ (c .before .before .before .before .before .if3 .left)),
       lt-ltb _ _ (c .before .before .if4 .left),
     )
     (c .go-on .ensures)

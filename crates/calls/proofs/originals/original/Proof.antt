@@ -60,7 +60,8 @@ part-result-end : tie.Need-part-result-end
 part-result-end c =
     let a = c .before .before .before .before .before .before .before .before .before .before .before .args in
     let d = c .before .before .before .before .before .before .before .before .divert .ensures in
-    let goes = sym (ap goesOn (d .told)) ∙ sym (c .before .before .before .before .before .before .before .goes-on .ensures) ∙ not-false _ (c .before .before .before .before .before .before .if1 .left) in
+    let goes = sym (ap goesOn (d .told)) ∙ sym (c .before .before .before .before .before .before .before .goes-on .ensures) ∙ not-false _
+    (c .before .before .before .before .before .before .if1 .left) in
     let so = goes-good (a .access .now) (a .table) (a .call .now) goes in
     rw (c .before .before .before .before .before .call-of .ensures, d .call, so .redirecting) (served-within (a .access .now) (a .call .now) (so .ok) (so .good))
 
@@ -68,7 +69,8 @@ returns-2 : tie.Need-returns-2
 returns-2 c =
     let a = c .before .before .before .before .before .before .before .before .before .before .before .before .args in
     let d = c .before .before .before .before .before .before .before .before .before .divert .ensures in
-    let goes = sym (ap goesOn (d .told)) ∙ sym (c .before .before .before .before .before .before .before .before .goes-on .ensures) ∙ not-false _ (c .before .before .before .before .before .before .before .if1 .left) in
+    let goes = sym (ap goesOn (d .told)) ∙ sym (c .before .before .before .before .before .before .before .before .goes-on .ensures) ∙ not-false _
+    (c .before .before .before .before .before .before .before .if1 .left) in
     let so = goes-good (a .access .now) (a .table) (a .call .now) goes in
     rw (c .before .before .before .before .before .before .call-of .ensures, d .call, so .redirecting)
     (original-first (a .access .now) (a .table) (a .call .now) goes (rw (c .before .before .before .before .before .before .call-of .ensures) at (c .before .before .before .before .if2 .taken)))

@@ -18,11 +18,23 @@ returns-2 c = rw (ne-eqb _ _ (c .before .before .if1 .left), sym (c .before .com
 
 returns-3 : tie.Need-returns-3
 unfolding follows
-returns-3 c = rw (ne-eqb _ _ (c .before .before .before .before .before .before .if1 .left), sym (c .before .before .before .before .before .comes-before .ensures) ∙ not-false _ (c .before .before .before .before .if2 .left), eq-eqb _ _ (c .before .if3 .taken))
+returns-3 c =
+    rw (
+      ne-eqb _ _ (c .before .before .before .before .before .before .if1 .left),
+      sym (c .before .before .before .before .before .comes-before .ensures)
+          ∙ not-false _ (c .before .before .before .before .if2 .left),
+      eq-eqb _ _ (c .before .if3 .taken),
+    )
 
 returns-4 : tie.Need-returns-4
 unfolding follows
-returns-4 c = rw (ne-eqb _ _ (c .before .before .before .before .before .if1 .left), sym (c .before .before .before .before .comes-before .ensures) ∙ not-false _ (c .before .before .before .if2 .left), ne-eqb _ _ (c .if3 .left))
+returns-4 c =
+    rw (
+      ne-eqb _ _ (c .before .before .before .before .before .if1 .left),
+      sym (c .before .before .before .before .comes-before .ensures) ∙ not-false _
+          (c .before .before .before .if2 .left),
+      ne-eqb _ _ (c .if3 .left),
+    )
 
 pub may-follow-spec : {M : Type 1} → statement M
 may-follow-spec = tie.close (tie.spec returns comes-before-requires returns-2 returns-3 returns-4)

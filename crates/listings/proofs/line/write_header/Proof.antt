@@ -23,7 +23,9 @@ put-all-requires-2 c κs = search needs
 write-number-requires-2 : tie.Need-write-number-requires-2
 write-number-requires-2 c κs =
     let s = c .before .before .before .before .before .before .before .before .before .before .before .before .before .before .before .before in
-    count-room (s .args .last) (s .args .count) (s .args .out .now) (s .pre) (c .before .before .before .before .before .before .before .before .before .before .before .before .put-all .ensures) (c .before .before .before .before .before .before .before .before .write-number .ensures) (c .before .before .before .put-all2 .ensures)
+    count-room (s .args .last) (s .args .count) (s .args .out .now) (s .pre)
+    (c .before .before .before .before .before .before .before .before .before .before .before .before .put-all .ensures)
+    (c .before .before .before .before .before .before .before .before .write-number .ensures) (c .before .before .before .put-all2 .ensures)
 
 same-length : tie.Need-same-length
 same-length c = search needs
@@ -31,7 +33,10 @@ same-length c = search needs
 returns : tie.Need-returns
 returns c =
     let s = c .before .before .before .before .before .before .before .before .before .before .before .before .before .before .before .before .before .before .before in
-    header-wrote (s .args .last) (s .args .count) (s .args .out .now) (s .pre) (c .before .before .before .before .before .before .before .before .before .before .before .before .before .before .before .put-all .ensures) (c .before .before .before .before .before .before .before .before .before .before .before .write-number .ensures) (c .before .before .before .before .before .before .put-all2 .ensures) (c .before .before .write-number2 .ensures)
+    header-wrote (s .args .last) (s .args .count) (s .args .out .now) (s .pre)
+    (c .before .before .before .before .before .before .before .before .before .before .before .before .before .before .before .put-all .ensures)
+    (c .before .before .before .before .before .before .before .before .before .before .before .write-number .ensures)
+    (c .before .before .before .before .before .before .put-all2 .ensures) (c .before .before .write-number2 .ensures)
 
 pub write-header-spec : {M : Type 1} → statement M
 write-header-spec =

@@ -23,33 +23,60 @@ cast-write-number-2 c = search needs
 write-number-requires-2 : tie.Need-write-number-requires-2
 write-number-requires-2 c κs =
     let s = c .before .before .before .before .before .before .before .before .before .before .before .before .before .before .before .before in
-    service-room (s .args .i) (s .args .out .now) (s .args .at) (s .pre .1) (c .before .before .before .before .before .before .before .before .before .write-name .ensures) (c .before .before .before .before .write-number .ensures)
+    service-room (s .args .i) (s .args .out .now) (s .args .at) (s .pre .1)
+    (c .before .before .before .before .before .before .before .before .before .write-name .ensures) (c .before .before .before .before .write-number .ensures)
 
 write-kind-requires : tie.Need-write-kind-requires
 write-kind-requires c κs =
     let s = c .before .before .before .before .before .before .before .before .before .before .before .before .before .before .before .before .before .before .before .before in
-    kind-room (s .args .i) (s .args .out .now) (s .args .at) (s .pre .1) (c .before .before .before .before .before .before .before .before .before .before .before .before .before .write-name .ensures) (c .before .before .before .before .before .before .before .before .write-number .ensures) (c .before .before .before .write-number2 .ensures)
+    kind-room (s .args .i) (s .args .out .now) (s .args .at) (s .pre .1)
+    (c .before .before .before .before .before .before .before .before .before .before .before .before .before .write-name .ensures)
+    (c .before .before .before .before .before .before .before .before .write-number .ensures) (c .before .before .before .write-number2 .ensures)
 
 cast-write-digits : tie.Need-cast-write-digits
 cast-write-digits c = search needs
 
 write-digits-requires : tie.Need-write-digits-requires
 write-digits-requires c κs =
-    let s = c .before .before .before .before .before .before .before .before .before .before .before .before .before .before .before .before .before .before .before .before .before .before .before .before .before in
-    (s .pre .0 .digits, digits-room (s .args .i) (s .args .out .now) (s .args .at) (s .pre .1) (c .before .before .before .before .before .before .before .before .before .before .before .before .before .before .before .before .before .before .write-name .ensures) (c .before .before .before .before .before .before .before .before .before .before .before .before .before .write-number .ensures) (c .before .before .before .before .before .before .before .before .write-number2 .ensures) (c .before .before .before .before .write-kind .ensures))
+    let s = c .before .before .before .before .before .before .before .before .before .before .before .before .before .before .before .before .before .before
+    .before .before .before .before .before .before .before in (
+      s .pre .0 .digits,
+      digits-room (s .args .i) (s .args .out .now) (s .args .at) (s .pre .1)
+          (c .before .before .before .before .before .before .before .before .before .before .before .before .before .before .before .before .before
+          .before .write-name .ensures) (c .before .before .before .before .before .before .before .before .before .before .before .before
+          .before .write-number .ensures) (c .before .before .before .before .before .before .before .before .write-number2 .ensures)
+          (c .before .before .before .before .write-kind .ensures),
+    )
 
 cast-write-sub : tie.Need-cast-write-sub
 cast-write-sub c = search needs
 
 write-sub-requires : tie.Need-write-sub-requires
 write-sub-requires c κs =
-    let s = c .before .before .before .before .before .before .before .before .before .before .before .before .before .before .before .before .before .before .before .before .before .before .before .before .before .before .before .before .before .before in
-    (s .pre .0 .sub, sub-room (s .args .i) (s .args .out .now) (s .args .at) (s .pre .1) (c .before .before .before .before .before .before .before .before .before .before .before .before .before .before .before .before .before .before .before .before .before .before .before .write-name .ensures) (c .before .before .before .before .before .before .before .before .before .before .before .before .before .before .before .before .before .before .write-number .ensures) (c .before .before .before .before .before .before .before .before .before .before .before .before .before .write-number2 .ensures) (c .before .before .before .before .before .before .before .before .before .write-kind .ensures) (c .before .before .before .before .write-digits .ensures))
+    let s = c .before .before .before .before .before .before .before .before .before .before .before .before .before .before .before .before .before .before
+    .before .before .before .before .before .before .before .before .before .before .before .before in (
+      s .pre .0 .sub,
+      sub-room (s .args .i) (s .args .out .now) (s .args .at) (s .pre .1)
+          (c .before .before .before .before .before .before .before .before .before .before .before .before .before .before .before .before .before .before .before
+          .before .before .before .before .write-name .ensures)
+          (c .before .before .before .before .before .before .before .before .before .before .before .before .before .before .before .before .before
+          .before .write-number .ensures)
+          (c .before .before .before .before .before .before .before .before .before .before .before .before .before .write-number2 .ensures)
+          (c .before .before .before .before .before .before .before .before .before .write-kind .ensures) (c .before .before .before .before .write-digits .ensures),
+    )
 
 all-wrote : tie.Need-returns
 all-wrote c =
-    let s = c .before .before .before .before .before .before .before .before .before .before .before .before .before .before .before .before .before .before .before .before .before .before .before .before .before .before .before .before .before .before .before .before .before in
-    instance-wrote (s .args .i) (s .args .out .now) (s .args .at) (s .pre .1) (c .before .before .before .before .before .before .before .before .before .before .before .before .before .before .before .before .before .before .before .before .before .before .before .before .before .before .write-name .ensures) (c .before .before .before .before .before .before .before .before .before .before .before .before .before .before .before .before .before .before .before .before .before .write-number .ensures) (c .before .before .before .before .before .before .before .before .before .before .before .before .before .before .before .before .write-number2 .ensures) (c .before .before .before .before .before .before .before .before .before .before .before .before .write-kind .ensures) (c .before .before .before .before .before .before .before .write-digits .ensures) (c .before .before .write-sub .ensures)
+    let s = c .before .before .before .before .before .before .before .before .before .before .before .before .before .before .before .before .before .before
+    .before .before .before .before .before .before .before .before .before .before .before .before .before .before .before in
+    instance-wrote (s .args .i) (s .args .out .now) (s .args .at) (s .pre .1)
+    (c .before .before .before .before .before .before .before .before .before .before .before .before .before .before .before .before .before .before .before
+    .before .before .before .before .before .before .before .write-name .ensures)
+    (c .before .before .before .before .before .before .before .before .before .before .before .before .before .before .before .before .before .before .before
+    .before .before .write-number .ensures)
+    (c .before .before .before .before .before .before .before .before .before .before .before .before .before .before .before .before .write-number2 .ensures)
+    (c .before .before .before .before .before .before .before .before .before .before .before .before .write-kind .ensures)
+    (c .before .before .before .before .before .before .before .write-digits .ensures) (c .before .before .write-sub .ensures)
 
 same-length : tie.Need-same-length
 same-length c = wrote-length (all-wrote c)

@@ -28,8 +28,11 @@ write-line-requires c κs =
     let a = c .before .before .before .before .before .before .before .before .args in
     let l = c .before .before .before .before .loop in
     let here = c .before .before .before .loop-test .taken in
-    let told = rw (c .before .before .before .before .before .form-one .ensures) at (c .before .before .instance-at .ensures) in
-    (going-counted (a .s .now) (a .from) (a .count) (a .out .now) (a .at) (l .inv .1) here _ told, going-room (a .s .now) (a .from) (a .count) (a .out .now) (a .at) (l .inv .1) here _ told (c .before .before .before .before .before .before .before .before .pre .1))
+    let told = rw (c .before .before .before .before .before .form-one .ensures) at (c .before .before .instance-at .ensures) in (
+      going-counted (a .s .now) (a .from) (a .count) (a .out .now) (a .at) (l .inv .1) here _ told,
+      going-room (a .s .now) (a .from) (a .count) (a .out .now)
+          (a .at) (l .inv .1) here _ told (c .before .before .before .before .before .before .before .before .pre .1),
+    )
 
 add-i : tie.Need-add-i Inv-loop μ-loop
 add-i c = search needs

@@ -31,10 +31,16 @@ refuses-requires-2 c κs = search needs
 returns-2 : tie.Need-returns-2
 returns-2 c =
     let a = c .before .before .before .before .before .before .before .before .args in
-    lists-none (a .s .now) (a .out .now) (omega (arith, listing-octets, c .before .before .before .before .before .if1 .left)) (formed-none (sheetIn form1 _) _ (rw (c .before .before .before .before .form-one .ensures) at (c .before .before .before .sheet-form .ensures)) (not-true _ (c .before .if2 .taken))) _ (c .refuses2 .ensures)
+    lists-none (a .s .now) (a .out .now) (omega (arith, listing-octets, c .before .before .before .before .before .if1 .left))
+    (formed-none (sheetIn form1 _) _ (rw (c .before .before .before .before .form-one .ensures) at (c .before .before .before .sheet-form .ensures))
+    (not-true _ (c .before .if2 .taken))) _ (c .refuses2 .ensures)
 
 write-listing-requires : tie.Need-write-listing-requires
-write-listing-requires c κs = (omega (arith, listing-octets, c .before .before .before .before .before .if1 .left), ap (λ (r : SheetForm). r .ok) (sym (rw (c .before .before .before .before .form-one .ensures) at (c .before .before .before .sheet-form .ensures))) ∙ not-false _ (c .before .if2 .left))
+write-listing-requires c κs = (
+  omega (arith, listing-octets, c .before .before .before .before .before .if1 .left),
+  ap (λ (r : SheetForm). r .ok)
+      (sym (rw (c .before .before .before .before .form-one .ensures) at (c .before .before .before .sheet-form .ensures))) ∙ not-false _ (c .before .if2 .left),
+)
 
 same-length : tie.Need-same-length
 same-length c = wrote-length (c .before .before .write-listing .ensures)
@@ -42,7 +48,11 @@ same-length c = wrote-length (c .before .before .write-listing .ensures)
 returns-3 : tie.Need-returns-3
 returns-3 c =
     let a = c .before .before .before .before .before .before .before .before .before .before .before .args in
-    lists-sheet (a .s .now) (a .out .now) (omega (arith, listing-octets, c .before .before .before .before .before .before .before .before .if1 .left)) (ap (λ (r : SheetForm). r .ok) (sym (rw (c .before .before .before .before .before .before .before .form-one .ensures) at (c .before .before .before .before .before .before .sheet-form .ensures))) ∙ not-false _ (c .before .before .before .before .if2 .left)) (c .before .before .write-listing .ensures)
+    lists-sheet (a .s .now) (a .out .now) (omega (arith, listing-octets, c .before .before .before .before .before .before .before .before .if1 .left))
+    (ap (λ (r : SheetForm). r .ok)
+    (sym (rw (c .before .before .before .before .before .before .before .form-one .ensures) at
+    (c .before .before .before .before .before .before .sheet-form .ensures))) ∙ not-false _ (c .before .before .before .before .if2 .left))
+    (c .before .before .write-listing .ensures)
 
 pub list-sheet-spec : {M : Type 1} → statement M
 list-sheet-spec =

@@ -34,10 +34,18 @@ same-length c = search needs
 returns-2 : tie.Need-returns-2
 returns-2 c =
     let a = c .before .before .before .before .before .before .before .before .before .before .before .before .args in
-    prints-none (a .s .now) (a .out .now) (omega (arith, listing-octets, c .before .before .before .before .before .before .before .before .before .if1 .left)) (formed-none (sheetIn form1 _) _ (rw (c .before .before .before .before .before .before .before .before .form-one .ensures) at (c .before .before .before .before .before .before .before .sheet-form .ensures)) (not-true _ (c .before .before .before .before .before .if2 .taken))) (c .before .before .put-all .ensures)
+    prints-none (a .s .now) (a .out .now) (omega (arith, listing-octets, c .before .before .before .before .before .before .before .before .before .if1 .left))
+    (formed-none (sheetIn form1 _) _
+    (rw (c .before .before .before .before .before .before .before .before .form-one .ensures) at
+    (c .before .before .before .before .before .before .before .sheet-form .ensures)) (not-true _ (c .before .before .before .before .before .if2 .taken)))
+    (c .before .before .put-all .ensures)
 
 write-listing-requires : tie.Need-write-listing-requires
-write-listing-requires c κs = (omega (arith, listing-octets, c .before .before .before .before .before .if1 .left), ap (λ (r : SheetForm). r .ok) (sym (rw (c .before .before .before .before .form-one .ensures) at (c .before .before .before .sheet-form .ensures))) ∙ not-false _ (c .before .if2 .left))
+write-listing-requires c κs = (
+  omega (arith, listing-octets, c .before .before .before .before .before .if1 .left),
+  ap (λ (r : SheetForm). r .ok)
+      (sym (rw (c .before .before .before .before .form-one .ensures) at (c .before .before .before .sheet-form .ensures))) ∙ not-false _ (c .before .if2 .left),
+)
 
 same-length-2 : tie.Need-same-length-2
 same-length-2 c = wrote-length (c .before .before .write-listing .ensures)
@@ -45,7 +53,11 @@ same-length-2 c = wrote-length (c .before .before .write-listing .ensures)
 returns-3 : tie.Need-returns-3
 returns-3 c =
     let a = c .before .before .before .before .before .before .before .before .before .before .before .args in
-    prints-sheet (a .s .now) (a .out .now) (omega (arith, listing-octets, c .before .before .before .before .before .before .before .before .if1 .left)) (ap (λ (r : SheetForm). r .ok) (sym (rw (c .before .before .before .before .before .before .before .form-one .ensures) at (c .before .before .before .before .before .before .sheet-form .ensures))) ∙ not-false _ (c .before .before .before .before .if2 .left)) (c .before .before .write-listing .ensures)
+    prints-sheet (a .s .now) (a .out .now) (omega (arith, listing-octets, c .before .before .before .before .before .before .before .before .if1 .left))
+    (ap (λ (r : SheetForm). r .ok)
+    (sym (rw (c .before .before .before .before .before .before .before .form-one .ensures) at
+    (c .before .before .before .before .before .before .sheet-form .ensures))) ∙ not-false _ (c .before .before .before .before .if2 .left))
+    (c .before .before .write-listing .ensures)
 
 pub print-sheet-spec : {M : Type 1} → statement M
 print-sheet-spec =

@@ -13,18 +13,28 @@ opening-of-requires c κs = search needs
 write-header-requires : tie.Need-write-header-requires
 write-header-requires c κs =
     let a = c .before .before .before .before .before .args in
-    header-room (a .s .now) (c .before .before .before .before .before .pre .1) _ (rw (c .before .before .form-one .ensures) at (c .before .opening-of .ensures)) (a .out .now) (c .before .before .before .before .before .pre .0)
+    header-room (a .s .now) (c .before .before .before .before .before .pre .1) _ (rw (c .before .before .form-one .ensures) at (c .before .opening-of .ensures))
+    (a .out .now) (c .before .before .before .before .before .pre .0)
 
 write-lines-requires : tie.Need-write-lines-requires
 write-lines-requires c κs =
     let a = c .before .before .before .before .before .before .before .before .before .args in
-    let told = rw (c .before .before .before .before .before .before .form-one .ensures) at (c .before .before .before .before .before .opening-of .ensures) in
-    (lines-there (a .s .now) (c .before .before .before .before .before .before .before .before .before .pre .1) _ told (a .out .now) (c .before .before .before .before .before .before .before .before .before .pre .0), lines-room (a .s .now) (c .before .before .before .before .before .before .before .before .before .pre .1) _ told (a .out .now) (c .before .before .before .before .before .before .before .before .before .pre .0) (c .before .before .before .write-header .ensures))
+    let told = rw (c .before .before .before .before .before .before .form-one .ensures) at (c .before .before .before .before .before .opening-of .ensures) in (
+      lines-there (a .s .now) (c .before .before .before .before .before .before .before .before .before .pre .1) _ told (a .out .now)
+          (c .before .before .before .before .before .before .before .before .before .pre .0),
+      lines-room (a .s .now)
+          (c .before .before .before .before .before .before .before .before .before .pre .1) _ told (a .out .now)
+          (c .before .before .before .before .before .before .before .before .before .pre .0) (c .before .before .before .write-header .ensures),
+    )
 
 all-wrote : tie.Need-returns
 all-wrote c =
     let a = c .before .before .before .before .before .before .before .before .before .before .before .before .args in
-    listing-wrote (a .s .now) (c .before .before .before .before .before .before .before .before .before .before .before .before .pre .1) _ (rw (c .before .before .before .before .before .before .before .before .before .form-one .ensures) at (c .before .before .before .before .before .before .before .before .opening-of .ensures)) (a .out .now) (c .before .before .before .before .before .before .before .before .before .before .before .before .pre .0) (c .before .before .before .before .before .before .write-header .ensures) (c .before .before .write-lines .ensures)
+    listing-wrote (a .s .now) (c .before .before .before .before .before .before .before .before .before .before .before .before .pre .1) _
+    (rw (c .before .before .before .before .before .before .before .before .before .form-one .ensures) at
+    (c .before .before .before .before .before .before .before .before .opening-of .ensures)) (a .out .now)
+    (c .before .before .before .before .before .before .before .before .before .before .before .before .pre .0)
+    (c .before .before .before .before .before .before .write-header .ensures) (c .before .before .write-lines .ensures)
 
 same-length : tie.Need-same-length
 same-length c = wrote-length (all-wrote c)

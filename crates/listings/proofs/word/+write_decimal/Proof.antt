@@ -65,7 +65,11 @@ write-decimal-write-decimal-requires : (t : ℕ) → write-decimal-lts.Need-writ
   write-decimal-below t,
   write-decimal.Post,
 ) (write-decimal-at t) write-decimal.Post
-write-decimal-write-decimal-requires t c κs = (omega (arith, c .before .if1 .left, c .before .before .before .pre .0), digits-room (c .before .before .before .args .n) (c .before .if1 .left) (omega (arith, c .before .before .before .fits .n)) _ _ (c .before .before .before .pre .1))
+write-decimal-write-decimal-requires t c κs = (
+  omega (arith, c .before .if1 .left, c .before .before .before .pre .0),
+  digits-room (c .before .before .before .args .n) (c .before .if1 .left)
+      (omega (arith, c .before .before .before .fits .n)) _ _ (c .before .before .before .pre .1),
+)
 
 write-decimal-cast-out-2 : (t : ℕ) → write-decimal-lts.Need-cast-out-2 (
   write-decimal-below t,
@@ -83,13 +87,22 @@ write-decimal-slice-write-out-2 : (t : ℕ) → write-decimal-lts.Need-slice-wri
   write-decimal-below t,
   write-decimal.Post,
 ) (write-decimal-at t) write-decimal.Post
-write-decimal-slice-write-out-2 t c = digits-next (c .before .before .before .before .before .before .args .n) (c .before .before .before .before .if1 .left) (omega (arith, c .before .before .before .before .before .before .fits .n)) (c .before .before .write-decimal .ensures) (c .before .before .before .before .before .before .pre .1)
+write-decimal-slice-write-out-2 t c =
+    digits-next (c .before .before .before .before .before .before .args .n) (c .before .before .before .before .if1 .left)
+    (omega (arith, c .before .before .before .before .before .before .fits .n)) (c .before .before .write-decimal .ensures)
+    (c .before .before .before .before .before .before .pre .1)
 
 write-decimal-add-result-2 : (t : ℕ) → write-decimal-lts.Need-add-result-2 (
   write-decimal-below t,
   write-decimal.Post,
 ) (write-decimal-at t) write-decimal.Post
-write-decimal-add-result-2 t c = omega (arith, digits-next (c .before .before .before .before .before .before .args .n) (c .before .before .before .before .if1 .left) (omega (arith, c .before .before .before .before .before .before .fits .n)) (c .before .before .write-decimal .ensures) (c .before .before .before .before .before .before .pre .1))
+write-decimal-add-result-2 t c =
+    omega (
+      arith,
+      digits-next (c .before .before .before .before .before .before .args .n) (c .before .before .before .before .if1 .left)
+          (omega (arith, c .before .before .before .before .before .before .fits .n)) (c .before .before .write-decimal .ensures)
+          (c .before .before .before .before .before .before .pre .1),
+    )
 
 write-decimal-same-length-2 : (t : ℕ) → write-decimal-lts.Need-same-length-2 (
   write-decimal-below t,
@@ -101,7 +114,9 @@ write-decimal-returns-2 : (t : ℕ) → write-decimal-lts.Need-returns-2 (
   write-decimal-below t,
   write-decimal.Post,
 ) (write-decimal-at t) write-decimal.Post
-write-decimal-returns-2 t c = digits-wrote (c .before .before .before .before .before .before .args .n) (c .before .before .before .before .if1 .left) (omega (arith, c .before .before .before .before .before .before .fits .n)) (c .before .before .write-decimal .ensures)
+write-decimal-returns-2 t c =
+    digits-wrote (c .before .before .before .before .before .before .args .n) (c .before .before .before .before .if1 .left)
+    (omega (arith, c .before .before .before .before .before .before .fits .n)) (c .before .before .write-decimal .ensures)
 
 pub +write-decimal-spec : {M : Type 1} → statement M
 +write-decimal-spec = close μ-write-decimal λ t. write-decimal-lts.spec (

@@ -39,8 +39,12 @@ loop-again : tie.Need-loop-again Inv-loop μ-loop
 loop-again c =
     let l = c .before .before .before .before .before .loop in
     let s = c .before .before .before .before .before .before .before in
-    let long : length (s .args .t3) ≡ most = search (needs, s .good) in
-    (omega (arith, c .before .before .before .before .loop-test .taken), search needs, come-next _ _ _ (l .inv .2) (s .args .count) (c .before .before .before .before .loop-test .taken) (omega (arith, s .pre .0)) (c .before .before .write-pair .ensures))
+    let long : length (s .args .t3) ≡ most = search (needs, s .good) in (
+      omega (arith, c .before .before .before .before .loop-test .taken),
+      search needs,
+      come-next _ _ _ (l .inv .2) (s .args .count)
+          (c .before .before .before .before .loop-test .taken) (omega (arith, s .pre .0)) (c .before .before .write-pair .ensures),
+    )
 
 same-length : tie.Need-same-length Inv-loop μ-loop
 same-length c = search needs

@@ -14,7 +14,9 @@ same-length : tie.Need-same-length
 same-length c = search needs
 
 returns : tie.Need-returns
-returns c = text-wrote _ (kind-unknown _ _ (c .before .before .before .before .before .if1 .taken)) (c .before .before .before .before .before .before .before .pre) (c .before .before .put-all .ensures)
+returns c =
+    text-wrote _ (kind-unknown _ _ (c .before .before .before .before .before .if1 .taken)) (c .before .before .before .before .before .before .before .pre)
+    (c .before .before .put-all .ensures)
 
 slice-write-out : tie.Need-slice-write-out
 slice-write-out c = kind-first _ _ (c .if1 .left) _ _ (c .before .before .pre)

@@ -25,7 +25,9 @@ same-length-2 : tie.Need-same-length-2
 same-length-2 c = search needs
 
 returns-2 : tie.Need-returns-2
-returns-2 c = text-wrote _ (name-cfb _ (c .before .before .before .before .before .before .if1 .left) (c .before .before .before .before .before .if2 .taken)) (c .before .before .before .before .before .before .before .before .pre) (c .before .before .put-all2 .ensures)
+returns-2 c =
+    text-wrote _ (name-cfb _ (c .before .before .before .before .before .before .if1 .left) (c .before .before .before .before .before .if2 .taken))
+    (c .before .before .before .before .before .before .before .before .pre) (c .before .before .put-all2 .ensures)
 
 slice-aggregate-put-all-3 : tie.Need-slice-aggregate-put-all-3
 slice-aggregate-put-all-3 c = search needs
@@ -37,7 +39,9 @@ same-length-3 : tie.Need-same-length-3
 same-length-3 c = search needs
 
 returns-3 : tie.Need-returns-3
-returns-3 c = text-wrote _ (name-cfnr _ (c .before .before .before .before .before .before .if1 .left) (c .before .before .before .before .before .if2 .left)) (c .before .before .before .before .before .before .before .before .pre) (c .before .before .put-all3 .ensures)
+returns-3 c =
+    text-wrote _ (name-cfnr _ (c .before .before .before .before .before .before .if1 .left) (c .before .before .before .before .before .if2 .left))
+    (c .before .before .before .before .before .before .before .before .pre) (c .before .before .put-all3 .ensures)
 
 pub write-name-spec : {M : Type 1} → statement M
 write-name-spec =

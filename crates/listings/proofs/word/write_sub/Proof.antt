@@ -16,16 +16,29 @@ same-length : tie.Need-same-length
 same-length c = search needs
 
 returns : tie.Need-returns
-returns c = text-wrote _ (sub-none _ _ (c .before .before .before .before .before .if1 .taken)) (c .before .before .before .before .before .before .before .pre .1) (c .before .before .put-all .ensures)
+returns c =
+    text-wrote _ (sub-none _ _ (c .before .before .before .before .before .if1 .taken)) (c .before .before .before .before .before .before .before .pre .1)
+    (c .before .before .put-all .ensures)
 
 write-hex-requires : tie.Need-write-hex-requires
-write-hex-requires c κs = (c .before .before .before .pre .0, word-room (hexText (take (c .before .before .before .args .count) (c .before .before .before .args .octets))) 10 _ _ (rw (sub-some _ _ (c .before .if1 .left)) at (c .before .before .before .pre .1)))
+write-hex-requires c κs = (
+  c .before .before .before .pre .0,
+  word-room (hexText (take (c .before .before .before .args .count) (c .before .before .before .args .octets))) 10 _ _
+      (rw (sub-some _ _ (c .before .if1 .left)) at (c .before .before .before .pre .1)),
+)
 
 slice-write-out : tie.Need-slice-write-out
-slice-write-out c = mark-room 10 (rw (sub-some _ _ (c .before .before .before .before .if1 .left)) at (c .before .before .before .before .before .before .pre .1)) (c .before .before .write-hex .ensures)
+slice-write-out c =
+    mark-room 10 (rw (sub-some _ _ (c .before .before .before .before .if1 .left)) at (c .before .before .before .before .before .before .pre .1))
+    (c .before .before .write-hex .ensures)
 
 add-result : tie.Need-add-result
-add-result c = omega (arith, mark-room 10 (rw (sub-some _ _ (c .before .before .before .before .if1 .left)) at (c .before .before .before .before .before .before .pre .1)) (c .before .before .write-hex .ensures))
+add-result c =
+    omega (
+      arith,
+      mark-room 10 (rw (sub-some _ _ (c .before .before .before .before .if1 .left)) at (c .before .before .before .before .before .before .pre .1))
+          (c .before .before .write-hex .ensures),
+    )
 
 same-length-2 : tie.Need-same-length-2
 same-length-2 c = search needs

@@ -37,7 +37,9 @@ write-above-requires c κs =
     let long : length (a .number .digits) ≡ most = search (needs, s .good .1 .1 .0) in (
       good-number (a .number) (good-address a (s .pre .0) .number) .few,
       digits-above a (s .pre .0) long,
-      digits-room a (s .pre .1) (c .before .before .before .before .before .before .before .before .before .before .before .before .before .before .put-groups .ensures) (c .before .before .before .before .before .before .before .before .before .put-groups2 .ensures) (c .before .before .before .before .put-groups3 .ensures),
+      digits-room a (s .pre .1) (c .before .before .before .before .before .before .before .before .before .before .before .before .before
+          .before .put-groups .ensures) (c .before .before .before .before .before .before .before .before .before .put-groups2 .ensures)
+          (c .before .before .before .before .put-groups3 .ensures),
     )
 
 cast-put-groups-4 : tie.Need-cast-put-groups-4
@@ -51,17 +53,31 @@ cast-write-above-2 c = search needs
 
 write-above-requires-2 : tie.Need-write-above-requires-2
 write-above-requires-2 c κs =
-    let s = c .before .before .before .before .before .before .before .before .before .before .before .before .before .before .before .before .before .before .before .before .before .before .before .before .before .before .before .before .before .before .before in
+    let s = c .before .before .before .before .before .before .before .before .before .before .before .before .before .before .before .before .before .before
+    .before .before .before .before .before .before .before .before .before .before .before .before .before in
     let a = s .args .address in (
       good-address a (s .pre .0) .few,
       (λ i lt. omega arith),
-      sub-room a (s .pre .1) (c .before .before .before .before .before .before .before .before .before .before .before .before .before .before .before .before .before .before .before .before .before .before .before .before .put-groups .ensures) (c .before .before .before .before .before .before .before .before .before .before .before .before .before .before .before .before .before .before .before .put-groups2 .ensures) (c .before .before .before .before .before .before .before .before .before .before .before .before .before .before .put-groups3 .ensures) (c .before .before .before .before .before .before .before .before .before .write-above .ensures) (c .before .before .before .before .put-groups4 .ensures),
+      sub-room a (s .pre .1) (c .before .before .before .before .before .before .before .before .before .before .before .before .before .before .before .before
+          .before .before .before .before .before .before .before .before .put-groups .ensures)
+          (c .before .before .before .before .before .before .before .before .before .before .before .before .before .before .before .before .before .before
+          .before .put-groups2 .ensures)
+          (c .before .before .before .before .before .before .before .before .before .before .before .before .before .before .put-groups3 .ensures)
+          (c .before .before .before .before .before .before .before .before .before .write-above .ensures) (c .before .before .before .before .put-groups4 .ensures),
     )
 
 all-wrote : tie.Need-returns
 all-wrote c =
-    let s = c .before .before .before .before .before .before .before .before .before .before .before .before .before .before .before .before .before .before .before .before .before .before .before .before .before .before .before .before .before .before .before .before .before .before in
-    address-wrote (s .args .address) (s .pre .1) (c .before .before .before .before .before .before .before .before .before .before .before .before .before .before .before .before .before .before .before .before .before .before .before .before .before .before .before .put-groups .ensures) (c .before .before .before .before .before .before .before .before .before .before .before .before .before .before .before .before .before .before .before .before .before .before .put-groups2 .ensures) (c .before .before .before .before .before .before .before .before .before .before .before .before .before .before .before .before .before .put-groups3 .ensures) (c .before .before .before .before .before .before .before .before .before .before .before .before .write-above .ensures) (c .before .before .before .before .before .before .before .put-groups4 .ensures) (c .before .before .write-above2 .ensures)
+    let s = c .before .before .before .before .before .before .before .before .before .before .before .before .before .before .before .before .before .before
+    .before .before .before .before .before .before .before .before .before .before .before .before .before .before .before .before in
+    address-wrote (s .args .address) (s .pre .1)
+    (c .before .before .before .before .before .before .before .before .before .before .before .before .before .before .before .before .before .before .before
+    .before .before .before .before .before .before .before .before .put-groups .ensures)
+    (c .before .before .before .before .before .before .before .before .before .before .before .before .before .before .before .before .before .before .before
+    .before .before .before .put-groups2 .ensures)
+    (c .before .before .before .before .before .before .before .before .before .before .before .before .before .before .before .before
+    .before .put-groups3 .ensures) (c .before .before .before .before .before .before .before .before .before .before .before .before .write-above .ensures)
+    (c .before .before .before .before .before .before .before .put-groups4 .ensures) (c .before .before .write-above2 .ensures)
 
 same-length : tie.Need-same-length
 same-length c = wrote-length (all-wrote c)

@@ -42,7 +42,9 @@ write-address-requires c κs =
     let a = s .args in
     let some = c .before .before .before .before .before .before .before .before .before .before .before .before .before .before .before .if1 .left in (
       s .pre .2 .address some,
-      cell-room (a .procedure) (a .number) (a .x) some (fits s some) (s .pre .3) (c .before .before .before .before .before .before .before .before .before .before .before .before .put-groups .ensures) (c .before .before .before .before .before .before .before .before .put-groups2 .ensures) (c .before .before .before .put-groups3 .ensures),
+      cell-room (a .procedure) (a .number) (a .x) some (fits s some) (s .pre .3)
+          (c .before .before .before .before .before .before .before .before .before .before .before .before .put-groups .ensures)
+          (c .before .before .before .before .before .before .before .before .put-groups2 .ensures) (c .before .before .before .put-groups3 .ensures),
     )
 
 instance-wrote : tie.Need-returns-2
@@ -50,7 +52,10 @@ instance-wrote c =
     let s = c .before .before .before .before .before .before .before .before .before .before .before .before .before .before .before .before .before .before .before .before .before in
     let a = s .args in
     let some = c .before .before .before .before .before .before .before .before .before .before .before .before .before .before .before .before .before .before .if1 .left in
-    cell-wrote (a .procedure) (a .number) (a .x) some (fits s some) (s .pre .3) (c .before .before .before .before .before .before .before .before .before .before .before .before .before .before .before .put-groups .ensures) (c .before .before .before .before .before .before .before .before .before .before .before .put-groups2 .ensures) (c .before .before .before .before .before .before .put-groups3 .ensures) (c .before .before .write-address .ensures)
+    cell-wrote (a .procedure) (a .number) (a .x) some (fits s some) (s .pre .3)
+    (c .before .before .before .before .before .before .before .before .before .before .before .before .before .before .before .put-groups .ensures)
+    (c .before .before .before .before .before .before .before .before .before .before .before .put-groups2 .ensures)
+    (c .before .before .before .before .before .before .put-groups3 .ensures) (c .before .before .write-address .ensures)
 
 same-length : tie.Need-same-length
 same-length c = wrote-length (instance-wrote c .holds)

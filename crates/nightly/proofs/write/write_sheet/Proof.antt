@@ -68,10 +68,14 @@ room c = omega (arith, c .before .before .before .before .before .before .if1 .l
 ok : (c : tie.Else3) → accessRead (c .before .before .before .before .before .before .before .before .before .args .access .now) .ok ≡ true
 ok c = ap (λ (r : AccessRead). r .ok) (sym (c .before .before .before .before .before .read-access .ensures)) ∙ not-false _ (c .before .before .before .if2 .left)
 
-good : (c : tie.Else3) → tableGood instancesMost (accessRead (c .before .before .before .before .before .before .before .before .before .args .access .now) .profile) (c .before .before .before .before .before .before .before .before .before .args .table) ≡ true
+good :
+    (c : tie.Else3) → tableGood instancesMost (accessRead (c .before .before .before .before .before .before .before .before .before .args .access .now) .profile)
+    (c .before .before .before .before .before .before .before .before .before .args .table) ≡ true
 good c = rw (c .before .before .before .before .before .read-access .ensures) at (sym (c .before .good2 .ensures) ∙ not-false _ (c .if3 .left))
 
-fit : (c : tie.Else3) → Ready (c .before .before .before .before .before .before .before .before .before .args .table) (c .before .before .before .before .before .before .before .before .before .args .out .now)
+fit :
+    (c : tie.Else3) → Ready (c .before .before .before .before .before .before .before .before .before .args .table)
+    (c .before .before .before .before .before .before .before .before .before .args .out .now)
 fit c =
     let a = c .before .before .before .before .before .before .before .before .before .args in
     ready (a .access .now) (a .table) (a .out .now) (room c) (ok c) (good c)
@@ -95,31 +99,59 @@ put-groups-requires-2 : tie.Need-put-groups-requires-2
 put-groups-requires-2 c κs = search needs
 
 cast-put-groups-3 : tie.Need-cast-put-groups-3
-cast-put-groups-3 c = omega (arith, c .before .before .before .before .before .before .before .before .before .before .before .before .instance-count .ensures, fit (c .before .before .before .before .before .before .before .before .before .before .before .before .before .before) .few)
+cast-put-groups-3 c =
+    omega (
+      arith,
+      c .before .before .before .before .before .before .before .before .before .before .before .before .instance-count .ensures,
+      fit
+          (c .before .before .before .before .before .before .before .before .before .before .before .before .before .before) .few,
+    )
 
 put-groups-requires-3 : tie.Need-put-groups-requires-3
 put-groups-requires-3 c κs = search needs
 
 write-grid-requires : tie.Need-write-grid-requires
 write-grid-requires c κs =
-    let t = c .before .before .before .before .before .before .before .before .before .before .before .before .before .before .before .before .before .before .before .before .before .before .before .before .before .before .before .args .table in
+    let t = c .before .before .before .before .before .before .before .before .before .before .before .before .before .before .before .before .before .before
+    .before .before .before .before .before .before .before .before .before .args .table in
     let f = fit (c .before .before .before .before .before .before .before .before .before .before .before .before .before .before .before .before .before .before) in (
       f .writable,
-      sheet-space form1 (t .last) (instancesOf (t .grid)) (omega arith) (f .last) (f .few) (f .space) (rw (c .before .before .before .before .before .before .before .before .before .before .before .before .before .before .before .form-one .ensures) at (c .before .before .before .before .before .before .before .before .before .before .before .before .put-groups .ensures)) (c .before .before .before .before .before .before .before .put-groups2 .ensures) (rw (c .before .before .before .before .before .before .before .before .before .before .before .before .before .before .before .before .instance-count .ensures) at (c .before .before .before .put-groups3 .ensures)),
+      sheet-space form1 (t .last) (instancesOf (t .grid)) (omega arith) (f .last) (f .few) (f .space)
+          (rw (c .before .before .before .before .before .before .before .before .before .before .before .before .before .before .before .form-one .ensures) at
+          (c .before .before .before .before .before .before .before .before .before .before .before .before .put-groups .ensures))
+          (c .before .before .before .before .before .before .before .put-groups2 .ensures)
+          (rw (c .before .before .before .before .before .before .before .before .before .before .before .before .before .before .before
+          .before .instance-count .ensures) at (c .before .before .before .put-groups3 .ensures)),
     )
 
-wrote-sheet : (c : tie.After-slice-known5) → Wrote (c .before .before .before .before .before .before .before .before .before .before .before .before .before .before .before .before .before .before .before .before .before .before .before .before .before .before .before .before .before .before .args .out .now) 0 (sheetOctets form1 (c .before .before .before .before .before .before .before .before .before .before .before .before .before .before .before .before .before .before .before .before .before .before .before .before .before .before .before .before .before .before .args .table .last) (instancesOf (c .before .before .before .before .before .before .before .before .before .before .before .before .before .before .before .before .before .before .before .before .before .before .before .before .before .before .before .before .before .before .args .table .grid))) (c .before .before .write-grid .result) (c .before .before .write-grid .last .0)
+wrote-sheet :
+    (c : tie.After-slice-known5) → Wrote
+    (c .before .before .before .before .before .before .before .before .before .before .before .before .before .before .before .before .before .before .before
+    .before .before .before .before .before .before .before .before .before .before .before .args .out .now) 0
+    (sheetOctets form1 (c .before .before .before .before .before .before .before .before .before .before .before .before .before .before .before .before .before
+    .before .before .before .before .before .before .before .before .before .before .before .before .before .args .table .last)
+    (instancesOf (c .before .before .before .before .before .before .before .before .before .before .before .before .before .before .before .before .before .before
+    .before .before .before .before .before .before .before .before .before .before .before .before .args .table .grid))) (c .before .before .write-grid .result)
+    (c .before .before .write-grid .last .0)
 wrote-sheet c =
-    let t = c .before .before .before .before .before .before .before .before .before .before .before .before .before .before .before .before .before .before .before .before .before .before .before .before .before .before .before .before .before .before .args .table in
+    let t = c .before .before .before .before .before .before .before .before .before .before .before .before .before .before .before .before .before .before
+    .before .before .before .before .before .before .before .before .before .before .before .before .args .table in
     let f = fit (c .before .before .before .before .before .before .before .before .before .before .before .before .before .before .before .before .before .before .before .before .before) in
-    sheet-wrote form1 (t .last) (instancesOf (t .grid)) (omega arith) (f .last) (f .few) (f .space) (rw (c .before .before .before .before .before .before .before .before .before .before .before .before .before .before .before .before .before .before .form-one .ensures) at (c .before .before .before .before .before .before .before .before .before .before .before .before .before .before .before .put-groups .ensures)) (c .before .before .before .before .before .before .before .before .before .before .put-groups2 .ensures) (rw (c .before .before .before .before .before .before .before .before .before .before .before .before .before .before .before .before .before .before .before .instance-count .ensures) at (c .before .before .before .before .before .before .put-groups3 .ensures)) (c .before .before .write-grid .ensures)
+    sheet-wrote form1 (t .last) (instancesOf (t .grid)) (omega arith) (f .last) (f .few) (f .space)
+    (rw (c .before .before .before .before .before .before .before .before .before .before .before .before .before .before .before .before .before
+    .before .form-one .ensures) at
+    (c .before .before .before .before .before .before .before .before .before .before .before .before .before .before .before .put-groups .ensures))
+    (c .before .before .before .before .before .before .before .before .before .before .put-groups2 .ensures)
+    (rw (c .before .before .before .before .before .before .before .before .before .before .before .before .before .before .before .before .before .before
+    .before .instance-count .ensures) at (c .before .before .before .before .before .before .put-groups3 .ensures)) (c .before .before .write-grid .ensures)
 
 same-length : tie.Need-same-length
 same-length c = wrote-length (wrote-sheet c)
 
 returns-4 : tie.Need-returns-4
 returns-4 c =
-    let a = c .before .before .before .before .before .before .before .before .before .before .before .before .before .before .before .before .before .before .before .before .before .before .before .before .before .before .before .before .before .before .args in
+    let a = c .before .before .before .before .before .before .before .before .before .before .before .before .before .before .before .before .before .before
+    .before .before .before .before .before .before .before .before .before .before .before .before .args in
     let e = c .before .before .before .before .before .before .before .before .before .before .before .before .before .before .before .before .before .before .before .before .before in
     sheet-writes (a .access .now) (a .table) (a .out .now) _ _
     (writes-sheet (a .access .now) (a .table) (length (a .out .now)) (room e) (ok e) (good e))

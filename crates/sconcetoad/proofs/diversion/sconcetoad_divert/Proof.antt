@@ -37,7 +37,8 @@ returns-2 c =
 returns-3 : tie.Need-returns-3
 returns-3 c =
     let a = c .before .before .before .before .before .before .before .before .before .args in
-    diverts-told (a .access .now) (a .table) (a .call .now) _ (c .before .before .before .before .before .before .divert .ensures) _ _ (c .before .before .before .outcome2 .given .1) _ _ (c .before .reason-no .ensures) (c .notice-no .ensures)
+    diverts-told (a .access .now) (a .table) (a .call .now) _ (c .before .before .before .before .before .before .divert .ensures) _ _
+    (c .before .before .before .outcome2 .given .1) _ _ (c .before .reason-no .ensures) (c .notice-no .ensures)
 
 pub sconcetoad-divert-spec : {M : Type 1} → statement M
 sconcetoad-divert-spec =

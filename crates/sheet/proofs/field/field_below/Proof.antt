@@ -13,16 +13,26 @@ no-field-requires : tie.Need-no-field-requires
 no-field-requires c κs = search needs
 
 returns : tie.Need-returns
-returns c = let a = c .before .before .before .before .before .args in rw (below-none (a .s .now) (a .at) (a .below) (field-none (anyField _ _) _ (c .before .before .before .field-at .ensures) (not-true _ (c .before .if1 .taken)))) (c .no-field .ensures)
+returns c =
+    let a = c .before .before .before .before .before .args in
+    rw (below-none (a .s .now) (a .at) (a .below)
+    (field-none (anyField _ _) _ (c .before .before .before .field-at .ensures) (not-true _ (c .before .if1 .taken)))) (c .no-field .ensures)
 
 no-field-requires-2 : tie.Need-no-field-requires-2
 no-field-requires-2 c κs = search needs
 
 returns-2 : tie.Need-returns-2
-returns-2 c = let a = c .before .before .before .before .before .before .args in rw (below-not (a .s .now) (a .at) (a .below) _ _ (field-found (anyField _ _) _ (c .before .before .before .before .field-at .ensures) (not-false _ (c .before .before .if1 .left))) (c .before .if2 .taken)) (c .no-field2 .ensures)
+returns-2 c =
+    let a = c .before .before .before .before .before .before .args in
+    rw (below-not (a .s .now) (a .at) (a .below) _ _
+    (field-found (anyField _ _) _ (c .before .before .before .before .field-at .ensures) (not-false _ (c .before .before .if1 .left))) (c .before .if2 .taken))
+    (c .no-field2 .ensures)
 
 returns-3 : tie.Need-returns-3
-returns-3 c = let a = c .before .before .before .before .before .args in let found = field-found (anyField _ _) _ (c .before .before .before .field-at .ensures) (not-false _ (c .before .if1 .left)) in c .before .before .before .field-at .ensures ∙ ap fieldRead (found ∙ sym (below-is (a .s .now) (a .at) (a .below) _ _ found (c .if2 .left)))
+returns-3 c =
+    let a = c .before .before .before .before .before .args in
+    let found = field-found (anyField _ _) _ (c .before .before .before .field-at .ensures) (not-false _ (c .before .if1 .left)) in
+    c .before .before .before .field-at .ensures ∙ ap fieldRead (found ∙ sym (below-is (a .s .now) (a .at) (a .below) _ _ found (c .if2 .left)))
 
 pub field-below-spec : {M : Type 1} → statement M
 field-below-spec =

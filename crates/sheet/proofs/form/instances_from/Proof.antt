@@ -28,7 +28,12 @@ not-passed-requires : tie.Need-not-passed-requires Inv-loop μ-loop
 not-passed-requires c κs = search needs
 
 returns : tie.Need-returns Inv-loop μ-loop
-returns c = let a = c .before .before .before .before .before .before .before .before .args in let l = c .before .before .before .before .before .loop in let none = instance-none (instanceFrom (a .f) _ _) _ (c .before .before .before .instance-at .ensures) (not-true _ (c .before .if1 .taken)) in rw (going-wrong (a .f) (a .s .now) (a .at) (a .count) (l .last) (l .run) (l .here) (l .i) (l .inv) (c .before .before .before .before .loop-test .taken) none) (c .not-passed .ensures)
+returns c =
+    let a = c .before .before .before .before .before .before .before .before .args in
+    let l = c .before .before .before .before .before .loop in
+    let none = instance-none (instanceFrom (a .f) _ _) _ (c .before .before .before .instance-at .ensures) (not-true _ (c .before .if1 .taken)) in
+    rw (going-wrong (a .f) (a .s .now) (a .at) (a .count) (l .last) (l .run) (l .here) (l .i) (l .inv) (c .before .before .before .before .loop-test .taken) none)
+    (c .not-passed .ensures)
 
 may-follow-requires : tie.Need-may-follow-requires Inv-loop μ-loop
 may-follow-requires c κs = search needs
@@ -37,10 +42,20 @@ not-passed-requires-2 : tie.Need-not-passed-requires-2 Inv-loop μ-loop
 not-passed-requires-2 c κs = search needs
 
 returns-2 : tie.Need-returns-2 Inv-loop μ-loop
-returns-2 c = let a = c .before .before .before .before .before .before .before .before .before .before .before .args in let l = c .before .before .before .before .before .before .before .before .loop in let found = instance-found (instanceFrom (a .f) _ _) _ (c .before .before .before .before .before .before .instance-at .ensures) (not-false _ (c .before .before .before .before .if1 .left)) in rw (going-out (a .f) (a .s .now) (a .at) (a .count) (l .last) (l .run) (l .here) (l .i) (l .inv) (c .before .before .before .before .before .before .before .loop-test .taken) _ _ found (sym (c .before .before .may-follow .ensures) ∙ not-true _ (c .before .if2 .taken))) (c .not-passed2 .ensures)
+returns-2 c =
+    let a = c .before .before .before .before .before .before .before .before .before .before .before .args in
+    let l = c .before .before .before .before .before .before .before .before .loop in
+    let found = instance-found (instanceFrom (a .f) _ _) _ (c .before .before .before .before .before .before .instance-at .ensures)
+    (not-false _ (c .before .before .before .before .if1 .left)) in
+    rw (going-out (a .f) (a .s .now) (a .at) (a .count) (l .last) (l .run) (l .here) (l .i) (l .inv)
+    (c .before .before .before .before .before .before .before .loop-test .taken) _ _ found
+    (sym (c .before .before .may-follow .ensures) ∙ not-true _ (c .before .if2 .taken))) (c .not-passed2 .ensures)
 
 run-with-requires : tie.Need-run-with-requires Inv-loop μ-loop
-run-with-requires c κs = let a = c .before .before .before .before .before .before .before .before .before .before .args in let few : a .f .perprocedure ≤ 255 = search (needs, c .before .before .before .before .before .before .before .before .before .before .good) in run-within (a .f) 255 (omega arith) few _ _ _ (sym (c .before .may-follow .ensures) ∙ not-false _ (c .if2 .left))
+run-with-requires c κs =
+    let a = c .before .before .before .before .before .before .before .before .before .before .args in
+    let few : a .f .perprocedure ≤ 255 = search (needs, c .before .before .before .before .before .before .before .before .before .before .good) in
+    run-within (a .f) 255 (omega arith) few _ _ _ (sym (c .before .may-follow .ensures) ∙ not-false _ (c .if2 .left))
 
 add-i : tie.Need-add-i Inv-loop μ-loop
 add-i c = search needs
@@ -49,10 +64,20 @@ loop-less : tie.Need-loop-less Inv-loop μ-loop
 loop-less c = search needs
 
 loop-again : tie.Need-loop-again Inv-loop μ-loop
-loop-again c = let a = c .before .before .before .before .before .before .before .before .before .before .before .args in let l = c .before .before .before .before .before .before .before .before .loop in let found = instance-found (instanceFrom (a .f) _ _) _ (c .before .before .before .before .before .before .instance-at .ensures) (not-false _ (c .before .before .before .before .if1 .left)) in rw (c .run-with .ensures) (going-next (a .f) (a .s .now) (a .at) (a .count) (l .last) (l .run) (l .here) (l .i) (l .inv) (c .before .before .before .before .before .before .before .loop-test .taken) _ _ found (sym (c .before .before .may-follow .ensures) ∙ not-false _ (c .before .if2 .left)))
+loop-again c =
+    let a = c .before .before .before .before .before .before .before .before .before .before .before .args in
+    let l = c .before .before .before .before .before .before .before .before .loop in
+    let found = instance-found (instanceFrom (a .f) _ _) _ (c .before .before .before .before .before .before .instance-at .ensures)
+    (not-false _ (c .before .before .before .before .if1 .left)) in
+    rw (c .run-with .ensures) (going-next (a .f) (a .s .now) (a .at) (a .count) (l .last) (l .run) (l .here) (l .i) (l .inv)
+    (c .before .before .before .before .before .before .before .loop-test .taken) _ _ found
+    (sym (c .before .before .may-follow .ensures) ∙ not-false _ (c .before .if2 .left)))
 
 returns-3 : tie.Need-returns-3 Inv-loop μ-loop
-returns-3 c = let a = c .before .before .before .before .args in let l = c .before .loop in going-all (a .f) (a .s .now) (a .at) (a .count) (l .last) (l .run) (l .here) (l .i) (l .inv) (c .loop-test .left)
+returns-3 c =
+    let a = c .before .before .before .before .args in
+    let l = c .before .loop in
+    going-all (a .f) (a .s .now) (a .at) (a .count) (l .last) (l .run) (l .here) (l .i) (l .inv) (c .loop-test .left)
 
 pub instances-from-spec : {M : Type 1} → statement M
 instances-from-spec =

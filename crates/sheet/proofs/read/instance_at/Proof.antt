@@ -33,7 +33,11 @@ not-instance-requires-2 c κs = search needs
 
 returns-2 : tie.Need-returns-2
 unfolding instanceFrom
-returns-2 c = let procedure = field-found (fieldBelow _ _ _) _ (c .before .before .before .before .before .before .before .field-below .ensures) (not-false _ (c .before .before .before .before .before .if1 .left)) in let none = field-none (fieldBelow _ _ _) _ (c .before .before .before .field-below2 .ensures) (not-true _ (c .before .if2 .taken)) in rw (procedure, none) (c .not-instance2 .ensures)
+returns-2 c =
+    let procedure = field-found (fieldBelow _ _ _) _ (c .before .before .before .before .before .before .before .field-below .ensures)
+    (not-false _ (c .before .before .before .before .before .if1 .left)) in
+    let none = field-none (fieldBelow _ _ _) _ (c .before .before .before .field-below2 .ensures) (not-true _ (c .before .if2 .taken)) in
+    rw (procedure, none) (c .not-instance2 .ensures)
 
 service-at-requires : tie.Need-service-at-requires
 service-at-requires c κs = search needs
@@ -43,7 +47,13 @@ not-instance-requires-3 c κs = search needs
 
 returns-3 : tie.Need-returns-3
 unfolding instanceFrom
-returns-3 c = let procedure = field-found (fieldBelow _ _ _) _ (c .before .before .before .before .before .before .before .before .before .before .field-below .ensures) (not-false _ (c .before .before .before .before .before .before .before .before .if1 .left)) in let number = field-found (fieldBelow _ _ _) _ (c .before .before .before .before .before .before .field-below2 .ensures) (not-false _ (c .before .before .before .before .if2 .left)) in let none = field-none (fieldAt serviceOf _ _) _ (c .before .before .before .service-at .ensures) (not-true _ (c .before .if3 .taken)) in rw (procedure, number, none) (c .not-instance3 .ensures)
+returns-3 c =
+    let procedure = field-found (fieldBelow _ _ _) _ (c .before .before .before .before .before .before .before .before .before .before .field-below .ensures)
+    (not-false _ (c .before .before .before .before .before .before .before .before .if1 .left)) in
+    let number = field-found (fieldBelow _ _ _) _ (c .before .before .before .before .before .before .field-below2 .ensures)
+    (not-false _ (c .before .before .before .before .if2 .left)) in
+    let none = field-none (fieldAt serviceOf _ _) _ (c .before .before .before .service-at .ensures) (not-true _ (c .before .if3 .taken)) in
+    rw (procedure, number, none) (c .not-instance3 .ensures)
 
 address-in-requires : tie.Need-address-in-requires
 address-in-requires c κs = search needs
@@ -53,20 +63,63 @@ not-instance-requires-4 c κs = search needs
 
 returns-4 : tie.Need-returns-4
 unfolding instanceFrom
-returns-4 c = let procedure = field-found (fieldBelow _ _ _) _ (c .before .before .before .before .before .before .before .before .before .before .before .before .before .field-below .ensures) (not-false _ (c .before .before .before .before .before .before .before .before .before .before .before .if1 .left)) in let number = field-found (fieldBelow _ _ _) _ (c .before .before .before .before .before .before .before .before .before .field-below2 .ensures) (not-false _ (c .before .before .before .before .before .before .before .if2 .left)) in let service = field-found (fieldAt serviceOf _ _) _ (c .before .before .before .before .before .before .service-at .ensures) (not-false _ (c .before .before .before .before .if3 .left)) in let none = forwarded-none (addressFrom _ _) _ (c .before .before .before .address-in .ensures) (not-true _ (c .before .if4 .taken)) in rw (procedure, number, service, none) (c .not-instance4 .ensures)
+returns-4 c =
+    let procedure = field-found (fieldBelow _ _ _) _
+    (c .before .before .before .before .before .before .before .before .before .before .before .before .before .field-below .ensures)
+    (not-false _ (c .before .before .before .before .before .before .before .before .before .before .before .if1 .left)) in
+    let number = field-found (fieldBelow _ _ _) _ (c .before .before .before .before .before .before .before .before .before .field-below2 .ensures)
+    (not-false _ (c .before .before .before .before .before .before .before .if2 .left)) in
+    let service = field-found (fieldAt serviceOf _ _) _ (c .before .before .before .before .before .before .service-at .ensures)
+    (not-false _ (c .before .before .before .before .if3 .left)) in
+    let none = forwarded-none (addressFrom _ _) _ (c .before .before .before .address-in .ensures) (not-true _ (c .before .if4 .taken)) in
+    rw (procedure, number, service, none) (c .not-instance4 .ensures)
 
 cast-t11 : tie.Need-cast-t11
-cast-t11 c = let a = c .before .before .before .before .before .before .before .before .before .before .before .before .before .before .before .before .before .args in let procedure = field-found (fieldBelow _ _ _) _ (c .before .before .before .before .before .before .before .before .before .before .before .before .before .before .field-below .ensures) (not-false _ (c .before .before .before .before .before .before .before .before .before .before .before .before .if1 .left)) in let few : a .f .procedures < 256 = search (needs, c .before .before .before .before .before .before .before .before .before .before .before .before .before .before .before .before .before .good) in omega (arith, few, below-small (a .s .now) _ (a .f .procedures) _ _ procedure)
+cast-t11 c =
+    let a = c .before .before .before .before .before .before .before .before .before .before .before .before .before .before .before .before .before .args in
+    let procedure = field-found (fieldBelow _ _ _) _
+    (c .before .before .before .before .before .before .before .before .before .before .before .before .before .before .field-below .ensures)
+    (not-false _ (c .before .before .before .before .before .before .before .before .before .before .before .before .if1 .left)) in
+    let few : a .f .procedures < 256 = search
+    (needs, c .before .before .before .before .before .before .before .before .before .before .before .before .before .before .before .before .before .good) in
+    omega (arith, few, below-small (a .s .now) _ (a .f .procedures) _ _ procedure)
 
 cast-t12 : tie.Need-cast-t12
-cast-t12 c = let a = c .before .before .before .before .before .before .before .before .before .before .before .before .before .before .before .before .before .before .args in let number = field-found (fieldBelow _ _ _) _ (c .before .before .before .before .before .before .before .before .before .before .before .field-below2 .ensures) (not-false _ (c .before .before .before .before .before .before .before .before .before .if2 .left)) in let few : a .f .numbers < 256 = search (needs, c .before .before .before .before .before .before .before .before .before .before .before .before .before .before .before .before .before .before .good) in omega (arith, few, below-small (a .s .now) _ (a .f .numbers) _ _ number)
+cast-t12 c =
+    let a = c .before .before .before .before .before .before .before .before .before .before .before .before .before .before .before .before .before
+    .before .args in
+    let number = field-found (fieldBelow _ _ _) _
+    (c .before .before .before .before .before .before .before .before .before .before .before .field-below2 .ensures)
+    (not-false _ (c .before .before .before .before .before .before .before .before .before .if2 .left)) in
+    let few : a .f .numbers < 256 = search (
+      needs,
+      c .before .before .before .before .before .before .before .before .before .before .before .before .before .before .before .before .before
+          .before .good,
+    ) in
+    omega (arith, few, below-small (a .s .now) _ (a .f .numbers) _ _ number)
 
 cast-t13 : tie.Need-cast-t13
-cast-t13 c = let a = c .before .before .before .before .before .before .before .before .before .before .before .before .before .before .before .before .before .before .before .args in let service = field-found (fieldAt serviceOf _ _) _ (c .before .before .before .before .before .before .before .before .before .service-at .ensures) (not-false _ (c .before .before .before .before .before .before .before .if3 .left)) in omega (arith, service-octet (a .s .now) _ _ _ service)
+cast-t13 c =
+    let a = c .before .before .before .before .before .before .before .before .before .before .before .before .before .before .before .before .before .before
+    .before .args in
+    let service = field-found (fieldAt serviceOf _ _) _ (c .before .before .before .before .before .before .before .before .before .service-at .ensures)
+    (not-false _ (c .before .before .before .before .before .before .before .if3 .left)) in
+    omega (arith, service-octet (a .s .now) _ _ _ service)
 
 returns-5 : tie.Need-returns-5
 unfolding instanceFrom
-returns-5 c = let procedure = field-found (fieldBelow _ _ _) _ (c .before .before .before .before .before .before .before .before .before .before .before .before .before .before .before .before .field-below .ensures) (not-false _ (c .before .before .before .before .before .before .before .before .before .before .before .before .before .before .if1 .left)) in let number = field-found (fieldBelow _ _ _) _ (c .before .before .before .before .before .before .before .before .before .before .before .before .field-below2 .ensures) (not-false _ (c .before .before .before .before .before .before .before .before .before .before .if2 .left)) in let service = field-found (fieldAt serviceOf _ _) _ (c .before .before .before .before .before .before .before .before .before .service-at .ensures) (not-false _ (c .before .before .before .before .before .before .before .if3 .left)) in let address = forwarded-found (addressFrom _ _) _ (c .before .before .before .before .before .before .address-in .ensures) (not-false _ (c .before .before .before .before .if4 .left)) in rw (procedure, number, service, address)
+returns-5 c =
+    let procedure = field-found (fieldBelow _ _ _) _
+    (c .before .before .before .before .before .before .before .before .before .before .before .before .before .before .before .before .field-below .ensures)
+    (not-false _ (c .before .before .before .before .before .before .before .before .before .before .before .before .before .before .if1 .left)) in
+    let number = field-found (fieldBelow _ _ _) _
+    (c .before .before .before .before .before .before .before .before .before .before .before .before .field-below2 .ensures)
+    (not-false _ (c .before .before .before .before .before .before .before .before .before .before .if2 .left)) in
+    let service = field-found (fieldAt serviceOf _ _) _ (c .before .before .before .before .before .before .before .before .before .service-at .ensures)
+    (not-false _ (c .before .before .before .before .before .before .before .if3 .left)) in
+    let address = forwarded-found (addressFrom _ _) _ (c .before .before .before .before .before .before .address-in .ensures)
+    (not-false _ (c .before .before .before .before .if4 .left)) in
+    rw (procedure, number, service, address)
 
 pub instance-at-spec : {M : Type 1} → statement M
 instance-at-spec =

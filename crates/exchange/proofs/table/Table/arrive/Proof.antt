@@ -48,7 +48,8 @@ returns-3 : tie.Need-returns-3
 returns-3 c =
     let a = c .before .before .before .before .before .before .before .before .before .before .args in
     refused-arrives (a .access .now) (a .self) (a .component .now) (a .out .now) BadProfile _
-    (done-profile (a .access .now) (a .self) (a .component .now) (length (a .out .now)) (omega (arith, c .before .before .before .before .before .if1 .left)) (omega (arith, c .before .before .before .before .if2 .left))
+    (done-profile (a .access .now) (a .self) (a .component .now) (length (a .out .now)) (omega (arith, c .before .before .before .before .before .if1 .left))
+    (omega (arith, c .before .before .before .before .if2 .left))
     (ap (λ (r : AccessRead). r .ok) (sym (c .before .before .before .read-access .ensures)) ∙ not-true _ (c .before .if3 .taken)))
     (c .refuses3 .ensures)
 
@@ -63,7 +64,9 @@ returns-4 c =
     let a = c .before .before .before .before .before .before .before .before .before .before .before .before .before .args in
     let read = c .before .before .before .before .before .before .read-access .ensures in
     refused-arrives (a .access .now) (a .self) (a .component .now) (a .out .now) BadTable _
-    (done-table (a .access .now) (a .self) (a .component .now) (length (a .out .now)) (omega (arith, c .before .before .before .before .before .before .before .before .if1 .left)) (omega (arith, c .before .before .before .before .before .before .before .if2 .left))
+    (done-table (a .access .now) (a .self) (a .component .now) (length (a .out .now))
+    (omega (arith, c .before .before .before .before .before .before .before .before .if1 .left))
+    (omega (arith, c .before .before .before .before .before .before .before .if2 .left))
     (ap (λ (r : AccessRead). r .ok) (sym read) ∙ not-false _ (c .before .before .before .before .if3 .left))
     (rw read at (sym (c .before .before .good2 .ensures) ∙ not-true _ (c .before .if4 .taken))))
     (c .refuses4 .ensures)
@@ -104,8 +107,14 @@ returns-5 c =
     let a = c .before .before .before .before .before .before .before .before .before .before .before .before .before .before .before .before .before .before .before .before .before .before .args in
     let read = c .before .before .before .before .before .before .before .before .before .before .before .before .before .before .before .read-access .ensures in
     let ok = ap (λ (r : AccessRead). r .ok) (sym read) ∙ not-false _ (c .before .before .before .before .before .before .before .before .before .before .before .before .before .if3 .left) in
-    let good = rw read at (sym (c .before .before .before .before .before .before .before .before .before .before .before .good2 .ensures) ∙ not-false _ (c .before .before .before .before .before .before .before .before .before .before .if4 .left)) in
-    let room : outputLeast ≤ length (a .out .now) = omega (arith, c .before .before .before .before .before .before .before .before .before .before .before .before .before .before .before .before .before .if1 .left) in
+    let good = rw read at (sym (c .before .before .before .before .before .before .before .before .before .before .before .good2 .ensures) ∙ not-false _
+    (c .before .before .before .before .before .before .before .before .before .before .if4 .left)) in
+    let room : outputLeast ≤ length (a .out .now) =
+    omega (
+      arith,
+      c .before .before .before .before .before .before .before .before .before .before .before .before .before .before .before .before
+          .before .if1 .left,
+    ) in
     let q = c .before .before .before .before .before .before .before .before .before .question-of .result in
     let small : q .request .procedure < 3 = rw (question-is (c .before .before .before .before .before .before .before .before .before .question-of .ensures)) (question-procedure _ _ _) in
     let start = c .before .before .before .before .before .before .before .before .before .before .before .before .before .before .before .before .before .before .before .before .before .before in
@@ -114,7 +123,12 @@ returns-5 c =
     rw (step-of _ (a .self) (a .component .now) _ (question-is (c .before .before .before .before .before .before .before .before .before .question-of .ensures)))
     (c .before .before .before .before .before .before .step-of .ensures (a .self) refl refl (omega (arith, rows))) in
     answered-arrives (a .access .now) (a .self) (a .component .now) (a .out .now) _ _ _ _ _
-    (done-answers (a .access .now) (a .self) (a .component .now) (length (a .out .now)) room (omega (arith, c .before .before .before .before .before .before .before .before .before .before .before .before .before .before .before .before .if2 .left)) ok good)
+    (done-answers (a .access .now) (a .self) (a .component .now) (length (a .out .now)) room
+    (omega (
+      arith,
+      c .before .before .before .before .before .before .before .before .before .before .before .before .before .before .before
+          .before .if2 .left,
+    )) ok good)
     (step-fits _ (a .self) (access-good (a .access .now) ok) good (a .component .now))
     (rw read at steps)
     room
