@@ -32,7 +32,8 @@ use Rattle.nightly.specs.Record.{allIn, placeOfInstance, placed, allPlac
 use Rattle.nightly.specs.inner.Write.{cellInstances, placeInstances}
 use Rattle.nightly.proofs.InstanceWriters.{place-same}
 use Rattle.nightly.proofs.WrittenTables.{rowOf, rows-all}
-use Rattle.nightly.proofs.PlacedCells.{Fitting, fitting, all-parts, few-services, few-numbers, place-inside, place-number, Shaped, shaped-none, none-active, placed-shaped, cell-here, cell-else}
+use Rattle.nightly.proofs.PlacedCells.{Fitting, fitting, all-parts, few-services, few-numbers, place-inside}
+use Rattle.nightly.proofs.PlacedCells.{place-number, Shaped, shaped-none, none-active, placed-shaped, cell-here, cell-else}
 
 -- ---- what is gathered
 

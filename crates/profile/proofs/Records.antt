@@ -19,7 +19,8 @@ use Rattle.laws.proofs.Parts.{part-slice}
 use Rattle.numbers.specs.Number.{most}
 use Rattle.numbers.specs.declared.number.Number.{Number}
 use Rattle.profile.specs.Profile.{servicesMost, prefixesMost, profileGood}
-use Rattle.profile.specs.Access.{numbersAt, numberSize, servicesAt, subscribedAt, flagsAt, prefixesAt, prefixSize, accessSize, numberFrom, prefixFrom, prefixesFrom, profileFrom, noAccess, accessRead}
+use Rattle.profile.specs.Access.{numbersAt, numberSize, servicesAt, subscribedAt, flagsAt, prefixesAt, prefixSize}
+use Rattle.profile.specs.Access.{accessSize, numberFrom, prefixFrom, prefixesFrom, profileFrom, noAccess, accessRead}
 use Rattle.profile.specs.declared.profile.Prefix.{Prefix}
 use Rattle.profile.specs.declared.profile.Profile.{Profile}
 use Rattle.profile.specs.declared.access.AccessRead.{AccessRead}

@@ -38,13 +38,27 @@ use Rattle.calls.specs.Divert.{applying, servedOf, noticed, onward, noOnward, c
 use Rattle.forms.specs.Order.{before, follows}
 use Rattle.sheet.specs.Instance.{allGroups, instanceOctets, fieldAt, fieldsAt, addressFrom, instanceFrom}
 use Rattle.sheet.specs.Sheet.{instancesOctets, sheetOctets, runOf, instancesFrom, sheetIn}
-use Rattle.listings.specs.Listing.{decimalIn, decimal, procedureName, kindText, hexOf, hexText, subText, lineOf, headerLine, instanceLine, instanceLines, listing, listedSheet, refusedLine, printedSheet}
+use Rattle.listings.specs.Listing.{decimalIn, decimal, procedureName, kindText, hexOf, hexText, subText}
+use Rattle.listings.specs.Listing.{lineOf, headerLine, instanceLine, instanceLines, listing, listedSheet, refusedLine, printedSheet}
 use Rattle.nightly.specs.Instances.{instancesOf}
 use Rattle.nightly.specs.Record.{wroteSheet}
 use Rattle.promise.specs.Samples.{Each, samples}
 
 pub each-sample : Each samples
-unfolding fewestFrom wordAt wordOctets spanOf lengthAt headAt lengthHolds lengthWith lengthFewest enumeratedAt half twos bits identHolds identIn identAt identFewest fills groupsIn groupsAt groupsWith groups placeOf serviceCode procedureCode allDigits fair typeGood digitsGood digitsIn numberAt numberOctets subAt addressAt subOctets addressOctets replyTag operationAt identifierAt heard codeAt serviceAt servedAt privates lastIn activationIn interrogationIn contentsIn argumentAt servedOctets toOctets requestOctets answerOctets entriesOctets entriesFrom listOctets sameIdent failedAt setAt sequenceAt listAt resultAt ownAt reply everyTo countTo eachFrom changedFrom gathered numberGood addressGood numberFrom prefixFrom prefixesFrom profileFrom accessRead sameDigits sameNumber same placeIn numbersGood rising servicesGood prefixGood prefixesGood subscriptionsGood usesGood diversionGood profileGood active selected countWith activeOf putIn clearIn entryOfPlace entriesIn cellGood rowGood gridGood isSubscribed servedInvalid notProvided otherKind begins beginsAny selectedSame fits noRoom judge applied numberChosen serviceChosen selects placesOf tableGood notAbove duplicate known invoked question moved resultOf handled stepOf step done reasonOf optionAfter preferenceAfter originalShown callFrom namesGood valuesGood originalGood callGood applying servedOf noticed onward noOnward comes allGroups instanceOctets fieldAt fieldsAt addressFrom instanceFrom instancesOctets sheetOctets before follows runOf instancesFrom sheetIn decimalIn decimal procedureName kindText hexOf hexText subText lineOf headerLine instanceLine instanceLines listing listedSheet refusedLine printedSheet instancesOf wroteSheet saidAt
+unfolding fewestFrom wordAt wordOctets spanOf lengthAt headAt lengthHolds lengthWith lengthFewest enumeratedAt half twos bits identHolds
+    identIn identAt identFewest fills groupsIn groupsAt groupsWith groups placeOf serviceCode procedureCode allDigits fair typeGood
+    digitsGood digitsIn numberAt numberOctets subAt addressAt subOctets addressOctets replyTag operationAt identifierAt heard codeAt
+    serviceAt servedAt privates lastIn activationIn interrogationIn contentsIn argumentAt servedOctets toOctets requestOctets
+    answerOctets entriesOctets entriesFrom listOctets sameIdent failedAt setAt sequenceAt listAt resultAt ownAt reply everyTo countTo
+    eachFrom changedFrom gathered numberGood addressGood numberFrom prefixFrom prefixesFrom profileFrom accessRead sameDigits
+    sameNumber same placeIn numbersGood rising servicesGood prefixGood prefixesGood subscriptionsGood usesGood diversionGood
+    profileGood active selected countWith activeOf putIn clearIn entryOfPlace entriesIn cellGood rowGood gridGood isSubscribed
+    servedInvalid notProvided otherKind begins beginsAny selectedSame fits noRoom judge applied numberChosen serviceChosen selects
+    placesOf tableGood notAbove duplicate known invoked question moved resultOf handled stepOf step done reasonOf optionAfter
+    preferenceAfter originalShown callFrom namesGood valuesGood originalGood callGood applying servedOf noticed onward noOnward comes
+    allGroups instanceOctets fieldAt fieldsAt addressFrom instanceFrom instancesOctets sheetOctets before follows runOf instancesFrom
+    sheetIn decimalIn decimal procedureName kindText hexOf hexText subText lineOf headerLine instanceLine instanceLines listing
+    listedSheet refusedLine printedSheet instancesOf wroteSheet saidAt
 each-sample =
     let sheets : Each (drop 35 samples) = (refl, (refl, (refl, (refl, tt)))) in
     let calls : Each (drop 31 samples) = ((refl, refl, refl), ((refl, refl, refl), ((refl, refl, refl), ((refl, refl, refl), sheets)))) in

@@ -21,7 +21,8 @@ use Rattle.store.specs.Row.{countWith, activeOf, putIn, clearIn}
 use Rattle.store.specs.declared.row.Places.{Places}
 use Rattle.store.specs.declared.row.Row.{Row}
 use Rattle.rules.specs.Prefix.{beginsAny}
-use Rattle.rules.specs.Judge.{firstError, verdictNo, notInUse, isSubscribed, servedInvalid, notProvided, userSpecified, otherKind, selectedSame, fits, noRoom, everyTests, activationTests, deactivationTests, testsOf, judge, applied}
+use Rattle.rules.specs.Judge.{firstError, verdictNo, notInUse, isSubscribed, servedInvalid, notProvided, userSpecified, otherKind}
+use Rattle.rules.specs.Judge.{selectedSame, fits, noRoom, everyTests, activationTests, deactivationTests, testsOf, judge, applied}
 use Rattle.rules.specs.declared.verdict.Verdict.{Verdict}
 use Rattle.rules.specs.declared.verdict.Verdict.the-variants.{Passes, Fails}
 

@@ -45,7 +45,9 @@ nothing-listed-requires-5 : tie.Need-nothing-listed-requires-5
 nothing-listed-requires-5 c κs = search needs
 
 returns : tie.Need-returns
-returns c = let found = sym (replies-is (rw (toZ-ofZ (c .before .before .before .before .before .before .before .before .before .fits .identifier)) at (c .before .before .before .before .before .before .before .reply-to .ensures))) ∙ c .before .before .before .before .before .at .given .1 in
+returns c =
+    let found = sym (replies-is (rw (toZ-ofZ (c .before .before .before .before .before .before .before .before .before .fits .identifier)) at
+    (c .before .before .before .before .before .before .before .reply-to .ensures))) ∙ c .before .before .before .before .before .at .given .1 in
     rw found (c .nothing-listed5 .ensures ∙ told-none (entriesFrom _ _ _ _) _ (c .before .before .before .entries-at .ensures) (not-true _ (c .before .if1 .taken)))
 
 enum-told-5 : tie.Need-enum-told-5
@@ -55,23 +57,35 @@ nothing-listed-requires-6 : tie.Need-nothing-listed-requires-6
 nothing-listed-requires-6 c κs = search needs
 
 returns-2 : tie.Need-returns-2
-returns-2 c = rw (sym (replies-is (rw (toZ-ofZ (c .before .before .before .before .before .fits .identifier)) at (c .before .before .before .reply-to .ensures))) ∙ c .before .enum-told .given .1) (c .nothing-listed .ensures)
+returns-2 c =
+    rw (sym (replies-is (rw (toZ-ofZ (c .before .before .before .before .before .fits .identifier)) at (c .before .before .before .reply-to .ensures)))
+    ∙ c .before .enum-told .given .1) (c .nothing-listed .ensures)
 
 returns-3 : tie.Need-returns-3
-returns-3 c = rw (sym (replies-is (rw (toZ-ofZ (c .before .before .before .before .before .fits .identifier)) at (c .before .before .before .reply-to .ensures))) ∙ c .before .enum-told2 .given .1) (c .nothing-listed2 .ensures)
+returns-3 c =
+    rw (sym (replies-is (rw (toZ-ofZ (c .before .before .before .before .before .fits .identifier)) at (c .before .before .before .reply-to .ensures)))
+    ∙ c .before .enum-told2 .given .1) (c .nothing-listed2 .ensures)
 
 returns-4 : tie.Need-returns-4
-returns-4 c = rw (sym (replies-is (rw (toZ-ofZ (c .before .before .before .before .before .fits .identifier)) at (c .before .before .before .reply-to .ensures))) ∙ c .before .enum-told3 .given .1) (c .nothing-listed3 .ensures)
+returns-4 c =
+    rw (sym (replies-is (rw (toZ-ofZ (c .before .before .before .before .before .fits .identifier)) at (c .before .before .before .reply-to .ensures)))
+    ∙ c .before .enum-told3 .given .1) (c .nothing-listed3 .ensures)
 
 returns-5 : tie.Need-returns-5
-returns-5 c = rw (sym (replies-is (rw (toZ-ofZ (c .before .before .before .before .before .fits .identifier)) at (c .before .before .before .reply-to .ensures))) ∙ c .before .enum-told4 .given .1) (c .nothing-listed4 .ensures)
+returns-5 c =
+    rw (sym (replies-is (rw (toZ-ofZ (c .before .before .before .before .before .fits .identifier)) at (c .before .before .before .reply-to .ensures)))
+    ∙ c .before .enum-told4 .given .1) (c .nothing-listed4 .ensures)
 
 returns-6 : tie.Need-returns-6
-returns-6 c = let found = sym (replies-is (rw (toZ-ofZ (c .before .before .before .before .before .before .before .before .before .fits .identifier)) at (c .before .before .before .before .before .before .before .reply-to .ensures))) ∙ c .before .before .before .before .before .at .given .1 in
+returns-6 c =
+    let found = sym (replies-is (rw (toZ-ofZ (c .before .before .before .before .before .before .before .before .before .fits .identifier)) at
+    (c .before .before .before .before .before .before .before .reply-to .ensures))) ∙ c .before .before .before .before .before .at .given .1 in
     rw found (told-found (entriesFrom _ _ _ _) _ (c .before .before .before .entries-at .ensures) (not-false _ (c .before .if1 .left)))
 
 returns-7 : tie.Need-returns-7
-returns-7 c = rw (sym (replies-is (rw (toZ-ofZ (c .before .before .before .before .before .fits .identifier)) at (c .before .before .before .reply-to .ensures))) ∙ c .before .enum-told5 .given .1) (c .nothing-listed6 .ensures)
+returns-7 c =
+    rw (sym (replies-is (rw (toZ-ofZ (c .before .before .before .before .before .fits .identifier)) at (c .before .before .before .reply-to .ensures)))
+    ∙ c .before .enum-told5 .given .1) (c .nothing-listed6 .ensures)
 
 pub sconcetoad-list-spec : {M : Type 1} → statement M
 sconcetoad-list-spec =

@@ -93,7 +93,8 @@ mul-after c = search needs
 
 element-set-from-after : tie.Need-element-set-from-after
 element-set-from-after c =
-    let small : c .before .before .before .before .question-of .result .request .procedure < 3 = rw (question-is (c .before .before .before .before .question-of .ensures)) (question-procedure _ _ _) in
+    let small : c .before .before .before .before .question-of .result .request .procedure < 3 = rw (question-is (c .before .before .before .before .question-of .ensures))
+    (question-procedure _ _ _) in
     search needs
 
 put-answer-requires : tie.Need-put-answer-requires
@@ -119,7 +120,9 @@ returns-5 c =
     let small : q .request .procedure < 3 = rw (question-is (c .before .before .before .before .before .before .before .before .before .question-of .ensures)) (question-procedure _ _ _) in
     let start = c .before .before .before .before .before .before .before .before .before .before .before .before .before .before .before .before .before .before .before .before .before .before in
     let rows : length (start .args .self .grid .rows) ≡ 3 = search (unmapped, needs, start .good) in
-    let steps : Stepping (a .self) (q .request .procedure) (step (c .before .before .before .before .before .before .before .before .before .before .before .before .before .before .before .read-access .result .profile) (a .self) (a .component .now)) (c .before .before .before .before .before .before .step-of .result) =
+    let steps : Stepping (a .self) (q .request .procedure)
+    (step (c .before .before .before .before .before .before .before .before .before .before .before .before .before .before .before .read-access .result .profile) (a .self)
+    (a .component .now)) (c .before .before .before .before .before .before .step-of .result) =
     rw (step-of _ (a .self) (a .component .now) _ (question-is (c .before .before .before .before .before .before .before .before .before .question-of .ensures)))
     (c .before .before .before .before .before .before .step-of .ensures (a .self) refl refl (omega (arith, rows))) in
     answered-arrives (a .access .now) (a .self) (a .component .now) (a .out .now) _ _ _ _ _
