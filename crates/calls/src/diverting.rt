@@ -21,9 +21,7 @@ use profile::service_slot;
 use refusals::Refusal;
 use store::Grid;
 ghost use mathlib.Core.Path.{_≡_};
-ghost use mathlib.Core.List.{[]};
 ghost use Prim.Native.Nat.{_<_, _≤_};
-ghost use Rattle.numbers.specs.Number.{numberOf};
 ghost use Rattle.profile.specs.Profile.{numbersMost};
 ghost use Rattle.calls.specs.Divert.{noticeNo, comingTold, procedureOf, noticed, noneGoes, callRefused, goes, applying, byInstance, Becomes, DivertsTo};
 

@@ -2,7 +2,7 @@
 -- Assumes nothing.
 use Prim.Native.Nat.{ℕ, zero, suc, _+_, _<_, _≤_}
 use mathlib.Core.Path.{_≡_, refl, sym, ap}
-use mathlib.Core.Bool.{Bool, true, false}
+use mathlib.Core.Bool.{true}
 use mathlib.Core.List.{List, [], _∷_}
 use mathlib.Core.Logic.{⊎-elim}
 use native.Mathlib.Nat.{eq-or-lt-of-le}
@@ -12,14 +12,10 @@ use lib.ListN.{length, getD, drop}
 use lib.Seq.{drop-cons, drop-length}
 use lib.Dec.{ltb, eqb}
 use borrow.Author.Tests.{lt-ltb, ltb-true, eqb-true, eq-eqb, ne-eqb}
-use Rattle.laws.specs.Pick.{pick}
 use Rattle.laws.specs.Tests.{all}
-use Rattle.laws.proofs.Picks.{pick-ind, pick-then, pick-last}
+use Rattle.laws.proofs.Tests.{both-hold}
+use Rattle.laws.proofs.Picks.{pick-ind, pick-last}
 use Rattle.codes.specs.Codes.{services, trunkReasons, placeOf, ascends, apart, serviceCode, procedureCode}
-
--- where all of two tests hold, both do
-pub both-hold : (b c : Bool) → all (b ∷ c ∷ []) ≡ true → (b ≡ true) × (c ≡ true)
-both-hold b c h = let p = pick-then b (pick c true false) h in (p .0, pick-then c true (p .1) .0)
 
 ascends-parts :
     (below x : ℕ) (xs : List ℕ) → ascends below (x ∷ xs) ≡ true → (ltb below x ≡ true) × (ascends x xs ≡ true)

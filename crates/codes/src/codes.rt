@@ -1,5 +1,4 @@
 // The tables of codes (document 01, "Profile and table"; EN 300 207-1, clause 7.1).
-ghost use mathlib.Core.Path.{_≡_};
 ghost use Rattle.codes.specs.Codes.{ServicePlace, ServiceCode, TrunkReason};
 
 // How many basic services there are.

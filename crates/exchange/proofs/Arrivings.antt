@@ -1,6 +1,5 @@
 -- The numbers of what is told of an arriving component name it. Assumes nothing.
 use mathlib.Core.Path.{_≡_, sym, ap}
-use Rattle.refusals.specs.Refusal.{refusalNo}
 use Rattle.refusals.proofs.Refusals.{refusal-same, refuses-same, tells-same, refuses-not}
 use Rattle.answers.proofs.Numbers.{answered-same}
 use Rattle.answers.specs.Answer.{answeredBy}

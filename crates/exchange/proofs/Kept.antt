@@ -3,14 +3,13 @@
 use Prim.Native.Nat.{ℕ, _≤_, _<_}
 use mathlib.Core.Path.{_≡_, refl, sym, _∙_}
 use mathlib.Core.Bool.{true, false≢true}
-use mathlib.Core.List.{List}
 use mathlib.Core.Option.{Option, none, some}
 use native.Mathlib.Omega.{arith}
 use lib.IntN.{ℤ}
 use lib.Signed.{mag}
 use lib.ListN.{length, getD}
 use lib.Dec.{leb, eqb}
-use borrow.Author.Tests.{le-leb, leb-true, eqb-true, eqb-false}
+use borrow.Author.Tests.{le-leb, leb-true, eqb-true}
 use Rattle.laws.specs.Pick.{pick}
 use Rattle.laws.proofs.Picks.{pick-ind, pick-then, pick-map}
 use Rattle.numbers.specs.Address.{addressGood}

@@ -38,7 +38,7 @@ use Rattle.exchange.specs.Table.{tableGood}
 use Rattle.exchange.specs.Question.{question}
 use Rattle.exchange.specs.declared.question.Question.{Question}
 use Rattle.exchange.specs.Step.{Step, stays, moved, resultOf, verdictOf, handled, stepOf, step}
-use Rattle.answers.specs.Answer.{Answered, answeredBy}
+use Rattle.answers.specs.Answer.{Answered}
 use Rattle.exchange.specs.Arrive.{outputLeast, componentMost, Done, refused, answered, done}
 use Rattle.exchange.specs.declared.table.Table.{Table}
 use Rattle.exchange.proofs.Questions.{RequestAsked, AtOnce, silence, reject, question-asks, question-range, question-says}

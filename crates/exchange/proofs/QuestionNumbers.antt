@@ -3,7 +3,7 @@ use Prim.Native.Nat.{ℕ}
 use lib.IntN.{ℤ}
 use mathlib.Core.Bool.{Bool}
 use mathlib.Core.List.{List}
-use mathlib.Core.Path.{_≡_, refl, ap, _∙_}
+use mathlib.Core.Path.{_≡_, ap, _∙_}
 use Rattle.answers.specs.Answer.{answeredBy}
 use Rattle.answers.specs.declared.answer.Answer.{Answer}
 use Rattle.answers.proofs.Numbers.{answered-same}

@@ -13,8 +13,6 @@ use Rattle.refusals.specs.declared.refusal.Refusal.the-variants.{ShortOutput, L
 use Rattle.profile.specs.Access.{accessRead}
 use Rattle.lists.specs.Entries.{instancesMost}
 use Rattle.answers.specs.Answer.{answerOctets, Answered, answeredBy}
-use Rattle.answers.specs.declared.answer.Answer.{Answer}
-use Rattle.answers.specs.declared.answer.Whose.{Whose}
 use Rattle.exchange.specs.Table.{tableGood}
 use Rattle.exchange.specs.Step.{Step, step}
 use Rattle.exchange.specs.declared.table.Table.{Table}

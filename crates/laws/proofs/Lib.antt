@@ -1,5 +1,6 @@
 pub mod Cases
 pub mod Picks
+pub mod Tests
 pub mod Fewest
 pub mod Over
 pub mod Parts

@@ -1,4 +1,5 @@
 // The words of a listing's lines, each with the character after it (document 01, "Samples").
+use numbers::MOST;
 use octets::put_all;
 ghost use mathlib.Core.Path.{_≡_};
 ghost use mathlib.Core.List.{[], _∷_};
@@ -57,7 +58,7 @@ pub(crate) fn write_kind(out: &mut [u8], at: usize, form: u8, kind: u8) -> usize
 }
 
 // The first `count` of a number's digits, which are stored as characters.
-pub(crate) fn write_digits(out: &mut [u8], at: usize, digits: [u8; 20], count: usize) -> usize
+pub(crate) fn write_digits(out: &mut [u8], at: usize, digits: [u8; MOST], count: usize) -> usize
     requires { ⌜ (count ≤ most) × (at + length (marked (take count digits) 32) ≤ length (now out)) ⌝ }
     ensures { λ r. ⌜ Wrote (now (out .entry)) at (marked (take count digits) 32) r (now (out .exit)) ⌝ }
 {
@@ -84,7 +85,7 @@ fn write_pair(out: &mut [u8], at: usize, octet: u8) -> usize
     at + 2
 }
 
-fn write_hex(out: &mut [u8], at: usize, octets: [u8; 20], count: usize) -> usize
+fn write_hex(out: &mut [u8], at: usize, octets: [u8; MOST], count: usize) -> usize
     requires { ⌜ (count ≤ most) × (at + length (hexText (take count octets)) ≤ length (now out)) ⌝ }
     ensures { λ r. ⌜ Wrote (now (out .entry)) at (hexText (take count octets)) r (now (out .exit)) ⌝ }
 {
@@ -98,7 +99,7 @@ fn write_hex(out: &mut [u8], at: usize, octets: [u8; 20], count: usize) -> usize
 }
 
 // A subaddress, and the end of the line.
-pub(crate) fn write_sub(out: &mut [u8], at: usize, octets: [u8; 20], count: usize) -> usize
+pub(crate) fn write_sub(out: &mut [u8], at: usize, octets: [u8; MOST], count: usize) -> usize
     requires { ⌜ (count ≤ most) × (at + length (marked (subText count octets) 10) ≤ length (now out)) ⌝ }
     ensures { λ r. ⌜ Wrote (now (out .entry)) at (marked (subText count octets) 10) r (now (out .exit)) ⌝ }
 {

@@ -5,7 +5,7 @@ mod list;
 
 pub use entries::Entries;
 pub use entries::EntriesRead;
-pub use entries::LIMIT;
+pub use entries::INSTANCESMOST;
 pub use entries::entries_at;
 pub use entries::no_entries;
 pub use entry::Entry;

@@ -1,6 +1,6 @@
 // The component of a list is written (document 01, "Replies").
 use crate::entries::Entries;
-use crate::entries::LIMIT;
+use crate::entries::INSTANCESMOST;
 use crate::entry::Entry;
 use numbers::address_size;
 use numbers::number_size;
@@ -24,7 +24,7 @@ ghost use Rattle.lists.specs.Listed.{PutList};
 // The most octets of an entry, and of the entries of a list.
 const ENTRYSIZE: usize = 86;
 
-const ENTRIESSIZE: usize = ENTRYSIZE * LIMIT;
+const ENTRIESSIZE: usize = ENTRYSIZE * INSTANCESMOST;
 
 // The interrogation's code, as a list repeats it.
 const LISTED: i16 = INTERROGATION as i16;
@@ -51,7 +51,7 @@ fn write_entries(out: &mut [u8], list: Entries) -> usize
     let entries = list.entries;
     let mut at: usize = 0;
     let mut i: usize = 0;
-    while i < LIMIT {
+    while i < INSTANCESMOST {
         if count <= i {
             return at;
         }

@@ -8,7 +8,6 @@ use lib.ListN.{length, getD, set, length-set, getD-replicate}
 use lib.Seq.{getD-set-same, getD-set-other}
 use lib.Dec.{ltb, eqb}
 use borrow.Author.Tests.{eq-eqb, lt-ltb, eqb-true, eqb-false, ltb-true}
-use Rattle.laws.specs.Pick.{pick}
 use Rattle.laws.specs.Tests.{all}
 use Rattle.laws.proofs.Picks.{pick-then, pick-last}
 use Rattle.codes.specs.Codes.{placeOf}

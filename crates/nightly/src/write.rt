@@ -2,8 +2,9 @@
 use exchange::Table;
 use forms::form_one;
 use groups::put_groups;
-use lists::LIMIT;
+use lists::INSTANCESMOST;
 use numbers::Address;
+use numbers::MOST;
 use profile::SERVICES;
 use profile::read_access;
 use refusals::Refusal;
@@ -30,7 +31,7 @@ ghost use Rattle.nightly.specs.inner.Write.{Room, above, NoneBelow, Spac
 // The most octets of an instance, and of a sheet: form, last handled and count are five.
 const INSTANCEMOST: usize = 67;
 
-const SHEETMOST: usize = INSTANCEMOST * (PROCEDURES * LIMIT) + 5;
+const SHEETMOST: usize = INSTANCEMOST * (PROCEDURES * INSTANCESMOST) + 5;
 
 // A digit is stored as its character, and a subaddress's octet as itself.
 const DIGITZERO: u8 = 48;
@@ -38,7 +39,7 @@ const DIGITZERO: u8 = 48;
 const OCTETZERO: u8 = 0;
 
 // The first `count` of the octets, each by how far it is above `base`.
-fn write_above(out: &mut [u8], at: usize, octets: [u8; 20], count: usize, base: u8) -> usize
+fn write_above(out: &mut [u8], at: usize, octets: [u8; MOST], count: usize, base: u8) -> usize
     requires { ⌜ (count ≤ most) × NoneBelow base count octets × Room (now out) at (allGroups (above base count octets)) ⌝ }
     ensures { λ r. ⌜ Wrote (now (out .entry)) at (allGroups (above base count octets)) r (now (out .exit)) ⌝ }
 {

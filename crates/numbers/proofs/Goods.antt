@@ -15,7 +15,7 @@ use Rattle.laws.specs.Tests.{all}
 use Rattle.laws.specs.Got.{Got, got}
 use Rattle.laws.proofs.Gots.{Something, found-then, found-is}
 use Rattle.laws.proofs.Picks.{pick-ind, pick-then, pick-last}
-use Rattle.codes.proofs.Tables.{both-hold}
+use Rattle.laws.proofs.Tests.{both-hold}
 use Rattle.codes.proofs.Characters.{all-each}
 use Rattle.octets.specs.declared.head.Head.the-variants as head
 use Rattle.octets.specs.declared.head.Head.{Head}

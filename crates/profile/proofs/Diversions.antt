@@ -7,7 +7,8 @@ use lib.Dec.{leb}
 use borrow.Author.Tests.{leb-true}
 use Rattle.profile.specs.Profile.{flag, diversionGood, profileGood}
 use Rattle.profile.specs.declared.profile.Profile.{Profile}
-use Rattle.profile.proofs.Profiles.{all-at, rule-at}
+use Rattle.laws.proofs.Tests.{all-at}
+use Rattle.profile.proofs.Profiles.{rule-at}
 
 -- "notification option 0 to 2"
 pub option-most : (p : Profile) → profileGood p ≡ true → p .option ≤ 2

@@ -12,7 +12,8 @@ use borrow.Author.Tests.{eq-eqb, le-leb, ltb-true, leb-true, eqb-true}
 use Rattle.laws.specs.Pick.{pick}
 use Rattle.laws.specs.Tests.{all}
 use Rattle.laws.specs.Places.{everyTo}
-use Rattle.laws.proofs.Picks.{pick-ind, pick-then, pick-last}
+use Rattle.laws.proofs.Tests.{all-at}
+use Rattle.laws.proofs.Picks.{pick-ind, pick-last}
 use Rattle.laws.proofs.Walks.{every-at}
 use Rattle.codes.specs.Codes.{serviceCode}
 use Rattle.numbers.specs.Number.{most, digitsOf, numberGood, tidyNumber}
@@ -23,12 +24,6 @@ use Rattle.profile.specs.declared.profile.Prefix.{Prefix}
 use Rattle.profile.specs.declared.profile.Profile.{Profile}
 
 -- ---- tests that must all pass
-
--- where all of them pass, the one at a place does
-pub all-at : (bs : List Bool) (k : ℕ) → all bs ≡ true → getD bs k true ≡ true
-all-at [] k h = refl
-all-at (b ∷ bs) zero h = pick-then b (all bs) h .0
-all-at (b ∷ bs) (suc k) h = all-at bs k (pick-then b (all bs) h .1)
 
 -- ---- the digits of two numbers
 

@@ -24,7 +24,7 @@ use Rattle.profile.specs.Access.{accessSize, numberFrom, prefixFrom, pre
 use Rattle.profile.specs.declared.profile.Prefix.{Prefix}
 use Rattle.profile.specs.declared.profile.Profile.{Profile}
 use Rattle.profile.specs.declared.access.AccessRead.{AccessRead}
-use Rattle.profile.proofs.Profiles.{all-at}
+use Rattle.laws.proofs.Tests.{all-at}
 
 -- ---- digits
 

@@ -19,7 +19,8 @@ use Rattle.laws.proofs.Each.{getD-each, each-all}
 use Rattle.laws.proofs.Picks.{pick-ind, pick-first}
 use Rattle.profile.specs.Profile.{numbersMost, servicesMost, servedNumbers, subscribedServices, placeIn, rising}
 use Rattle.profile.specs.declared.profile.Profile.{Profile}
-use Rattle.profile.proofs.Profiles.{all-at, place-most, rising-above}
+use Rattle.laws.proofs.Tests.{all-at}
+use Rattle.profile.proofs.Profiles.{place-most, rising-above}
 use Rattle.requests.specs.declared.request.Served.{Served}
 use Rattle.requests.specs.declared.request.Request.{Request}
 use Rattle.store.specs.Row.{places, numberOfPlace, serviceOfPlace, selected}

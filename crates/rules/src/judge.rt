@@ -5,7 +5,7 @@ use crate::tests::other_kind;
 use crate::tests::selected_same;
 use crate::tests::served_invalid;
 use crate::verdict::Verdict;
-use lists::LIMIT;
+use lists::INSTANCESMOST;
 use profile::Profile;
 use requests::ACTIVATION;
 use requests::DEACTIVATION;
@@ -48,7 +48,7 @@ fn judge_every(p: Profile, r: Request) -> Verdict
 fn fits(p: Profile, count: usize) -> bool
     ensures { λ b. ⌜ b ≡ fits instancesMost p count ⌝ }
 {
-    count <= LIMIT
+    count <= INSTANCESMOST
 }
 
 fn judge_activation(p: Profile, r: Request, w: Places, row: Row) -> Verdict

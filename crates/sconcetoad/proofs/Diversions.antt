@@ -1,6 +1,6 @@
 -- What becomes of a call, as C is told it: by the numbers that the library's answer has. Assumes nothing.
 use Prim.Native.Nat.{ℕ}
-use mathlib.Core.Path.{_≡_, refl, sym, ap, _∙_}
+use mathlib.Core.Path.{_≡_, sym, ap, _∙_}
 use mathlib.Core.List.{List}
 use Rattle.refusals.specs.Refusal.{refusalNo, refuses, tells}
 use Rattle.refusals.specs.declared.refusal.Refusal.{Refusal}

@@ -1,7 +1,7 @@
 -- An instance in a night sheet: "procedure, number index, service, form (0 unknown, 1 public), type (0 if unknown), digit count, digits,
 -- subaddress length (0 none), octets", each a number in groups of seven bits (document 01, "Night sheet").
 use Prim.Native.Nat.{ℕ, zero, suc, _+_, _-_}
-use mathlib.Core.Bool.{Bool, true, false, not}
+use mathlib.Core.Bool.{Bool, not}
 use mathlib.Core.List.{List, [], _∷_, _++_, map}
 use lib.ListN.{length, take}
 use lib.Dec.{ltb, leb, eqb}
@@ -14,7 +14,7 @@ use Rattle.groups.specs.declared.groups.Groups.the-variants as groups
 use Rattle.codes.specs.Codes.{serviceCode}
 use Rattle.numbers.specs.Number.{unknown, most, fair, numberOf, digitsOf}
 use Rattle.codes.specs.Digits.{typeGood}
-use Rattle.numbers.specs.Address.{subOf, forwardedOf, subOctetsOf}
+use Rattle.numbers.specs.Address.{subOf, forwardedOf}
 use Rattle.numbers.specs.declared.address.Address.{Address}
 use Rattle.forms.specs.declared.form.Form.{Form}
 use Rattle.forms.specs.declared.instance.Instance.{Instance}

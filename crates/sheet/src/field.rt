@@ -1,6 +1,7 @@
 // The fields of a night sheet: numbers in groups of seven bits, each within its bound (document 01, "Night sheet").
 use groups::Groups;
 use groups::groups_at;
+use numbers::MOST;
 ghost use mathlib.Core.Path.{_≡_};
 ghost use Prim.Native.Nat.{_+_, _≤_};
 ghost use Rattle.laws.specs.Got.{wrong};
@@ -17,7 +18,7 @@ pub(crate) struct FieldRead {
 // Fields as octets with zeros after them, and the place after the fields; or `ok` is false.
 pub(crate) struct FieldsRead {
     pub(crate) ok: bool,
-    pub(crate) octets: [u8; 20],
+    pub(crate) octets: [u8; MOST],
     pub(crate) next: usize,
 }
 
@@ -66,7 +67,7 @@ fn no_fields() -> FieldsRead
 {
     FieldsRead {
         ok: false,
-        octets: [0; 20],
+        octets: [0; MOST],
         next: 0,
     }
 }
@@ -76,7 +77,7 @@ pub(crate) fn fields_below(s: &[u8], at: usize, count: usize, below: u32, base: 
     requires { ⌜ (count ≤ most) × (base + below ≤ 256) ⌝ }
     ensures { λ r. ⌜ r ≡ fieldsRead base (fieldsBelow below count (now (s .entry)) at) ⌝ }
 {
-    let mut octets = [0u8; 20];
+    let mut octets = [0u8; MOST];
     let mut here = at;
     let mut i: usize = 0;
     while i < count {

@@ -7,6 +7,7 @@ use codes::service_code;
 use forms::Form;
 use forms::Instance;
 use numbers::Address;
+use numbers::MOST;
 use numbers::Number;
 use numbers::NumberRead;
 use numbers::blank_number;
@@ -101,7 +102,7 @@ fn no_address() -> Address
     Address {
         number,
         subcount: 0,
-        sub: [0; 20],
+        sub: [0; MOST],
     }
 }
 

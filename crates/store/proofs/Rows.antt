@@ -20,7 +20,7 @@ use Rattle.numbers.specs.Number.{numberGood}
 use Rattle.numbers.specs.Address.{tidyAddress, addressGood}
 use Rattle.numbers.specs.declared.address.Address.{Address}
 use Rattle.profile.specs.declared.profile.Profile.{Profile}
-use Rattle.profile.proofs.Profiles.{all-at}
+use Rattle.laws.proofs.Tests.{all-at}
 use Rattle.lists.specs.Entries.{allGood}
 use Rattle.lists.specs.declared.entry.Entry.{Entry}
 use Rattle.lists.proofs.Goods.{entry-good, all-none, all-one, all-both}

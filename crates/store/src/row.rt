@@ -1,7 +1,7 @@
 // What a procedure holds: a row of cells, one for each number and each service of the profile.
 use lists::Entries;
 use lists::Entry;
-use lists::LIMIT;
+use lists::INSTANCESMOST;
 use lists::no_entries;
 use numbers::Address;
 use numbers::MOST;
@@ -182,7 +182,7 @@ impl Row {
             let x = self.cells[j];
             if w.codes[j] != 0 {
                 if x.service != 0 {
-                    if count < LIMIT {
+                    if count < INSTANCESMOST {
                         let served = p.numbers[j / SERVICES];
                         let address = x.address;
                         list.entries[count] = Entry {
@@ -269,7 +269,7 @@ impl Row {
         ensures { λ r. ⌜ r ≡ rowGood instancesMost p procedure self ⌝ }
     {
         let n = self.instances();
-        if LIMIT < n {
+        if INSTANCESMOST < n {
             return false;
         }
         self.cells_good(p, procedure)

@@ -2,7 +2,7 @@
 use crate::say;
 use lists::Entries;
 use lists::Entry;
-use lists::LIMIT;
+use lists::INSTANCESMOST;
 use lists::no_entries;
 use numbers::Number;
 use testtext::address_of;
@@ -31,7 +31,7 @@ pub(crate) fn entries_of(s: &[u8]) -> Entries {
     let none = no_entries();
     let mut entries = none.entries;
     let mut count: usize = 0;
-    while count < LIMIT {
+    while count < INSTANCESMOST {
         let at = count * RECORD;
         if s.len() < at + RECORD {
             break;
@@ -75,7 +75,7 @@ pub(crate) fn say_entries(list: Entries) {
     let count = list.count as usize;
     let entries = list.entries;
     let mut i: usize = 0;
-    while i < LIMIT {
+    while i < INSTANCESMOST {
         if count <= i {
             return;
         }

@@ -1,21 +1,20 @@
 // Numbers and addresses from the octets of their records (docs/RECORDS.md); zeros where there are too few.
 use numbers::Address;
+use numbers::MOST;
 use numbers::Number;
 use numbers::blank_number;
 use octets::put_all;
 ghost use mathlib.Core.Path.{_≡_};
-ghost use mathlib.Core.List.{[]};
-ghost use Rattle.numbers.specs.Number.{numberOf};
 ghost use Rattle.testtext.specs.Record.{twentyOf, NumberOf, AddressOf};
 
 const NUMBERSIZE: usize = 23;
 
 const ADDRESSSIZE: usize = 44;
 
-fn twenty_of(s: &[u8]) -> [u8; 20]
+fn twenty_of(s: &[u8]) -> [u8; MOST]
     ensures { λ r. ⌜ r ≡ twentyOf (now (s .entry)) ⌝ }
 {
-    let mut octets = [0u8; 20];
+    let mut octets = [0u8; MOST];
     put_all(&mut octets, 0, s);
     octets
 }
@@ -43,7 +42,7 @@ pub fn address_of(s: &[u8]) -> Address
         return Address {
             number,
             subcount: 0,
-            sub: [0; 20],
+            sub: [0; MOST],
         };
     }
     let number = number_of(&s[..NUMBERSIZE]);
