@@ -166,31 +166,3 @@ module _ (p : Profile) (t : Table) (identifier : ℤ) where
         tableGood instancesMost p (handled p t identifier operation r .next) ≡ true
     unfolding handled
     handled-good = verdict-good instancesMost (judge instancesMost p operation r (placesOf p r) row) refl
-
-    -- a request that earns an error alters no registration
-    pub handled-error :
-        (e : ℕ) → judge instancesMost p operation r (placesOf p r) row ≡ some e →
-        handled p t identifier operation r .next .grid ≡ t .grid
-    unfolding handled
-    handled-error e h = rw h (moved-grid t)
-
-    -- "Only a result or an error on a counted end moves the last handled identifier."
-    pub handled-last :
-        handled p t identifier operation r .next .last ≡ pick (eqb (p .counted) 1) (mag identifier) (t .last)
-    unfolding handled
-    handled-last =
-        verdict-next (λ u. u .last ≡ pick (eqb (p .counted) 1) (mag identifier) (t .last))
-        (judge instancesMost p operation r (placesOf p r) row)
-        (moved-last t)
-        (λ _. moved-last changed)
-
-  list-next : (r : Request) (v : Option ℕ) → verdictOf p t identifier interrogation r v .next ≡ moved p identifier t
-  unfolding resultOf
-  list-next r none = refl
-  list-next r (some e) = refl
-
-  -- an interrogation alters no registration either
-  pub handled-list : (r : Request) → handled p t identifier interrogation r .next .grid ≡ t .grid
-  unfolding handled
-  handled-list r =
-      rw (list-next r (judge instancesMost p interrogation r (placesOf p r) (rowAt (t .grid) (r .procedure)))) (moved-grid t)
