@@ -75,9 +75,31 @@ module _ (s : List ℕ) (es : List Entry) where
 -- a list of at most `left` good entries, where they fit a component
 module _ (identifier : ℤ) (left : ℕ) (es : List Entry) (range : mag identifier < 32768) (good : allGood es ≡ true)
     (few : length es ≤ left) (small : 86 * left + 19 < 65536) where
+  -- the reply s, where its containers stand
+  told-in :
+      (s : List ℕ)
+      (i : Inside componentDepth s 0 (length s) 0xA2 (identOctets identifier ++ element 0x30 (sequenceOctets es)))
+      (j : Inside insideDepth s (i .start + length (identOctets identifier)) (length s) 0x30 (sequenceOctets es))
+      (k : Inside argumentDepth s (j .start + length (identOctets (pos interrogation))) (length s) 0x31 (entriesOctets es)) →
+      length (element 0xA2 (identOctets identifier ++ element 0x30 (sequenceOctets es))) ≡ length s →
+      j .start + length (sequenceOctets es) ≡ length s → k .start + length (entriesOctets es) ≡ length s →
+      ListBack identifier s left (tidyEntries es)
+  unfolding saidAt resultAt
+  told-in s i j k whole sequence last = record {
+    at = k .start;
+    end = k .start + length (entriesOctets es);
+    is =
+        own-in identifier interrogation 0xA2 (identOctets identifier ++ element 0x30 (sequenceOctets es)) s range result-tag i whole
+        (stands-left s (i .start) (identOctets identifier) (element 0x30 (sequenceOctets es)) (i .stands))
+        (omega (arith, length-append (identOctets identifier) (element 0x30 (sequenceOctets es))))
+        ∙ ap (orElse Wrong)
+        (list-in s es (i .start + length (identOctets identifier)) (length s) j sequence (omega arith)
+        ∙ set-in s es (j .start + length (identOctets (pos interrogation))) (length s) k last);
+    entries = entries-back left es s (k .start) (k .start + length (entriesOctets es)) good few (k .stands) refl (k .room);
+  }
+
   whole-back :
       ListBack identifier (element 0xA2 (identOctets identifier ++ element 0x30 (sequenceOctets es))) left (tidyEntries es)
-  unfolding saidAt resultAt
   whole-back =
       let a : List ℕ = identOctets identifier in
       let o : List ℕ = identOctets (pos interrogation) in
@@ -99,16 +121,7 @@ module _ (identifier : ℤ) (left : ℕ) (es : List Entry) (range : mag identifi
       let k = inside-element argumentDepth s r (length s) 0x31 (entriesOctets es) (λ z. omega arith) (λ z. omega arith) (omega arith)
       (stands-right s (j .start) o t (j .stands)) (omega (arith, i .stop, j .stop)) (omega arith) in
       let last : k .start + length (entriesOctets es) ≡ length s = omega (arith, i .stop, j .stop, k .stop) in
-      record {
-        at = k .start;
-        end = k .start + length (entriesOctets es);
-        is =
-            own-in identifier interrogation 0xA2 (a ++ q) s range result-tag i refl
-            (stands-left s (i .start) a q (i .stands)) (omega arith)
-            ∙ ap (orElse Wrong)
-            (list-in s es p (length s) j (omega (arith, i .stop, j .stop)) (omega arith) ∙ set-in s es r (length s) k last);
-        entries = entries-back left es s (k .start) (k .start + length (entriesOctets es)) good few (k .stands) refl (k .room);
-      }
+      told-in s i j k refl (omega (arith, i .stop, j .stop)) last
 
   pub list-back : ListBack identifier (listOctets identifier es) left (tidyEntries es)
   list-back = rw (list-octets identifier es) whole-back
