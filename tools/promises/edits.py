@@ -46,9 +46,13 @@ def names(root):
 
 
 def function_at(crate, source, text):
-    """The function in which a text stands, as `module::function`, or a method as `Type::function`; nothing where it stands in none."""
+    """The function in which a text stands; nothing where it stands in none."""
     whole = (crate / source).read_text(encoding="utf-8")
-    at = whole.find(text)
+    return function_from(source, whole, whole.find(text))
+
+
+def function_from(source, whole, at):
+    """The function at a place of a file, as `module::function`, or a method as `Type::function`."""
     heads = [head for head in FUNCTION.finditer(whole) if head.start() <= at]
     if not heads or at > whole.find(f"\n{heads[-1][1]}}}", heads[-1].start()):
         return ""
@@ -57,6 +61,25 @@ def function_at(crate, source, text):
         return f"{owners[-1]}::{heads[-1][2]}"
     module = source.removeprefix("src/").removesuffix(".rt").removesuffix("lib").split("/")
     return "::".join(part for part in [*module, heads[-1][2]] if part)
+
+
+CONSTANT = re.compile(r"^(?:pub(?:\(crate\))? )?const (\w+): [^;]*?= ([^;]*);", re.M)
+
+
+def users(crate, source, text):
+    """The functions that a constant stands in, also by way of other constants, where the text that is altered is a constant's."""
+    sources = {str(path.relative_to(crate)): path.read_text(encoding="utf-8") for path in sorted(crate.glob("src/**/*.rt"))}
+    at = sources[source].find(text)
+    names = {const[1] for const in CONSTANT.finditer(sources[source]) if const.start() <= at < const.end()}
+    values = {const[1]: const[2] for whole in sources.values() for const in CONSTANT.finditer(whole)}
+    while more := {name for name, value in values.items() if names & set(re.findall(r"\w+", value))} - names:
+        names |= more
+    return {
+        function_from(file, whole, name.start())
+        for file, whole in sources.items()
+        for name in re.finditer(r"\w+", whole)
+        if name[0] in names
+    } - {""}
 
 
 def refused(log):
