@@ -84,32 +84,30 @@ struct sconcetoad_told sconcetoad_list(const uint8_t *component, size_t length, 
    no room it writes nothing and answers 0. Octets after the result are not altered. */
 size_t sconcetoad_put_list(uint8_t *out, size_t length, int16_t identifier, struct sconcetoad_entries list);
 
-/* What a procedure holds: a cell for each place, that is each number and service of the profile, 6 x number + service by their places
-   there. A cell whose service is 0 holds no instance, and then its address carries no meaning. */
-#define SCONCETOAD_PLACES 24
-
-struct sconcetoad_cell {
+/* An instance: the procedure (cfu 0, cfb 1, cfnr 2), the served number by its place in the profile, the basic service's code, and the
+   forwarded-to address. */
+struct sconcetoad_instance {
+    uint8_t procedure;
+    uint8_t number;
     uint8_t service;
     struct sconcetoad_address address;
 };
 
-struct sconcetoad_row {
-    struct sconcetoad_cell cells[SCONCETOAD_PLACES];
-};
+/* The most instances: SCONCETOAD_ENTRIES of each procedure. */
+#define SCONCETOAD_INSTANCES 24
 
-/* The rows of cfu, cfb and cfnr. */
-#define SCONCETOAD_PROCEDURES 3
-
-struct sconcetoad_grid {
-    struct sconcetoad_row rows[SCONCETOAD_PROCEDURES];
+/* `count` instances, strictly ascending by procedure, number and service; those past the count carry no meaning. */
+struct sconcetoad_run {
+    uint8_t count;
+    struct sconcetoad_instance run[SCONCETOAD_INSTANCES];
 };
 
 /* The table of an access: the last handled identifier, 0 to 32,767, and the instances. */
-#define SCONCETOAD_TABLE 3242
+#define SCONCETOAD_TABLE 1132
 
 struct sconcetoad_table {
     uint16_t last;
-    struct sconcetoad_grid grid;
+    struct sconcetoad_run run;
 };
 
 /* The table of a new access. */
@@ -203,7 +201,7 @@ struct sconcetoad_sheet_written {
 struct sconcetoad_sheet_written sconcetoad_write_sheet(struct sconcetoad_table table, const uint8_t *access, size_t access_length,
                                                        uint8_t *out, size_t out_length);
 
-/* The table that was read; that of a new access where the sheet is refused. */
+/* The table that was read. Look at `refusal` first: where the sheet is refused the table is that of a new access, and says nothing. */
 struct sconcetoad_sheet_taken {
     uint8_t refusal;
     struct sconcetoad_table table;

@@ -9,6 +9,7 @@ use crate::profile::Profile;
 use crate::records::NUMBER_OCTETS;
 use crate::refusal::Refusal;
 use crate::table::Table;
+use crate::table_record::ADDRESS;
 use crate::transcript::Situation;
 
 #[derive(Clone, Debug, PartialEq, Eq)]
@@ -81,7 +82,7 @@ impl Situation {
     /// Refusals 3, 4 and 5, lowest first: each record is judged before the next one is read.
     pub fn lent(&self, record: &[u8]) -> Result<Lent, Refusal> {
         let profile = self.profile()?;
-        let table = self.table.read(&profile)?;
+        let table = self.table.read()?;
         table.check(&profile)?;
         let call = read_call(record)?;
         call.check(&profile)?;
@@ -101,11 +102,11 @@ impl Situation {
         })
     }
 
-    /// The octets of the cell and of the served number as they stand in their records.
+    /// The octets of the address and of the served number as they stand in their records.
     pub fn carried(&self, lent: &Lent, diverted: &Diverted) -> Carried {
         let mut carried = Carried::clean(diverted);
-        if let Some(cell) = self.table.cell(&lent.profile, lent.call.key()) {
-            carried.called.copy_from_slice(&cell[1..]);
+        if let Some(place) = self.table.held(lent.call.key()) {
+            carried.called.copy_from_slice(&place[ADDRESS..]);
         }
         if let Some(served) = number_octets(&self.access, lent.call.number) {
             carried.redirecting.copy_from_slice(served);

@@ -12,8 +12,8 @@ use crate::table::Table;
 pub struct Arrived {
     pub next: Table,
     pub answer: Answer,
-    /// Procedure, number and service of each place that an activation or deactivation selected.
-    pub changed: Vec<(i32, i32, i32)>,
+    /// Procedure, number and service of each instance that an activation made.
+    pub made: Vec<(i32, i32, i32)>,
     /// How many octets of the lent output the reply took; 0 for silence.
     pub length: usize,
 }
@@ -77,7 +77,7 @@ fn unchanged(table: &Table, answer: Answer) -> Arrived {
     Arrived {
         next: table.clone(),
         answer,
-        changed: Vec::new(),
+        made: Vec::new(),
         length: 0,
     }
 }
@@ -110,7 +110,7 @@ fn handled(identifier: i32, outcome: Outcome, profile: &Profile, table: &Table) 
                 instances: change.instances,
             },
             answer: Answer::Result { identifier },
-            changed: change.keys,
+            made: change.made,
             length: 0,
         },
     };

@@ -1,7 +1,7 @@
 //! Call forwarding as document 01 has it: the coding layer, the exchange, calls, the customer
 //! end, night sheets and the listing. Written from document 01, EN 300 207-1 (000), Q.732.2-5
 //! (001) and the list of open points (A1 to A78) alone; the lines of dialogues with an exchange,
-//! and the records in them, from the paper on their format (docs/DIALOGUES.md).
+//! and the records in them, from the papers on their format (docs/DIALOGUES.md, docs/RECORDS.md).
 //!
 //! Records (profile, table, call, end) are plain integers and vectors that can hold nonsense:
 //! every function judges the records it is lent and refuses bad ones by their number.
@@ -25,6 +25,8 @@ pub mod exchange;
 pub mod exchange_cases;
 pub mod expected;
 pub mod filled;
+pub mod flawed_table;
+pub mod full_tables;
 pub mod hexadecimal;
 pub mod list_cases;
 pub mod listing;
@@ -52,7 +54,9 @@ pub mod soak;
 pub mod soak_kinds;
 pub mod spoiled;
 pub mod table;
+pub mod table_flaws;
 pub mod table_record;
+pub mod table_rubbish;
 pub mod tally;
 pub mod transcript;
 pub mod unusual_replies;

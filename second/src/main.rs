@@ -144,7 +144,7 @@ fn write_cases<T: MustReach>(
     let cases = make(seed, count);
     write_lines(Path::new(directory), &cases.lines)?;
     print(&format!("seed {seed}, {count} {what}\n"))?;
-    print_tally(&cases.tally)
+    print_tally(&cases)
 }
 
 fn run_soak(seeds: u64, steps: u64) -> io::Result<ExitCode> {

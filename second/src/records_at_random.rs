@@ -1,16 +1,17 @@
 //! Access and table records made at random: good ones, at times with rubbish in the places that
-//! carry no meaning, and ones that break a rule for certain.
+//! carry no meaning, and bad ones.
 
 use crate::access_record::{write_access, ACCESS_OCTETS};
-use crate::codes::{PROCEDURES, SERVICES};
+use crate::flawed_table;
 use crate::made;
-use crate::profile::{Profile, MOST_NUMBERS, MOST_SERVICES};
+use crate::profile::Profile;
 use crate::random::Random;
-use crate::records::read_address_record;
-use crate::spoiled::{spoil_number, spoil_profile};
-use crate::table::{Table, MOST_INSTANCES};
+use crate::spoiled::spoil_profile;
+use crate::table::{Instance, Table};
+use crate::table_flaws::{Flaw, CERTAIN_FLAWS};
 use crate::table_record::{
-    cell, cell_place, write_cell, Cell, TableRecord, CELL_OCTETS, DIGIT_COUNT, SUBADDRESS_COUNT,
+    place_of, Place, TableRecord, BLANK, DIGITS, DIGIT_COUNT, PLACE_OCTETS, SUBADDRESS,
+    SUBADDRESS_COUNT,
 };
 
 pub fn access(random: &mut Random, profile: &Profile) -> Vec<u8> {
@@ -35,93 +36,84 @@ pub fn bad_access(random: &mut Random, profile: &Profile) -> Vec<u8> {
 
 /// The record of a good table.
 pub fn table(random: &mut Random, profile: &Profile, table: &Table) -> TableRecord {
-    let mut record = TableRecord::of(profile, table);
+    let mut record = TableRecord::of(table);
+    scribble_at_times(random, profile, &mut record);
+    record
+}
+
+/// A table with one flaw, refused 4 for certain.
+pub fn bad_table(random: &mut Random, profile: &Profile, good: &Table) -> (Flaw, TableRecord) {
+    loop {
+        let flaw = random.pick(CERTAIN_FLAWS).map(|(flaw, _)| *flaw);
+        let made = flaw.and_then(|flaw| Some((flaw, flawed(random, profile, good, flaw)?)));
+        if let Some(made) = made {
+            return made;
+        }
+    }
+}
+
+/// Mostly a bad table, at times one with an octet changed, which may leave it good.
+pub fn thrown_table(random: &mut Random, profile: &Profile, good: &Table) -> (Flaw, TableRecord) {
+    let changed = random.once_in(8).then_some(Flaw::OneOctet);
+    let changed = changed.and_then(|flaw| Some((flaw, flawed(random, profile, good, flaw)?)));
+    changed.unwrap_or_else(|| bad_table(random, profile, good))
+}
+
+/// Another good table is drawn where this one has no room for the flaw.
+fn flawed(random: &mut Random, profile: &Profile, good: &Table, flaw: Flaw) -> Option<TableRecord> {
+    let made = flawed_table::with(random, profile, good, flaw);
+    let mut record = made.or_else(|| {
+        let other = made::table(random, profile);
+        flawed_table::with(random, profile, &other, flaw)
+    })?;
+    scribble_at_times(random, profile, &mut record);
+    Some(record)
+}
+
+fn scribble_at_times(random: &mut Random, profile: &Profile, record: &mut TableRecord) {
     if random.once_in(3) {
-        scribble(random, &mut record);
-    }
-    record
-}
-
-/// Rubbish past the counts of some instances, and in some cells without an instance.
-fn scribble(random: &mut Random, record: &mut TableRecord) {
-    for cell in &mut record.cells {
-        let mut rubbish: Cell = [0; CELL_OCTETS];
-        rubbish.fill_with(|| random.octet());
-        let service = i32::from(cell[0]);
-        match read_address_record(&cell[1..]) {
-            Some(address) if service != 0 => write_cell(&mut rubbish, service, &address),
-            _ if random.once_in(30) => rubbish[0] = 0,
-            _ => continue,
-        }
-        *cell = rubbish;
+        scribble(random, profile, record);
     }
 }
 
-pub fn bad_table(random: &mut Random, profile: &Profile, good: &Table) -> TableRecord {
-    let mut record = table(random, profile, good);
-    match random.below(4) {
-        0 => record.last = random.one_of(&[32_768, 40_000, 65_535]),
-        1 => spoil_cell(random, profile, &mut record),
-        2 => fill_wrong_place(random, profile, &mut record),
-        _ => fill_past_eight(random, profile, &mut record),
+/// Rubbish past the counts of the instances, and in places past the run's.
+pub fn scribble(random: &mut Random, profile: &Profile, record: &mut TableRecord) {
+    let count = usize::from(record.count);
+    let counted = record.places.iter_mut().take(count);
+    // A blank place that is counted stays blank.
+    for place in counted.filter(|place| **place != BLANK) {
+        fill_past_counts(random, place);
     }
-    record
+    let others = made::instances(random, profile);
+    let seldom = random.one_of(&[1, 4, 24]);
+    fill_past_run(random, record, &others, seldom);
 }
 
-/// A cell of the profile with a bad number, subaddress or service code.
-fn spoil_cell(random: &mut Random, profile: &Profile, record: &mut TableRecord) {
-    let at = random.below(profile.services.len());
-    let place = cell_place(random.below(3), random.below(profile.numbers.len()), at);
-    let service = profile.services[at];
-    let mut address = made::address(random);
-    let kind = random.below(3);
-    if kind == 0 {
-        spoil_number(random, &mut address.number);
-    }
-    let spoiled = &mut record.cells[place];
-    *spoiled = cell(service, &address);
-    match kind {
-        1 => spoiled[SUBADDRESS_COUNT] = random.one_of(&[21, 22, 128, 255]),
-        2 => {
-            let others = SERVICES.iter().filter(|code| **code != service);
-            let others: Vec<u8> = others.map(|code| *code as u8).chain([6, 255]).collect();
-            spoiled[0] = random.pick(&others).copied().unwrap_or(6);
-        }
-        _ => {}
-    }
-}
-
-/// An instance of a procedure, number or service that the profile has not. A profile that has
-/// everything gets a last handled identifier that no table has.
-fn fill_wrong_place(random: &mut Random, profile: &Profile, record: &mut TableRecord) {
-    let mut wrong = Vec::new();
-    if profile.numbers.len() < MOST_NUMBERS {
-        wrong.push(cell_place(random.below(3), profile.numbers.len(), 0));
-    }
-    if profile.services.len() < MOST_SERVICES {
-        wrong.push(cell_place(random.below(3), 0, profile.services.len()));
-    }
-    let unsubscribed = PROCEDURES.iter().position(|one| !profile.subscribes(*one));
-    wrong.extend(unsubscribed.map(|procedure| cell_place(procedure, 0, 0)));
-    match random.pick(&wrong) {
-        Some(place) => {
-            let service = random.pick(&profile.services).copied().unwrap_or(1);
-            record.cells[*place] = cell(service, &made::address(random));
-        }
-        None => record.last = u16::MAX,
-    }
-}
-
-/// Every cell of a procedure; where those are few, a number without digits as well.
-fn fill_past_eight(random: &mut Random, profile: &Profile, record: &mut TableRecord) {
-    let procedure = random.below(3);
-    for number in 0..profile.numbers.len() {
-        for (at, service) in profile.services.iter().enumerate() {
-            let place = cell_place(procedure, number, at);
-            record.cells[place] = cell(*service, &made::address(random));
+fn fill_past_counts(random: &mut Random, place: &mut Place) {
+    let digits = DIGITS + usize::from(place[DIGIT_COUNT]);
+    let octets = SUBADDRESS + usize::from(place[SUBADDRESS_COUNT]);
+    for dead in [digits..SUBADDRESS_COUNT, octets..PLACE_OCTETS] {
+        // Nothing is past a count that goes past its places.
+        if let Some(dead) = place.get_mut(dead) {
+            dead.fill_with(|| random.octet());
         }
     }
-    if profile.numbers.len() * profile.services.len() <= MOST_INSTANCES {
-        record.cells[cell_place(procedure, 0, 0)][DIGIT_COUNT] = 0;
+}
+
+/// One in so many of the places past the count gets any octets, or one of these instances.
+pub fn fill_past_run(
+    random: &mut Random,
+    record: &mut TableRecord,
+    instances: &[Instance],
+    seldom: usize,
+) {
+    let count = usize::from(record.count);
+    for place in record.places.iter_mut().skip(count) {
+        if random.once_in(seldom) {
+            place.fill_with(|| random.octet());
+            if let Some(instance) = random.pick(instances).filter(|_| random.once_in(2)) {
+                *place = place_of(instance);
+            }
+        }
     }
 }

@@ -27,9 +27,9 @@ pub enum Outcome {
 pub struct Change {
     /// The instances afterwards.
     pub instances: Vec<Instance>,
-    /// Procedure, number and service of each place that was selected, be it that the same address,
-    /// or none, stood there before.
-    pub keys: Vec<(i32, i32, i32)>,
+    /// Procedure, number and service of each instance that was made, be it that one with the same
+    /// address was there before.
+    pub made: Vec<(i32, i32, i32)>,
 }
 
 /// The selected numbers (by index, in the profile's order) and service of one procedure.
@@ -46,7 +46,7 @@ pub fn judge(profile: &Profile, instances: &[Instance], request: &Request) -> Ou
     };
     match request {
         Request::Activation { address, .. } => activate(profile, instances, &selection, address),
-        Request::Deactivation { .. } => deactivate(profile, instances, &selection),
+        Request::Deactivation { .. } => deactivate(instances, &selection),
         Request::Interrogation { .. } => interrogate(profile, instances, &selection),
     }
 }
@@ -101,7 +101,7 @@ fn activate(
         .filter(|instance| !selection.holds(instance))
         .cloned();
     let new = new_instances(profile, selection, address);
-    let keys = new.iter().map(Instance::key).collect();
+    let made = new.iter().map(Instance::key).collect();
     let after = sorted(others.chain(new).collect());
     // A32: over all numbers, replaced ones once.
     if count(&after, selection.procedure) > MOST_INSTANCES {
@@ -109,7 +109,7 @@ fn activate(
     }
     Outcome::Done(Change {
         instances: after,
-        keys,
+        made,
     })
 }
 
@@ -149,8 +149,8 @@ fn invalid_diverted_to(number: &Number) -> bool {
     }
 }
 
-/// Procedure, number and service of each place that is selected, in order.
-fn selected_places(profile: &Profile, selection: &Selection) -> Vec<(i32, i32, i32)> {
+/// One for each selected number and service, in order.
+fn new_instances(profile: &Profile, selection: &Selection, address: &Address) -> Vec<Instance> {
     let services: Vec<i32> = if selection.service == ALL_SERVICES {
         profile.services.clone()
     } else {
@@ -159,28 +159,19 @@ fn selected_places(profile: &Profile, selection: &Selection) -> Vec<(i32, i32, i
     let numbers = selection.numbers.iter();
     numbers
         .flat_map(|number| {
-            services
-                .iter()
-                .map(|service| (selection.procedure, *number, *service))
-        })
-        .collect()
-}
-
-fn new_instances(profile: &Profile, selection: &Selection, address: &Address) -> Vec<Instance> {
-    selected_places(profile, selection)
-        .into_iter()
-        .map(|(procedure, number, service)| Instance {
-            procedure,
-            number,
-            service,
-            address: address.clone(),
+            services.iter().map(|service| Instance {
+                procedure: selection.procedure,
+                number: *number,
+                service: *service,
+                address: address.clone(),
+            })
         })
         .collect()
 }
 
 /// House: 46 exactly if no selected instance is active, so an unsubscribed service gives 46
 /// (A30, A34).
-fn deactivate(profile: &Profile, instances: &[Instance], selection: &Selection) -> Outcome {
+fn deactivate(instances: &[Instance], selection: &Selection) -> Outcome {
     let (removed, left): (Vec<Instance>, Vec<Instance>) = instances
         .iter()
         .cloned()
@@ -190,7 +181,7 @@ fn deactivate(profile: &Profile, instances: &[Instance], selection: &Selection) 
     }
     Outcome::Done(Change {
         instances: left,
-        keys: selected_places(profile, selection),
+        made: Vec::new(),
     })
 }
 

@@ -78,7 +78,7 @@ fn written(now: &Situation) -> Result<Vec<u8>, Refusal> {
     let mut output = vec![0; now.output];
     sheet::size_fits(&output)?;
     let profile = now.profile()?;
-    let table = now.table.read(&profile)?;
+    let table = now.table.read()?;
     let length = sheet::write(&mut output, &profile, &table)?;
     output.truncate(length);
     Ok(output)
@@ -94,5 +94,5 @@ fn listed(now: &Situation, sheet: &[u8]) -> Result<String, Refusal> {
 fn read(now: &Situation, sheet: &[u8]) -> Result<TableRecord, Refusal> {
     let profile = now.profile()?;
     let table = sheet::read(&profile, sheet)?;
-    Ok(TableRecord::of(&profile, &table))
+    Ok(TableRecord::of(&table))
 }

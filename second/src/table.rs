@@ -21,7 +21,7 @@ pub struct Instance {
 #[derive(Clone, Debug, PartialEq, Eq)]
 pub struct Table {
     pub last: i32,
-    /// In any order (A8).
+    /// In any order (A8): a record's or a sheet's is judged where that is read.
     pub instances: Vec<Instance>,
 }
 

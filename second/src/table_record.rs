@@ -1,153 +1,157 @@
-//! The table as a record: the last handled identifier and a grid of cells, one for each
-//! procedure, number and service. It keeps octets that carry no meaning.
+//! The table as a record: the last handled identifier, and the instances packed into a run, with
+//! a count and places of fixed size. It keeps octets that carry no meaning.
 
-use crate::codes::place;
+use crate::answer::Answer;
 use crate::exchange::Arrived;
 use crate::numbers::Address;
-use crate::profile::Profile;
 use crate::records::{octet, read_address_record, write_address_record, ADDRESS_OCTETS};
 use crate::refusal::Refusal;
 use crate::table::{Instance, Table};
 
-/// A service code and an address.
-pub const CELL_OCTETS: usize = 1 + ADDRESS_OCTETS;
-const CELLS: usize = 72;
-const CELLS_OF_PROCEDURE: usize = 24;
-const CELLS_OF_NUMBER: usize = 6;
+/// Procedure, number, service and an address.
+pub const PLACE_OCTETS: usize = ADDRESS + ADDRESS_OCTETS;
+/// Eight for each procedure.
+pub const PLACES: usize = 24;
 
-/// Where octets of a cell stand, after its service.
-pub const FORM: usize = 1;
-pub const TYPE: usize = 2;
-pub const DIGIT_COUNT: usize = 3;
-pub const DIGITS: usize = 4;
-pub const SUBADDRESS_COUNT: usize = 24;
-pub const SUBADDRESS: usize = 25;
+/// Where octets of a place stand.
+pub const PROCEDURE: usize = 0;
+pub const NUMBER: usize = 1;
+pub const SERVICE: usize = 2;
+pub const ADDRESS: usize = 3;
+pub const FORM: usize = 3;
+pub const TYPE: usize = 4;
+pub const DIGIT_COUNT: usize = 5;
+pub const DIGITS: usize = 6;
+pub const SUBADDRESS_COUNT: usize = 26;
+pub const SUBADDRESS: usize = 27;
 
-pub type Cell = [u8; CELL_OCTETS];
-const NO_INSTANCE: Cell = [0; CELL_OCTETS];
+pub type Place = [u8; PLACE_OCTETS];
+pub const BLANK: Place = [0; PLACE_OCTETS];
 
 #[derive(Clone, Debug, PartialEq, Eq)]
 pub struct TableRecord {
     pub last: u16,
-    pub cells: [Cell; CELLS],
+    /// How many places hold an instance; any octet can stand here.
+    pub count: u8,
+    pub places: [Place; PLACES],
 }
 
-/// An instance's cell, zeros past the counts.
-pub fn cell(service: i32, address: &Address) -> Cell {
-    let mut cell = NO_INSTANCE;
-    write_cell(&mut cell, service, address);
-    cell
+/// An instance's place, zeros past its counts.
+pub fn place(procedure: i32, number: i32, service: i32, address: &Address) -> Place {
+    let mut place = BLANK;
+    place[PROCEDURE] = octet(procedure);
+    place[NUMBER] = octet(number);
+    place[SERVICE] = octet(service);
+    write_address_record(&mut place[ADDRESS..], address);
+    place
 }
 
-/// Places past the counts stay as they were.
-pub fn write_cell(cell: &mut Cell, service: i32, address: &Address) {
-    cell[0] = octet(service);
-    write_address_record(&mut cell[1..], address);
+pub fn place_of(instance: &Instance) -> Place {
+    let (procedure, number, service) = instance.key();
+    place(procedure, number, service, &instance.address)
 }
 
-/// 24 x procedure + 6 x number + service, the latter two by their place in the profile.
-pub fn cell_place(procedure: usize, number: usize, service: usize) -> usize {
-    CELLS_OF_PROCEDURE * procedure + CELLS_OF_NUMBER * number + service
-}
-
-fn place_of(profile: &Profile, key: (i32, i32, i32)) -> Option<usize> {
-    let (procedure, number, service) = key;
-    let mut services = profile.services.iter();
-    let service = services.position(|code| *code == service)?;
-    Some(cell_place(place(procedure)?, place(number)?, service))
+/// What a run's instances ascend by.
+pub fn key_at(place: &Place) -> (i32, i32, i32) {
+    let [procedure, number, service] = [PROCEDURE, NUMBER, SERVICE].map(|at| i32::from(place[at]));
+    (procedure, number, service)
 }
 
 impl TableRecord {
     pub fn fresh() -> Self {
+        TableRecord::holding(0, &[])
+    }
+
+    /// These places counted, in the order given, and blank ones past them.
+    pub fn holding(last: u16, counted: &[Place]) -> Self {
+        let mut places = [BLANK; PLACES];
+        for (held, place) in places.iter_mut().zip(counted) {
+            *held = *place;
+        }
         TableRecord {
-            last: 0,
-            cells: [NO_INSTANCE; CELLS],
+            last,
+            count: u8::try_from(counted.len()).unwrap_or(u8::MAX),
+            places,
         }
     }
 
-    /// The record of a good table.
-    pub fn of(profile: &Profile, table: &Table) -> Self {
-        let mut record = TableRecord::fresh();
-        record.set_last(table.last);
-        for instance in &table.instances {
-            record.put(profile, instance.key(), cell_of(instance));
+    /// The record of a good table, with zeros wherever nothing carries a meaning.
+    pub fn of(table: &Table) -> Self {
+        let counted: Vec<Place> = table.sorted().instances.iter().map(place_of).collect();
+        TableRecord::holding(last_octets(table.last), &counted)
+    }
+
+    /// `None` where the count goes past the places.
+    pub fn counted(&self) -> Option<&[Place]> {
+        self.places.get(..usize::from(self.count))
+    }
+
+    /// Those past the count; none where the count goes past the places.
+    pub fn uncounted(&self) -> &[Place] {
+        self.places.get(usize::from(self.count)..).unwrap_or(&[])
+    }
+
+    /// The place of the instance with this procedure, number and service.
+    pub fn held(&self, key: (i32, i32, i32)) -> Option<&Place> {
+        self.counted()?.iter().find(|place| key_at(place) == key)
+    }
+
+    /// The table, its other rules not yet judged; refusal 4 where the count, or one of an
+    /// instance, goes past its places, or the instances don't strictly ascend.
+    pub fn read(&self) -> Result<Table, Refusal> {
+        let counted = self.counted().ok_or(Refusal::BadRecord)?;
+        let ascends = |pair: &[Place]| key_at(&pair[0]) < key_at(&pair[1]);
+        let instances: Option<Vec<Instance>> = counted.iter().map(read_place).collect();
+        match instances {
+            Some(instances) if counted.windows(2).all(ascends) => Ok(Table {
+                last: i32::from(self.last),
+                instances,
+            }),
+            _ => Err(Refusal::BadRecord),
         }
-        record
     }
 
-    fn set_last(&mut self, last: i32) {
-        self.last = u16::try_from(last).unwrap_or(u16::MAX);
-    }
-
-    fn put(&mut self, profile: &Profile, key: (i32, i32, i32), cell: Cell) {
-        let place = place_of(profile, key);
-        if let Some(held) = place.and_then(|place| self.cells.get_mut(place)) {
-            *held = cell;
-        }
-    }
-
-    /// The cell of a procedure, number and service; none where the profile has no such place.
-    pub fn cell(&self, profile: &Profile, key: (i32, i32, i32)) -> Option<&Cell> {
-        place_of(profile, key).and_then(|place| self.cells.get(place))
-    }
-
-    /// The table, its other rules not yet judged; refusal 4 where a service code is not the
-    /// profile's at that place, or a count goes past its places.
-    pub fn read(&self, profile: &Profile) -> Result<Table, Refusal> {
-        let active = self
-            .cells
+    /// The record after a component. Only the result of an activation or deactivation writes the
+    /// run anew: what stays keeps every octet, and past the count all is zeros.
+    pub fn after(&self, arrived: &Arrived) -> TableRecord {
+        let last = last_octets(arrived.next.last);
+        let Answer::Result { .. } = arrived.answer else {
+            return TableRecord {
+                last,
+                ..self.clone()
+            };
+        };
+        let next = arrived.next.sorted().instances;
+        let counted: Vec<Place> = next
             .iter()
-            .enumerate()
-            .filter(|(_, cell)| cell[0] != 0);
-        let instances: Option<Vec<Instance>> = active
-            .map(|(place, cell)| read_cell(profile, place, cell))
+            .map(|instance| match self.held(instance.key()) {
+                Some(stays) if !arrived.made.contains(&instance.key()) => *stays,
+                _ => place_of(instance),
+            })
             .collect();
-        Ok(Table {
-            last: i32::from(self.last),
-            instances: instances.ok_or(Refusal::BadRecord)?,
-        })
+        TableRecord::holding(last, &counted)
     }
 
-    /// The record after a component: only the cells of places that an activation or deactivation
-    /// selected change, and those have zeros in every place that carries no meaning.
-    pub fn after(&self, profile: &Profile, arrived: &Arrived) -> TableRecord {
-        let mut record = self.clone();
-        record.set_last(arrived.next.last);
-        for key in &arrived.changed {
-            let mut next = arrived.next.instances.iter();
-            let placed = next.find(|instance| instance.key() == *key);
-            record.put(profile, *key, placed.map_or(NO_INSTANCE, cell_of));
-        }
-        record
-    }
-
-    /// The last handled identifier, then the place and octets of each cell not all zeros.
+    /// The last handled identifier, the count, and the places up to the last not all zeros.
     pub fn octets(&self) -> Vec<u8> {
-        let mut octets = self.last.to_be_bytes().to_vec();
-        for (place, cell) in (0..).zip(&self.cells) {
-            if *cell != NO_INSTANCE {
-                octets.push(place);
-                octets.extend_from_slice(cell);
-            }
-        }
-        octets
+        let written = self.places.iter().rposition(|place| *place != BLANK);
+        let written = &self.places[..written.map_or(0, |at| at + 1)];
+        let [high, low] = self.last.to_be_bytes();
+        [&[high, low, self.count], written.as_flattened()].concat()
     }
 }
 
-fn cell_of(instance: &Instance) -> Cell {
-    cell(instance.service, &instance.address)
+fn last_octets(last: i32) -> u16 {
+    u16::try_from(last).unwrap_or(u16::MAX)
 }
 
-fn read_cell(profile: &Profile, place: usize, cell: &Cell) -> Option<Instance> {
-    let service = i32::from(cell[0]);
-    let profiles = profile.services.get(place % CELLS_OF_NUMBER);
-    if profiles != Some(&service) {
-        return None;
-    }
+/// `None` where a count of the instance goes past its places.
+pub fn read_place(place: &Place) -> Option<Instance> {
+    let (procedure, number, service) = key_at(place);
     Some(Instance {
-        procedure: (place / CELLS_OF_PROCEDURE) as i32,
-        number: (place % CELLS_OF_PROCEDURE / CELLS_OF_NUMBER) as i32,
+        procedure,
+        number,
         service,
-        address: read_address_record(&cell[1..])?,
+        address: read_address_record(&place[ADDRESS..])?,
     })
 }

@@ -61,9 +61,9 @@ impl Situation {
         let mut output = vec![0; self.output];
         sizes_fit(&output, component)?;
         let profile = self.profile()?;
-        let table = self.table.read(&profile)?;
+        let table = self.table.read()?;
         let arrived = arrive(&mut output, component, &profile, &table)?;
-        let next = self.table.after(&profile, &arrived);
+        let next = self.table.after(&arrived);
         Ok((arrived, next))
     }
 

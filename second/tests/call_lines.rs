@@ -3,7 +3,7 @@
 mod common;
 
 use common::lines::{
-    count, names_hold, never_reached_is_told, outputs_hold, seed_decides, sizes_hold,
+    count, format_holds, names_hold, never_reached_is_told, outputs_hold, seed_decides, sizes_hold,
     the_files_are_written,
 };
 use second::call_answer::CallAnswer;
@@ -53,6 +53,12 @@ fn dialogues_are_short_enough_to_be_kept() {
 }
 
 #[test]
+fn every_line_keeps_the_format() {
+    format_holds(&transcript(&call_dialogues()));
+    format_holds(&call_cases(4, 4_000).lines);
+}
+
+#[test]
 fn cases_are_the_same_for_the_same_seed() {
     seed_decides(call_cases, 1_000);
 }
@@ -62,7 +68,7 @@ fn cases_reach_every_kind_and_most_meet_an_instance() {
     for seed in [1, 2, 3] {
         let cases = call_cases(seed, 8_000);
         assert_eq!(count(&cases.lines, "call"), 8_000);
-        assert_eq!(cases.tally.never_reached(), Vec::<String>::new());
+        assert_eq!(cases.never_reached(), Vec::<String>::new());
         let reached = |kind| cases.tally.count(kind);
         let refused = reached(Reached::Refusal(3)) + reached(Reached::Refusal(4));
         assert!(refused <= 8_000 / 4, "{refused}");

@@ -46,7 +46,7 @@ fn forwarding() -> Situation {
     held.address.subaddress = Subaddress::Octets(vec![0xAB]);
     Situation {
         access: access_record(&profile),
-        table: TableRecord::of(&profile, &table(0, &[held])),
+        table: TableRecord::of(&table(0, &[held])),
         ..Situation::at_the_start()
     }
 }
@@ -119,7 +119,7 @@ fn a_spoiled_call_is_refused_after_the_access_and_the_table() {
             ..Situation::at_the_start()
         };
         assert_eq!(situation.called(&bad), CallAnswer::Refused(5));
-        situation.table = records_at_random::bad_table(&mut random, &profile, &held);
+        (_, situation.table) = records_at_random::bad_table(&mut random, &profile, &held);
         assert_eq!(situation.called(&bad), CallAnswer::Refused(4));
         situation.access = records_at_random::bad_access(&mut random, &profile);
         assert_eq!(situation.called(&bad), CallAnswer::Refused(3));

@@ -3,7 +3,7 @@
 mod common;
 
 use common::lines::{
-    count, names_hold, never_reached_is_told, outputs_hold, seed_decides, sizes_hold,
+    count, format_holds, names_hold, never_reached_is_told, outputs_hold, seed_decides, sizes_hold,
     the_files_are_written,
 };
 use second::dialogues::{dialogues, disagreements, transcript, Line, Turn};
@@ -55,6 +55,12 @@ fn dialogues_are_short_enough_to_be_kept() {
 }
 
 #[test]
+fn every_line_keeps_the_format() {
+    format_holds(&transcript(&dialogues()));
+    format_holds(&exchange_cases(4, 4_000).lines);
+}
+
+#[test]
 fn cases_are_the_same_for_the_same_seed() {
     seed_decides(exchange_cases, 2_000);
 }
@@ -64,7 +70,7 @@ fn cases_reach_every_kind_and_few_are_refused() {
     for seed in [1, 2, 3] {
         let cases = exchange_cases(seed, 24_000);
         assert_eq!(count(&cases.lines, "component"), 24_000);
-        assert_eq!(cases.tally.never_reached(), Vec::<String>::new());
+        assert_eq!(cases.never_reached(), Vec::<String>::new());
         let refused: u64 = (1..=4)
             .map(|number| cases.tally.count(Reached::Refusal(number)))
             .sum();

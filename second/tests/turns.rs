@@ -4,8 +4,10 @@ mod common;
 
 use common::{instance, octets, sample_profile, ACTIVATION_OF_CFB};
 use second::call_answer::CallAnswer;
+use second::call_dialogues::call_dialogues;
 use second::calls::{Call, BUSY, PREFERRED};
-use second::dialogues::{dialogue, disagreements, transcript, Dialogue};
+use second::dialogues::{dialogue, dialogues, disagreements, transcript, Dialogue};
+use second::sheet_dialogues::sheet_dialogues;
 use second::transcript::Said;
 
 const SHEET: &str = "01 02 01 01 00 01 00 00 05 02 04 06 08 00 00";
@@ -55,4 +57,12 @@ fn the_lines_come_in_the_order_of_the_turns() {
     let words: Vec<&str> = words.map(Option::unwrap_or_default).collect();
     let expected = "# access output component write call table call read call list component";
     assert_eq!(words.join(" "), expected);
+}
+
+/// Each set begins with a line `start`.
+#[test]
+fn the_dialogues_together_are_short_enough_to_be_stored() {
+    let sets = [dialogues(), call_dialogues(), sheet_dialogues()];
+    let sizes = sets.map(|set| "start\n".len() + transcript(&set).input.len());
+    assert!(sizes.iter().sum::<usize>() <= 524_288);
 }

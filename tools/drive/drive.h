@@ -24,8 +24,8 @@ const uint8_t *entry_from(const uint8_t *at, struct sconcetoad_entry *entry);
 uint8_t *entry_to(uint8_t *at, const struct sconcetoad_entry *entry);
 uint8_t *onward_to(uint8_t *at, const struct sconcetoad_onward *onward);
 
-/* The most octets of a table in a line (docs/DIALOGUES.md): the identifier, and every cell with its place. */
-#define TABLE_MOST (2 + SCONCETOAD_PROCEDURES * SCONCETOAD_PLACES * (1 + sizeof(struct sconcetoad_cell)))
+/* The most octets of a table in a line (docs/DIALOGUES.md): the identifier, the count, and every place. */
+#define TABLE_MOST (3 + SCONCETOAD_INSTANCES * sizeof(struct sconcetoad_instance))
 
 /* Answers whether the octets are a table. */
 int table_from(const uint8_t *octets, size_t count, struct sconcetoad_table *table);

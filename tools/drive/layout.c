@@ -52,25 +52,25 @@ RECORD(told, 554);
 FIELD(told, lists, 0, 1);
 FIELD(told, list, 1, 553);
 
-RECORD(cell, 45);
-FIELD(cell, service, 0, 1);
-FIELD(cell, address, 1, 44);
+RECORD(instance, 47);
+FIELD(instance, procedure, 0, 1);
+FIELD(instance, number, 1, 1);
+FIELD(instance, service, 2, 1);
+FIELD(instance, address, 3, 44);
 
-RECORD(row, 1080);
-FIELD(row, cells, 0, 24 * 45);
-
-RECORD(grid, 3240);
-FIELD(grid, rows, 0, 3 * 1080);
+RECORD(run, 1129);
+FIELD(run, count, 0, 1);
+FIELD(run, run, 1, 24 * 47);
 
 RECORD(table, SCONCETOAD_TABLE);
-RECORD(table, 3242);
+RECORD(table, 1132);
 FIELD(table, last, 0, 2);
-FIELD(table, grid, 2, 3240);
+FIELD(table, run, 2, 1129);
 
-RECORD(arrival, 3264);
+RECORD(arrival, 1152);
 FIELD(arrival, refusal, 0, 1);
 FIELD(arrival, count, 8, 8);
-FIELD(arrival, table, 16, 3242);
+FIELD(arrival, table, 16, 1132);
 
 RECORD(onward, 95);
 FIELD(onward, counter, 0, 1);
@@ -92,6 +92,6 @@ RECORD(sheet_written, 16);
 FIELD(sheet_written, refusal, 0, 1);
 FIELD(sheet_written, count, 8, 8);
 
-RECORD(sheet_taken, 3244);
+RECORD(sheet_taken, 1134);
 FIELD(sheet_taken, refusal, 0, 1);
-FIELD(sheet_taken, table, 2, 3242);
+FIELD(sheet_taken, table, 2, 1132);

@@ -30,8 +30,9 @@ static struct sconcetoad_address longest_address(void)
 /* Services of two digits each, which are listed at the greatest length. */
 #define FIRST_SERVICE 32
 #define SERVICES 6
+#define NUMBERS 4
 
-/* The widest access, and the fullest table of it: at the last places of every procedure. */
+/* The widest access, and the fullest table of it: with the last numbers and services, which take the most characters in a listing. */
 static void fill(void)
 {
     memset(lent_octets(&access_record), 0, LENT_MOST);
@@ -40,12 +41,15 @@ static void fill(void)
         lent_octets(&access_record)[ACCESS_SERVICES + i] = (uint8_t)(FIRST_SERVICE + i);
     table = sconcetoad_fresh_table();
     table.last = 32767;
-    for (int procedure = 0; procedure < SCONCETOAD_PROCEDURES; procedure++)
-        for (int place = SCONCETOAD_PLACES - SCONCETOAD_ENTRIES; place < SCONCETOAD_PLACES; place++) {
-            struct sconcetoad_cell *cell = &table.grid.rows[procedure].cells[place];
-            cell->service = (uint8_t)(FIRST_SERVICE + place % SERVICES);
-            cell->address = longest_address();
-        }
+    table.run.count = SCONCETOAD_INSTANCES;
+    for (int i = 0; i < SCONCETOAD_INSTANCES; i++) {
+        int pair = NUMBERS * SERVICES - SCONCETOAD_ENTRIES + i % SCONCETOAD_ENTRIES;
+        struct sconcetoad_instance *instance = &table.run.run[i];
+        instance->procedure = (uint8_t)(i / SCONCETOAD_ENTRIES);
+        instance->number = (uint8_t)(pair / SERVICES);
+        instance->service = (uint8_t)(FIRST_SERVICE + pair % SERVICES);
+        instance->address = longest_address();
+    }
 }
 
 /* Sizes that refuse nothing, for all but the one that is tried. */
@@ -197,15 +201,6 @@ static const struct {
     {"listing", SCONCETOAD_LISTING, listing_at_output},
 };
 
-static int instances_of(const struct sconcetoad_table *of)
-{
-    int count = 0;
-    for (int procedure = 0; procedure < SCONCETOAD_PROCEDURES; procedure++)
-        for (int place = 0; place < SCONCETOAD_PLACES; place++)
-            count += of->grid.rows[procedure].cells[place].service != 0;
-    return count;
-}
-
 /* The sizes of what goes over as a record: how much of the fullest list and of the fullest table comes back. */
 static void say_records(void)
 {
@@ -216,7 +211,7 @@ static void say_records(void)
     give_sheet();
     struct sconcetoad_sheet_taken taken =
         sconcetoad_read_sheet(lent_octets(&access_record), access_record.size, lent_octets(&given), given.size);
-    printf("instances: %d, and %d are read\n", instances_of(&table), instances_of(&taken.table));
+    printf("instances: %d, and %d are read\n", table.run.count, taken.table.run.count);
     printf("table: %s\n", sizeof table == SCONCETOAD_TABLE ? "of the size said" : "of another size");
 }
 

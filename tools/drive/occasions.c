@@ -43,12 +43,15 @@ void wide_access(uint8_t *access)
     memcpy(access + 93, rest, sizeof rest);
 }
 
-static void set_cell(struct sconcetoad_table *table, int procedure, int number, int service)
+/* An instance of five digits after those that are there, which it must come after. */
+static void add_instance(struct sconcetoad_table *table, int procedure, int number, int service)
 {
-    struct sconcetoad_cell *cell = &table->grid.rows[procedure].cells[6 * number + service];
-    cell->service = (uint8_t)(service + 1);
-    cell->address.number.count = 5;
-    memcpy(cell->address.number.digits, "24680", 5);
+    struct sconcetoad_instance *instance = &table->run.run[table->run.count++];
+    instance->procedure = (uint8_t)procedure;
+    instance->number = (uint8_t)number;
+    instance->service = (uint8_t)(service + 1);
+    instance->address.number.count = 5;
+    memcpy(instance->address.number.digits, "24680", 5);
 }
 
 static void none(struct sconcetoad_table *table)
@@ -59,7 +62,7 @@ static void none(struct sconcetoad_table *table)
 /* The one instance that the samples' profile has a place for. */
 static void one(struct sconcetoad_table *table)
 {
-    set_cell(table, 1, 0, 0);
+    add_instance(table, 1, 0, 0);
 }
 
 /* Eight of a procedure: two services of each number. */
@@ -67,7 +70,7 @@ static void eight_of(struct sconcetoad_table *table, int procedure)
 {
     for (int number = 0; number < 4; number++)
         for (int service = 0; service < 2; service++)
-            set_cell(table, procedure, number, service);
+            add_instance(table, procedure, number, service);
 }
 
 static void eight(struct sconcetoad_table *table)
@@ -77,7 +80,7 @@ static void eight(struct sconcetoad_table *table)
 
 static void full(struct sconcetoad_table *table)
 {
-    for (int procedure = 0; procedure < SCONCETOAD_PROCEDURES; procedure++)
+    for (int procedure = 0; procedure < SCONCETOAD_INSTANCES / SCONCETOAD_ENTRIES; procedure++)
         eight_of(table, procedure);
 }
 

@@ -73,38 +73,38 @@ uint8_t *onward_to(uint8_t *at, const struct sconcetoad_onward *onward)
     return number_to(at, &onward->noticed);
 }
 
-/* The octets of a cell in a line; those of a cell without instance are left out there. */
-#define CELL 45
+/* The octets of an instance in a line. */
+#define INSTANCE 47
 
-static const uint8_t *cell_from(const uint8_t *at, struct sconcetoad_cell *cell)
+static const uint8_t *instance_from(const uint8_t *at, struct sconcetoad_instance *instance)
 {
-    cell->service = *at++;
-    return address_from(at, &cell->address);
+    instance->procedure = *at++;
+    instance->number = *at++;
+    instance->service = *at++;
+    return address_from(at, &instance->address);
 }
 
-static uint8_t *cell_to(uint8_t *at, const struct sconcetoad_cell *cell)
+static uint8_t *instance_to(uint8_t *at, const struct sconcetoad_instance *instance)
 {
-    *at++ = cell->service;
-    return address_to(at, &cell->address);
+    *at++ = instance->procedure;
+    *at++ = instance->number;
+    *at++ = instance->service;
+    return address_to(at, &instance->address);
 }
 
-/* A place counts through the rows. */
-#define TABLE_PLACES (SCONCETOAD_PROCEDURES * SCONCETOAD_PLACES)
+/* The identifier and the count stand before the places. */
+#define TABLE_HEAD 3
 
 int table_from(const uint8_t *octets, size_t count, struct sconcetoad_table *table)
 {
-    if (count < 2 || (count - 2) % (1 + CELL) != 0)
+    if (count < TABLE_HEAD || count > TABLE_MOST || (count - TABLE_HEAD) % INSTANCE != 0)
         return 0;
     memset(table, 0, sizeof *table);
     table->last = (uint16_t)(octets[0] * 256 + octets[1]);
-    int below = -1;
-    for (const uint8_t *at = octets + 2; at < octets + count;) {
-        int place = *at++;
-        if (place <= below || place >= TABLE_PLACES)
-            return 0;
-        at = cell_from(at, &table->grid.rows[place / SCONCETOAD_PLACES].cells[place % SCONCETOAD_PLACES]);
-        below = place;
-    }
+    table->run.count = octets[2];
+    struct sconcetoad_instance *instance = table->run.run;
+    for (const uint8_t *at = octets + TABLE_HEAD; at < octets + count;)
+        at = instance_from(at, instance++);
     return 1;
 }
 
@@ -121,11 +121,13 @@ size_t table_to(uint8_t *octets, const struct sconcetoad_table *table)
     uint8_t *at = octets;
     *at++ = (uint8_t)(table->last / 256);
     *at++ = (uint8_t)(table->last % 256);
-    for (int place = 0; place < TABLE_PLACES; place++) {
-        *at = (uint8_t)place;
-        uint8_t *end = cell_to(at + 1, &table->grid.rows[place / SCONCETOAD_PLACES].cells[place % SCONCETOAD_PLACES]);
-        if (!all_zeros(at + 1, (size_t)(end - at) - 1))
-            at = end;
+    *at++ = table->run.count;
+    uint8_t *last = at;
+    for (int place = 0; place < SCONCETOAD_INSTANCES; place++) {
+        uint8_t *end = instance_to(at, &table->run.run[place]);
+        if (!all_zeros(at, (size_t)(end - at)))
+            last = end;
+        at = end;
     }
-    return (size_t)(at - octets);
+    return (size_t)(last - octets);
 }

@@ -9,7 +9,7 @@ use lib.Seq.{drop-append-seam}
 use Rattle.laws.specs.Pick.{pick}
 use Rattle.laws.specs.Over.{over, room}
 use Rattle.laws.proofs.Over.{over-eq, room-fits}
-use Rattle.lists.specs.Entries.{listed}
+use Rattle.lists.specs.Entries.{entriesIn}
 use Rattle.lists.specs.declared.entries.Entries.{Entries}
 use Rattle.answers.specs.Answer.{answerOctets, PutAnswer}
 use Rattle.answers.specs.declared.answer.Answer.{Answer}
@@ -29,5 +29,5 @@ rest xs ws ys n false same moved holds = rw (holds)
 pub answer-rest :
     (xs : List ℕ) (a : Answer) (list : Entries) (n : ℕ) (ys : List ℕ) → PutAnswer xs a list n ys → drop n ys ≡ drop n xs
 answer-rest xs a list n ys p =
-    let ws : List ℕ = answerOctets a (listed list) in
+    let ws : List ℕ = answerOctets a (entriesIn list) in
     rest xs ws ys n (room xs 0 ws) (over-rest xs ws) (p .moved) (p .holds)

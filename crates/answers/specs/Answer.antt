@@ -7,7 +7,7 @@ use Rattle.laws.specs.Over.{Puts}
 use Rattle.octets.specs.Element.{element}
 use Rattle.values.specs.Ident.{identOctets}
 use Rattle.requests.specs.Request.{interrogation}
-use Rattle.lists.specs.Entries.{listed}
+use Rattle.lists.specs.Entries.{entriesIn}
 use Rattle.lists.specs.Listed.{listOctets}
 use Rattle.lists.specs.declared.entry.Entry.{Entry}
 use Rattle.lists.specs.declared.entries.Entries.{Entries}
@@ -80,4 +80,4 @@ answerOctets (answer.Listing identifier) es = listOctets identifier es
 
 -- what `put_answer` promises
 abbrev pub PutAnswer : List ℕ → Answer → Entries → ℕ → List ℕ → Type 0
-PutAnswer xs a list count ys = Puts xs 0 (answerOctets a (listed list)) count ys
+PutAnswer xs a list count ys = Puts xs 0 (answerOctets a (entriesIn list)) count ys

@@ -19,6 +19,7 @@ use Rattle.profile.specs.declared.profile.Profile.{Profile}
 use Rattle.profile.proofs.Profiles.{good-profile}
 use Rattle.profile.proofs.Records.{access-good, access-size}
 use Rattle.lists.specs.Entries.{instancesMost}
+use Rattle.instances.specs.Run.{instancesOf}
 use Rattle.exchange.specs.Table.{tableGood}
 use Rattle.exchange.specs.declared.table.Table.{Table}
 use Rattle.calls.specs.declared.call.Call.{Call}
@@ -83,7 +84,7 @@ goes-good access t s =
     pick-ind P (not (callGood p s)) (λ _ h. absurd (false≢true h)) (λ good h. record {
       ok = not-false _ ok;
       good = not-false _ good;
-      redirecting = redirects p (callFrom s) (applying p (t .grid) (callFrom s)) h;
+      redirecting = redirects p (callFrom s) (applying p (instancesOf (t .run)) (callFrom s)) h;
     })))
 
 -- the digits of its number stand within the access record

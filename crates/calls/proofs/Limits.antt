@@ -13,6 +13,7 @@ use Rattle.numbers.specs.declared.address.Address.{Address}
 use Rattle.profile.specs.Access.{accessRead}
 use Rattle.profile.specs.declared.profile.Profile.{Profile}
 use Rattle.lists.specs.Entries.{instancesMost}
+use Rattle.instances.specs.Run.{instancesOf}
 use Rattle.exchange.specs.Table.{tableGood}
 use Rattle.exchange.specs.declared.table.Table.{Table}
 use Rattle.calls.specs.declared.call.Call.{Call}
@@ -40,17 +41,18 @@ counter-most access t s =
     pick-ind P (not (accessRead access .ok)) (λ _. omega arith) (λ _.
     pick-ind P (not (tableGood instancesMost p t)) (λ _. omega arith) (λ _.
     pick-ind P (not (callGood p s)) (λ _. omega arith) (λ _.
-    instance-counter p (callFrom s) (applying p (t .grid) (callFrom s)))))
+    instance-counter p (callFrom s) (applying p (instancesOf (t .run)) (callFrom s)))))
 
 -- ---- "No instance, or the access not in use: not diverted, whatever the counter"
 
-pub none-passes : (p : Profile) (t : Table) (c : Call) → applying p (t .grid) c ≡ none → byCall p t c .told ≡ tells passes
+pub none-passes :
+    (p : Profile) (t : Table) (c : Call) → applying p (instancesOf (t .run)) c ≡ none → byCall p t c .told ≡ tells passes
 none-passes p t c h = rw h
 
 -- such a call is never refused 6
 pub none-unrefused :
     (access : List ℕ) (t : Table) (s : List ℕ) →
-    applying (accessRead access .profile) (t .grid) (callFrom s) ≡ none →
+    applying (accessRead access .profile) (instancesOf (t .run)) (callFrom s) ≡ none →
     comes access t s .told ≡ refuses 6 →
     ⊥
 unfolding comes

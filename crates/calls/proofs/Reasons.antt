@@ -1,9 +1,11 @@
--- The number of a reason names it. Assumes nothing.
-use Prim.Native.Nat.{ℕ}
+-- The number of a reason names it, and goes by the procedure that applies. Assumes nothing.
+use Prim.Native.Nat.{ℕ, _+_}
 use mathlib.Core.Path.{_≡_, refl, sym, ap, _∙_}
 use lib.Dec.{eqb}
 use Rattle.laws.specs.Pick.{pick}
-use Rattle.calls.specs.Onward.{reasonNo}
+use Rattle.laws.proofs.Picks.{pick-map}
+use Rattle.calls.specs.Onward.{offered, busy, eventNo, reasonNo, reasonOf}
+use Rattle.calls.specs.Divert.{procedureOf}
 use Rattle.calls.specs.declared.onward.Reason.{Reason}
 use Rattle.calls.specs.declared.onward.Reason.the-variants.{Cfu, Cfb, Cfnr}
 
@@ -19,3 +21,12 @@ reason-by Cfnr = refl
 -- two reasons of the same number are the same
 pub reason-same : (a b : Reason) → reasonNo a ≡ reasonNo b → a ≡ b
 reason-same a b h = reason-by a ∙ ap reasonBy h ∙ sym (reason-by b)
+
+-- "Offered looks at cfu, busy at cfb, no reply at cfnr", and "reason cfu 1, cfb 2, cfnr 3": one more than the procedure's number
+pub reason-procedure : (event : ℕ) → reasonOf event ≡ procedureOf event + 1
+unfolding reasonOf
+reason-procedure event =
+    let more : ℕ → ℕ = λ k. k + 1 in
+    let first = eqb event (eventNo offered) in
+    let second = eqb event (eventNo busy) in
+    sym (pick-map more first 0 (pick second 1 2) ∙ ap (pick first 1) (pick-map more second 1 2))

@@ -14,12 +14,14 @@ use Rattle.numbers.specs.declared.address.Address.{Address}
 use Rattle.profile.specs.Access.{accessRead}
 use Rattle.profile.specs.declared.profile.Profile.{Profile}
 use Rattle.lists.specs.Entries.{instancesMost}
+use Rattle.instances.specs.Run.{instancesOf}
+use Rattle.instances.specs.declared.instance.Instance.{Instance}
 use Rattle.exchange.specs.Table.{tableGood}
 use Rattle.exchange.specs.declared.table.Table.{Table}
 use Rattle.calls.specs.Onward.{optionAfter}
 use Rattle.calls.specs.declared.call.Call.{Call}
 use Rattle.calls.specs.Call.{callFrom, callGood}
-use Rattle.calls.specs.Divert.{applying, noticed, onward, Comes, goes, byCall, comes}
+use Rattle.calls.specs.Divert.{applying, noticed, onward, Comes, goes, byInstance, comes}
 
 -- what comes of two calls is told alike: the reason and the notice, the counter, and the number of the notice
 pub record SameButDigits (x y : Comes) : Type 0 where
@@ -48,9 +50,9 @@ module _ (p : Profile) (c : Call) (low : optionAfter p c < 2) where
 
   -- whatever the two addresses are
   pub instances-alike :
-      (t u : Table) (a b : Address) → applying p (t .grid) c ≡ some a → applying p (u .grid) c ≡ some b →
-      SameButDigits (byCall p t c) (byCall p u c)
-  instances-alike t u a b first second = rw (first, second) (alike-both (not (ltb (c .counter) (p .limit))) _ _ _ (goes-alike a b))
+      (is js : List Instance) (a b : Address) → applying p is c ≡ some a → applying p js c ≡ some b →
+      SameButDigits (byInstance p c (applying p is c)) (byInstance p c (applying p js c))
+  instances-alike is js a b first second = rw (first, second) (alike-both (not (ltb (c .counter) (p .limit))) _ _ _ (goes-alike a b))
 
 -- the same of a call as it comes, for two tables that break no rule
 pub digits-withheld :
@@ -58,12 +60,12 @@ pub digits-withheld :
     optionAfter (accessRead access .profile) (callFrom s) < 2 →
     tableGood instancesMost (accessRead access .profile) t ≡ true →
     tableGood instancesMost (accessRead access .profile) u ≡ true →
-    applying (accessRead access .profile) (t .grid) (callFrom s) ≡ some a →
-    applying (accessRead access .profile) (u .grid) (callFrom s) ≡ some b →
+    applying (accessRead access .profile) (instancesOf (t .run)) (callFrom s) ≡ some a →
+    applying (accessRead access .profile) (instancesOf (u .run)) (callFrom s) ≡ some b →
     SameButDigits (comes access t s) (comes access u s)
 unfolding comes
 digits-withheld access s t u a b low one two first second =
     let p : Profile = accessRead access .profile in
     rw (one, two)
     (alike-both (not (accessRead access .ok)) _ _ _
-    (alike-both (not (callGood p s)) _ _ _ (instances-alike p (callFrom s) low t u a b first second)))
+    (alike-both (not (callGood p s)) _ _ _ (instances-alike p (callFrom s) low (instancesOf (t .run)) (instancesOf (u .run)) a b first second)))

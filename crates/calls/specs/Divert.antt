@@ -1,31 +1,29 @@
 -- What becomes of a call: diverted, not diverted or refused (document 01, "Calls"; Q.732.2-5, 2.5.2.5.1.2).
-use Prim.Native.Nat.{ℕ, _+_, _*_}
+use Prim.Native.Nat.{ℕ, _+_}
 use mathlib.Core.Path.{_≡_}
 use mathlib.Core.Bool.{not}
 use mathlib.Core.List.{List, [], _∷_}
 use mathlib.Core.Option.{Option, none, some}
 use lib.ListN.{getD}
-use lib.Dec.{ltb, leb, eqb}
+use lib.Dec.{ltb, eqb}
 use Rattle.laws.specs.Pick.{pick}
-use Rattle.laws.specs.Tests.{any, test, first}
+use Rattle.laws.specs.Tests.{test, first}
 use Rattle.refusals.specs.Refusal.{refusalNo, Told, refuses, tells}
 use Rattle.refusals.specs.declared.refusal.Refusal.{Refusal}
 use Rattle.refusals.specs.declared.refusal.Refusal.the-variants.{BadProfile, BadTable, BadCall, LimitReached}
-use Rattle.codes.specs.Codes.{placeOf}
 use Rattle.numbers.specs.Number.{blankNumber}
 use Rattle.numbers.specs.Address.{blankAddress}
 use Rattle.numbers.specs.declared.number.Number.{Number}
 use Rattle.numbers.specs.declared.address.Address.{Address}
 use Rattle.profile.specs.Access.{accessRead}
-use Rattle.profile.specs.Profile.{servicesMost, subscribedServices, noNumber}
+use Rattle.profile.specs.Profile.{noNumber}
 use Rattle.profile.specs.declared.profile.Profile.{Profile}
 use Rattle.lists.specs.Entries.{instancesMost}
-use Rattle.store.specs.Row.{cellAt, active}
-use Rattle.store.specs.Grid.{rowAt}
-use Rattle.store.specs.declared.grid.Grid.{Grid}
+use Rattle.instances.specs.Run.{instancesOf, forwardedTo}
+use Rattle.instances.specs.declared.instance.Instance.{Instance}
 use Rattle.exchange.specs.Table.{tableGood}
 use Rattle.exchange.specs.declared.table.Table.{Table}
-use Rattle.calls.specs.Onward.{offered, busy, eventNo, reasonNo, reasonOf, chosen, optionAfter, preferenceAfter, originalShown}
+use Rattle.calls.specs.Onward.{offered, busy, eventNo, reasonNo, reasonOf, optionsFor, optionAfter, preferenceAfter, originalShown}
 use Rattle.calls.specs.declared.call.Call.{Call}
 use Rattle.calls.specs.Call.{callFrom, callGood}
 use Rattle.calls.specs.declared.diverting.Notice.{Notice}
@@ -60,24 +58,9 @@ comingTold (Diverts reason notice) = tells (diverts (reasonNo reason) (noticeNo 
 abbrev pub procedureOf : ℕ → ℕ
 procedureOf event = pick (eqb event (eventNo offered)) 0 (pick (eqb event (eventNo busy)) 1 2)
 
--- the place of the call's service among those subscribed, and of its number and service in a row
-abbrev pub slotOf : Profile → Call → ℕ
-slotOf p c = placeOf (c .service) (subscribedServices p)
-
-abbrev pub placeOfCall : Profile → Call → ℕ
-placeOfCall p c = servicesMost * c .number + slotOf p c
-
 -- "for that number and service. No instance, or the access not in use: not diverted"
-unfoldable pub applying : Profile → Grid → Call → Option Address
-applying p grid c =
-    pick
-    (any
-    (eqb (p .inuse) 0
-    ∷ leb (p .servicecount) (slotOf p c)
-    ∷ not (active (rowAt grid (procedureOf (c .event))) (placeOfCall p c))
-    ∷ []))
-    none
-    (some (cellAt (rowAt grid (procedureOf (c .event))) (placeOfCall p c) .address))
+unfoldable pub applying : Profile → List Instance → Call → Option Address
+applying p is c = pick (eqb (p .inuse) 0) none (forwardedTo (procedureOf (c .event)) (c .number) (c .service) is)
 
 -- ---- what a diverted call becomes
 
@@ -96,7 +79,7 @@ onward p c called = record {
   counter = c .counter + 1;
   called = called;
   redirecting = servedOf p c;
-  redirectingshown = chosen p c .release;
+  redirectingshown = optionsFor p c .release;
   originalshown = originalShown p c;
   preference = preferenceAfter c;
   option = optionAfter p c;
@@ -139,7 +122,7 @@ byInstance p c (some called) =
     first (test (not (ltb (c .counter) (p .limit))) LimitReached ∷ []) callRefused (goes p c called)
 
 abbrev pub byCall : Profile → Table → Call → Comes
-byCall p t c = byInstance p c (applying p (t .grid) c)
+byCall p t c = byInstance p c (applying p (instancesOf (t .run)) c)
 
 -- "Lowest number first, 6 last"
 unfoldable pub comes : List ℕ → Table → List ℕ → Comes

@@ -4,6 +4,7 @@ use lib.Dec.{ltb, eqb}
 use Rattle.laws.specs.Pick.{pick}
 use Rattle.profile.specs.declared.profile.Profile.{Profile}
 use Rattle.calls.specs.declared.call.Call.{Call}
+use Rattle.calls.specs.declared.onward.Options.{Options}
 use Rattle.calls.specs.declared.onward.Reason.{Reason}
 use Rattle.calls.specs.declared.onward.Reason.the-variants as reason
 
@@ -34,21 +35,17 @@ reasonOf event =
 -- ---- option, preference and presentation
 
 -- the notification option and the release flag for the calls of a number and a service: a profile has one pair for all ("Profile and table")
-pub record Options : Type 0 where
-  pub option : ℕ
-  pub release : ℕ
-
-abbrev pub optionsOf : Profile → ℕ → ℕ → Options
+unfoldable pub optionsOf : Profile → ℕ → ℕ → Options
 optionsOf p number service = record { option = p .option; release = p .release }
 
-abbrev pub chosen : Profile → Call → Options
-chosen p c = optionsOf p (c .number) (c .service)
+abbrev pub optionsFor : Profile → Call → Options
+optionsFor p c = optionsOf p (c .number) (c .service)
 
 -- "option: the profile's on the first, afterwards the smaller of received and profile's"
 unfoldable pub optionAfter : Profile → Call → ℕ
 optionAfter p c =
-    pick (eqb (c .counter) 0) (chosen p c .option)
-    (pick (ltb (c .option) (chosen p c .option)) (c .option) (chosen p c .option))
+    pick (eqb (c .counter) 0) (optionsFor p c .option)
+    (pick (ltb (c .option) (optionsFor p c .option)) (c .option) (optionsFor p c .option))
 
 -- "preference 1 becomes 0 on the first diversion only"
 unfoldable pub preferenceAfter : Call → ℕ
@@ -56,4 +53,4 @@ preferenceAfter c = pick (eqb (c .counter) 0) (pick (eqb (c .preference) 1) 0 (c
 
 -- "original: on the first diversion (counter 0) the served number, presentation likewise; later as received"
 unfoldable pub originalShown : Profile → Call → ℕ
-originalShown p c = pick (eqb (c .counter) 0) (chosen p c .release) (c .presentation)
+originalShown p c = pick (eqb (c .counter) 0) (optionsFor p c .release) (c .presentation)

@@ -6,23 +6,24 @@ use crate::call::call_good;
 use crate::call::call_of;
 use crate::onward::Reason;
 use crate::onward::option_after;
+use crate::onward::options_for;
 use crate::onward::original_shown;
 use crate::onward::preference_after;
 use crate::onward::reason_of;
 use exchange::Table;
+use instances::Run;
 use numbers::Address;
 use numbers::Number;
 use numbers::blank_address;
 use numbers::blank_number;
 use profile::Profile;
-use profile::SERVICES;
 use profile::read_access;
-use profile::service_slot;
 use refusals::Refusal;
-use store::Grid;
 ghost use mathlib.Core.Path.{_≡_};
 ghost use Prim.Native.Nat.{_<_, _≤_};
 ghost use Rattle.profile.specs.Profile.{numbersMost};
+ghost use Rattle.instances.specs.Run.{instancesOf};
+ghost use Rattle.calls.specs.Onward.{optionsFor};
 ghost use Rattle.calls.specs.Divert.{noticeNo, comingTold, procedureOf, noticed, noneGoes, callRefused, goes, applying, byInstance, Becomes, DivertsTo};
 
 // What the caller is told: nothing, that the call is diverting, or to which number too.
@@ -87,7 +88,7 @@ fn refuses(refusal: Refusal) -> Diversion
 }
 
 // The procedure that the event looks at.
-fn procedure_of(event: u8) -> usize
+fn procedure_of(event: u8) -> u8
     ensures { λ r. ⌜ r ≡ procedureOf event ⌝ }
 {
     if event == OFFERED {
@@ -125,10 +126,11 @@ fn noticed_of(option: u8, called: Address) -> Number
 
 // The call goes on to the address of its instance.
 fn go_on(p: Profile, c: Call, called: Address) -> Diversion
-    requires { ⌜ (p .option ≤ 2) × (c .number < numbersMost) × (c .counter < 255) ⌝ }
+    requires { ⌜ (optionsFor p c .option ≤ 2) × (c .number < numbersMost) × (c .counter < 255) ⌝ }
     ensures { λ d. ⌜ Becomes (goes p c called) d ⌝ }
 {
     let option = option_after(p, c);
+    let own = options_for(p, c);
     let numbers = p.numbers;
     let redirecting = numbers[c.number as usize];
     let reason = reason_of(c.event);
@@ -139,7 +141,7 @@ fn go_on(p: Profile, c: Call, called: Address) -> Diversion
             counter: c.counter + 1,
             called,
             redirecting,
-            redirectingshown: p.release,
+            redirectingshown: own.release,
             originalshown: original_shown(p, c),
             preference: preference_after(c),
             option,
@@ -149,26 +151,21 @@ fn go_on(p: Profile, c: Call, called: Address) -> Diversion
 }
 
 // The event's instance for the call's number and service decides, and then the limit.
-fn divert_by(p: Profile, grid: Grid, c: Call) -> Diversion
-    requires { ⌜ (p .option ≤ 2) × (c .number < numbersMost) ⌝ }
-    ensures { λ d. ⌜ Becomes (byInstance p c (applying p grid c)) d ⌝ }
+fn divert_by(p: Profile, run: Run, c: Call) -> Diversion
+    requires { ⌜ (optionsFor p c .option ≤ 2) × (c .number < numbersMost) ⌝ }
+    ensures { λ d. ⌜ Becomes (byInstance p c (applying p (instancesOf run) c)) d ⌝ }
 {
     if p.inuse == 0 {
         return stays_here(Coming::Passes);
     }
-    let slot = service_slot(p, c.service);
-    if p.servicecount as usize <= slot {
-        return stays_here(Coming::Passes);
-    }
-    let row = grid.rows[procedure_of(c.event)];
-    let held = row.held_at(SERVICES * c.number as usize + slot);
-    if !held.ok {
+    let found = run.find(procedure_of(c.event), c.number, c.service);
+    if !found.ok {
         return stays_here(Coming::Passes);
     }
     if p.limit <= c.counter {
         return refuses(Refusal::LimitReached);
     }
-    let address = held.address;
+    let address = found.address;
     go_on(p, c, address)
 }
 
@@ -188,6 +185,6 @@ pub fn divert(table: Table, access: &[u8], call: &[u8]) -> Diversion
         return refuses(Refusal::BadCall);
     }
     let c = call_of(call);
-    let grid = table.grid;
-    divert_by(p, grid, c)
+    let run = table.run;
+    divert_by(p, run, c)
 }

@@ -1,55 +1,58 @@
 -- What arrives: its refusals, lowest first, and its step, whose reply fits the least output. Assumes nothing.
 use Prim.Native.Nat.{ℕ, _≤_, _<_}
-use mathlib.Core.Path.{_≡_, refl, sym, ap, _∙_}
+use mathlib.Core.Path.{_≡_, sym, ap, _∙_}
 use mathlib.Core.Bool.{true, false}
-use mathlib.Core.List.{List}
-use mathlib.Core.Option.{Option, none, some}
+use mathlib.Core.List.{List, []}
+use mathlib.Core.Option.{none}
 use native.Mathlib.Nat.{zero-add}
 use native.Mathlib.Omega.{arith}
 use lib.IntN.{ℤ}
-use lib.Signed.{mag}
 use lib.ListN.{length, take}
 use lib.Seq.{take-all, take-append-seam}
-use lib.Dec.{eqb}
 use borrow.Author.Tests.{lt-ltb, le-ltb}
-use Rattle.refusals.specs.Refusal.{tells}
 use Rattle.refusals.specs.declared.refusal.Refusal.{Refusal}
 use Rattle.refusals.specs.declared.refusal.Refusal.the-variants.{ShortOutput, LongComponent, BadProfile, BadTable}
 use Rattle.laws.specs.Over.{over}
 use Rattle.laws.proofs.Over.{over-nil, wrote}
-use Rattle.laws.proofs.Picks.{pick-ind}
 use Rattle.profile.specs.Access.{accessRead}
 use Rattle.profile.specs.Profile.{profileGood}
 use Rattle.profile.specs.declared.profile.Profile.{Profile}
+use Rattle.profile.specs.declared.access.AccessRead.{AccessRead}
 use Rattle.profile.proofs.Profiles.{good-profile}
+use Rattle.profile.proofs.Records.{access-good}
 use Rattle.requests.specs.Request.{interrogation}
 use Rattle.requests.specs.declared.request.Request.{Request}
-use Rattle.lists.specs.Entries.{instancesMost, listed, entriesOf, allGood}
+use Rattle.lists.specs.Entries.{instancesMost, entriesIn, entriesOf, allGood}
 use Rattle.lists.specs.declared.entry.Entry.{Entry}
+use Rattle.lists.specs.declared.entries.Entries.{Entries}
 use Rattle.lists.proofs.Goods.{all-none}
-use Rattle.store.specs.Grid.{rowAt}
-use Rattle.store.proofs.Rows.{good-few, entries-few, entries-good}
-use Rattle.store.proofs.Grids.{grid-row}
-use Rattle.rules.specs.Selection.{placesOf}
-use Rattle.rules.specs.Judge.{judge}
+use Rattle.instances.specs.Run.{instancesOf, runGood}
+use Rattle.instances.specs.declared.run.Run.{Run}
+use Rattle.instances.proofs.Goods.{run-good}
+use Rattle.instances.proofs.Listeds.{listed-most, listed-good}
+use Rattle.rules.specs.Selection.{selectionOf}
+use Rattle.rules.specs.Judge.{verdictNo, applied}
+use Rattle.rules.specs.declared.verdict.Verdict.{Verdict}
+use Rattle.rules.specs.declared.verdict.Verdict.the-variants.{Passes, Fails}
+use Rattle.rules.proofs.Selections.{selection-procedure}
 use Rattle.rules.proofs.Judges.{judge-errors}
 use Rattle.answers.specs.Answer.{answerOctets, PutAnswer}
-use Rattle.answers.specs.declared.answer.Answer.{Answer}
+use Rattle.answers.specs.declared.answer.Answer.the-variants as answer
 use Rattle.answers.proofs.Fits.{EntriesFit, answer-most}
-use Rattle.exchange.specs.Table.{tableGood, withRow, withLast}
+use Rattle.exchange.specs.Table.{lastMost, tableOf, tableGood}
 use Rattle.exchange.specs.Question.{question}
-use Rattle.exchange.specs.Step.{Step, resultOf, verdictOf, handled, stepOf, step}
-use Rattle.exchange.specs.inner.Step.{Stepping}
-use Rattle.answers.specs.Answer.{answeredBy}
+use Rattle.exchange.specs.Step.{Step, stays, lastAfter, handled, step}
 use Rattle.exchange.specs.Arrive.{outputLeast, componentMost, refused, answered, done, Arrives}
+use Rattle.exchange.specs.inner.Question.{questionRead}
 use Rattle.exchange.specs.inner.Refused.{arrivedRefused}
 use Rattle.exchange.specs.declared.table.Table.{Table}
-use Rattle.exchange.specs.declared.step.Stepped.{Stepped}
+use Rattle.exchange.specs.declared.question.QuestionRead.{QuestionRead}
 use Rattle.exchange.specs.declared.arrive.Arriving.the-variants.{Answers}
 use Rattle.exchange.specs.declared.arrive.Arrived.{Arrived}
-use Rattle.exchange.proofs.Questions.{question-asks, question-range}
-use Rattle.exchange.proofs.Tables.{table-good}
-use Rattle.exchange.proofs.Fitting.{question-fits}
+use Rattle.exchange.proofs.Questions.{RequestAsked, question-asks}
+use Rattle.exchange.proofs.Tables.{table-run, table-good}
+use Rattle.exchange.proofs.Steps.{fails, lists, changes, verdict, handled-fails, handled-lists, handled-changes, handled-ind}
+use Rattle.exchange.proofs.Steps.{step-says, step-asks, step-ind, read-says, read-asks}
 
 -- ---- the refusals, lowest first
 
@@ -101,65 +104,124 @@ pub record StepFits (x : Step) : Type 0 where
   pub few : length (x .entries) ≤ instancesMost
 
 module _ (p : Profile) (t : Table) (profile : profileGood p ≡ true) (table : tableGood instancesMost p t ≡ true) where
-  module _ (identifier : ℤ) (operation : ℕ) (r : Request) (range : mag identifier < 32768) (code : r .procedure < 3) where
-    result-fits : StepFits (resultOf p t identifier operation r)
-    unfolding resultOf
-    result-fits =
-        let row = rowAt (t .grid) (r .procedure) in
-        let good = grid-row instancesMost p (t .grid) (r .procedure) code (table-good instancesMost p t table .1) in
-        pick-ind StepFits (eqb operation interrogation)
-        (λ _. record {
-          answer = range;
-          good = entries-good instancesMost p (r .procedure) (placesOf p r) row good (good-profile p profile .numbers);
-          few =
-              omega
-              (arith, entries-few p (r .procedure) (placesOf p r) row, good-few instancesMost p (r .procedure) row good);
-        })
-        (λ _. record { answer = range; good = all-none; few = omega arith })
-
-    verdict-fits :
-        (v : Option ℕ) → judge instancesMost p operation r (placesOf p r) (rowAt (t .grid) (r .procedure)) ≡ v →
-        StepFits (verdictOf p t identifier operation r v)
-    verdict-fits none h = result-fits
-    verdict-fits (some e) h = record {
-      answer = (range, judge-errors instancesMost p operation r (placesOf p r) (rowAt (t .grid) (r .procedure)) e h);
-      good = all-none;
-      few = omega arith;
-    }
-
-    handled-fits : StepFits (handled p t identifier operation r)
-    unfolding handled
-    handled-fits = verdict-fits (judge instancesMost p operation r (placesOf p r) (rowAt (t .grid) (r .procedure))) refl
+  handled-fits :
+      (identifier : ℤ) (operation : ℕ) (r : Request) → RequestAsked p (t .last) identifier operation r →
+      StepFits (handled p t identifier operation r)
+  handled-fits identifier operation r is =
+      let sel = selectionOf p r in
+      let good = run-good p instancesMost (t .run) (table-good instancesMost p t table .1) in
+      handled-ind p t identifier operation r StepFits
+      (λ error h. record {
+        answer = (is .range, judge-errors instancesMost p operation r (instancesOf (t .run)) error h);
+        good = all-none;
+        few = omega arith;
+      })
+      (λ _ _. record {
+        answer = is .range;
+        good = listed-good p (good-profile p profile) sel instancesMost (instancesOf (t .run)) good;
+        few = listed-most p sel instancesMost (instancesOf (t .run)) good (rw (selection-procedure p r) (is .procedure));
+      })
+      (λ _ _. record { answer = is .range; good = all-none; few = omega arith })
 
   pub step-fits : (s : List ℕ) → StepFits (step p t s)
-  unfolding step stepOf
   step-fits s =
-      pick-ind StepFits (question p (t .last) s .asked)
-      (λ asks.
-      handled-fits (question p (t .last) s .identifier) (question p (t .last) s .operation) (question p (t .last) s .request)
-      (question-range p (t .last) s) (question-asks p (t .last) s asks .procedure))
-      (λ _. record { answer = question-fits p (t .last) s; good = all-none; few = omega arith })
+      step-ind p t s StepFits (λ a said. record { answer = said .fits; good = all-none; few = omega arith })
+      (λ identifier operation r e. handled-fits identifier operation r (question-asks p (t .last) s identifier operation r e))
 
 -- the entries of a record of at most 8 are those it was made of
-listed-all : (es : List Entry) → length es ≤ instancesMost → listed (entriesOf (take instancesMost es)) ≡ es
+listed-all : (es : List Entry) → length es ≤ instancesMost → entriesIn (entriesOf (take instancesMost es)) ≡ es
 listed-all es few = rw (take-all instancesMost es few) (take-append-seam es _)
 
 -- what is answered is written whole
 pub answered-arrives :
-    (access : List ℕ) (t : Table) (s xs : List ℕ) (x : Step) (procedure : ℕ) (d : Stepped) (n : ℕ) (ys : List ℕ) →
-    done access t s (length xs) ≡ answered x → StepFits x → Stepping t procedure x d → outputLeast ≤ length xs →
-    PutAnswer xs (d .answer) (d .list) n ys →
-    Arrives access t s xs
-    (record { table = withLast (d .last) (withRow procedure (d .row) t); outcome = Answers (d .answer); count = n })
-    ys
-answered-arrives access t s xs x procedure d n ys is fits so room put =
+    (access : List ℕ) (t : Table) (s xs : List ℕ) (x : Step) (list : Entries) (n : ℕ) (ys : List ℕ) →
+    done access t s (length xs) ≡ answered x → StepFits x → list ≡ entriesOf (take instancesMost (x .entries)) →
+    outputLeast ≤ length xs → PutAnswer xs (x .answer) list n ys →
+    Arrives access t s xs (record { table = x .next; outcome = Answers (x .answer); count = n }) ys
+answered-arrives access t s xs x list n ys is fits held room put =
     let octets = answer-most (x .answer) (x .entries) (fits .answer) (fits .good) (fits .few) in
-    let same : answerOctets (d .answer) (listed (d .list)) ≡ answerOctets (x .answer) (x .entries) =
-    rw (so .answer, so .list, listed-all (x .entries) (fits .few)) in
+    let same : answerOctets (x .answer) (entriesIn list) ≡ answerOctets (x .answer) (x .entries) =
+    rw (held, listed-all (x .entries) (fits .few)) in
     let w = wrote (rw (same, zero-add) (omega arith)) put in
     record {
-      table = rw is (so .next);
-      told = rw is (ap (λ (a : Answer). tells (answeredBy a)) (so .answer));
+      table = rw is;
+      told = rw is;
       count = rw is (w .moved ∙ zero-add _ ∙ ap length same);
       lent = rw is (w .holds ∙ ap (over xs 0) same);
     }
+
+-- ---- the four answers, as the code tells them
+
+module _
+    (access : List ℕ) (t : Table) (s xs : List ℕ) (read : AccessRead) (reads : read ≡ accessRead access)
+    (room : outputLeast ≤ length xs) (fair : length s ≤ componentMost) (ok : read .ok ≡ true)
+    (low : t .last ≤ lastMost) (good : runGood instancesMost (read .profile) (t .run) ≡ true)
+  where
+    abbrev p : Profile
+    p = read .profile
+
+    step-arrives :
+        (x : Step) (list : Entries) (n : ℕ) (ys : List ℕ) → step p t s ≡ x → list ≡ entriesOf (take instancesMost (x .entries)) →
+        PutAnswer xs (x .answer) list n ys →
+        Arrives access t s xs (record { table = x .next; outcome = Answers (x .answer); count = n }) ys
+    step-arrives x list n ys is held put =
+        let ok : accessRead access .ok ≡ true = rw reads at ok in
+        let table : tableGood instancesMost (accessRead access .profile) t ≡ true =
+        rw reads at (table-run instancesMost p t low ∙ good) in
+        let steps : step (accessRead access .profile) t s ≡ x = rw reads at is in
+        answered-arrives access t s xs x list n ys
+        (done-answers access t s (length xs) room fair ok table ∙ ap answered steps)
+        (rw steps at (step-fits (accessRead access .profile) t (access-good access ok) table s))
+        held room put
+
+    module _ (q : QuestionRead) (told : q ≡ questionRead (question p (t .last) s)) (list : Entries) (n : ℕ) (ys : List ℕ) where
+      pub says-arrives :
+          q .asked ≡ false → list ≡ entriesOf [] → PutAnswer xs (q .answer) list n ys →
+          Arrives access t s xs (record { table = t; outcome = Answers (q .answer); count = n }) ys
+      says-arrives h held put =
+          step-arrives (stays t (q .answer)) list n ys
+          (step-says p t s (q .answer) (read-says (question p (t .last) s) q told h))
+          held put
+
+      module _ (h : q .asked ≡ true) (last : ℕ) (moved : last ≡ lastAfter p (q .identifier) (t .last)) where
+        asked : step p t s ≡ handled p t (q .identifier) (q .operation) (q .request)
+        asked = step-asks p t s (q .identifier) (q .operation) (q .request) (read-asks (question p (t .last) s) q told h)
+
+        pub fails-arrives :
+            (v : Verdict) → verdictNo v ≡ verdict p t (q .identifier) (q .operation) (q .request) → (error : ℕ) → v ≡ Fails error →
+            list ≡ entriesOf [] →
+            PutAnswer xs (answer.Error (q .identifier) error) list n ys →
+            Arrives access t s xs
+            (record { table = tableOf last (t .run); outcome = Answers (answer.Error (q .identifier) error); count = n }) ys
+        fails-arrives v judged error is held put =
+            rw moved
+            (step-arrives (fails p t (q .identifier) (q .operation) (q .request) error) list n ys
+            (asked ∙ handled-fails p t (q .identifier) (q .operation) (q .request) error (sym judged ∙ ap verdictNo is))
+            held put)
+
+        module _ (v : Verdict) (judged : verdictNo v ≡ verdict p t (q .identifier) (q .operation) (q .request)) (is : v ≡ Passes) where
+          passes : verdict p t (q .identifier) (q .operation) (q .request) ≡ none
+          passes = sym judged ∙ ap verdictNo is
+
+          pub lists-arrives :
+              q .operation ≡ interrogation →
+              list ≡ entriesOf (take instancesMost (lists p t (q .identifier) (q .operation) (q .request) .entries)) →
+              PutAnswer xs (answer.Listing (q .identifier)) list n ys →
+              Arrives access t s xs
+              (record { table = tableOf last (t .run); outcome = Answers (answer.Listing (q .identifier)); count = n }) ys
+          lists-arrives interrogates held put =
+              rw moved
+              (step-arrives (lists p t (q .identifier) (q .operation) (q .request)) list n ys
+              (asked ∙ handled-lists p t (q .identifier) (q .operation) (q .request) passes interrogates)
+              held put)
+
+          pub changes-arrives :
+              (q .operation ≡ interrogation → ⊥) → (next : Run) → next ≡ applied p (q .operation) (q .request) (t .run) →
+              list ≡ entriesOf [] → PutAnswer xs (answer.Result (q .identifier)) list n ys →
+              Arrives access t s xs
+              (record { table = tableOf last next; outcome = Answers (answer.Result (q .identifier)); count = n }) ys
+          changes-arrives other next applies held put =
+              rw (moved, applies)
+              (step-arrives (changes p t (q .identifier) (q .operation) (q .request)) list n ys
+              (asked ∙ handled-changes p t (q .identifier) (q .operation) (q .request) passes other)
+              held put)

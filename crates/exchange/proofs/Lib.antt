@@ -1,11 +1,7 @@
+pub mod Questions
 pub mod Tables
 pub mod Steps
 pub mod Arrivals
-pub mod Shapes
-pub mod Kept
 pub mod Arrivings
 pub mod Nexts
 pub mod Registered
-pub mod Questions
-pub mod Fitting
-pub mod QuestionNumbers

@@ -32,8 +32,9 @@ use Rattle.answers.specs.declared.answer.Problem.{Problem}
 use Rattle.answers.specs.declared.answer.Problem.the-variants.{General, Invoke}
 use Rattle.answers.specs.declared.answer.Whose.{Whose}
 use Rattle.answers.specs.declared.answer.Whose.the-variants.{Null, Own}
-use Rattle.exchange.specs.Question.{asks, rejects, notAbove, duplicate, known, codeOf, argued, invoked, questionOf, question}
-use Rattle.exchange.specs.declared.question.Question.{Question}
+use Rattle.answers.proofs.Fits.{OwnFits, EntriesFit}
+use Rattle.exchange.specs.Question.{Question, says, asks, rejects, notAbove, duplicate, known, codeOf, argued, invoked, questionOf, question}
+use Rattle.exchange.specs.inner.Question.{questionRead}
 
 -- ---- the machine's tests
 
@@ -133,7 +134,7 @@ module _ (z : ℤ) (fits : SFits w16 z) (e : known z ≡ true) where
 -- a request that was read is asked
 pub argued-found :
     (identifier : ℤ) (operation : Operation) (g : Got Request) (r : RequestRead) → r ≡ requestRead g → r .ok ≡ true →
-    asks identifier (codeOf (operation .value)) (r .request) ≡ argued identifier operation g
+    questionRead (asks identifier (codeOf (operation .value)) (r .request)) ≡ questionRead (argued identifier operation g)
 argued-found identifier operation (got request next) r e h = rw e
 argued-found identifier operation wrong r e h =
     absurd (false≢true (sym (ap (λ (x : RequestRead). x .ok) e) ∙ h))
@@ -141,7 +142,7 @@ argued-found identifier operation wrong r e h =
 -- an argument that is wrong is rejected
 pub argued-none :
     (identifier : ℤ) (operation : Operation) (g : Got Request) (r : RequestRead) → r ≡ requestRead g → r .ok ≡ false →
-    rejects (Own identifier) (Invoke 2) ≡ argued identifier operation g
+    questionRead (rejects (Own identifier) (Invoke 2)) ≡ questionRead (argued identifier operation g)
 argued-none identifier operation (got request next) r e h =
     absurd (false≢true (sym h ∙ ap (λ (x : RequestRead). x .ok) e))
 argued-none identifier operation wrong r e h = refl
@@ -164,129 +165,77 @@ unfolding duplicate
 duplicate-false p last z e counted = not-above-false z last (rw (eq-eqb (p .counted) 1 counted) at e)
 
 -- a request that must be judged: its codes are those of the tables, its operation is known, an activation's address is one that a
--- table holds unless its number is of another kind, and for a counted end the identifier is new
-pub record RequestAsked (p : Profile) (last : ℕ) (q : Question) : Type 0 where
-  pub procedure : q .request .procedure < 3
-  pub service : serviceCode (q .request .service) ≡ true
-  pub operation : Known (q .operation)
-  pub to : q .operation ≡ activation → ToUnless (q .request .to)
-  pub above : p .counted ≡ 1 → Above last (q .identifier)
-
--- the procedure of its request is one of the three, also where nothing is asked
-argued-procedure :
-    (identifier : ℤ) (operation : Operation) (s : List ℕ) (at end : ℕ) (g : Got Request) → argumentAt operation s at end ≡ g →
-    argued identifier operation g .request .procedure < 3
-argued-procedure identifier operation s at end (got r next) read = argument-read operation s at end r next read .procedure
-argued-procedure identifier operation s at end wrong read = omega arith
-
-procedure-of : (p : Profile) (last : ℕ) (s : List ℕ) (h : Heard) → questionOf p last s h .request .procedure < 3
-unfolding invoked
-procedure-of p last s heard.NotOne = omega arith
-procedure-of p last s heard.Silent = omega arith
-procedure-of p last s heard.OtherTag = omega arith
-procedure-of p last s heard.NoIdentifier = omega arith
-procedure-of p last s (heard.NoOperation identifier) = omega arith
-procedure-of p last s (heard.Asks identifier operation at end) =
-    let P : Question → Type 0 = λ q. q .request .procedure < 3 in
-    pick-ind P (duplicate p last identifier) (λ _. omega arith)
-    (λ _. pick-ind P (known (operation .value))
-    (λ _. argued-procedure identifier operation s at end (argumentAt operation s at end) refl)
-    (λ _. omega arith))
-
-pub question-procedure : (p : Profile) (last : ℕ) (s : List ℕ) → question p last s .request .procedure < 3
-unfolding question
-question-procedure p last s = procedure-of p last s (heard s)
-
-argued-asks :
-    (p : Profile) (last : ℕ) (identifier : ℤ) (operation : Operation) (s : List ℕ) (at end : ℕ) →
-    duplicate p last identifier ≡ false → known (operation .value) ≡ true →
-    (g : Got Request) → argumentAt operation s at end ≡ g → argued identifier operation g .asked ≡ true →
-    RequestAsked p last (argued identifier operation g)
-argued-asks p last identifier operation s at end new is-known (got r next) read e =
-    let known = known-code (operation .value) is-known in
-    let is = argument-read operation s at end r next read in
-    record {
-      procedure = is .procedure;
-      service = is .service;
-      operation = known .1;
-      to = λ activates. is .to (known .0 ∙ ap pos activates);
-      above = duplicate-false p last identifier new;
-    }
-argued-asks p last identifier operation s at end new is-known wrong read e = absurd (false≢true e)
-
-asks-of :
-    (p : Profile) (last : ℕ) (s : List ℕ) (h : Heard) → questionOf p last s h .asked ≡ true →
-    RequestAsked p last (questionOf p last s h)
-unfolding invoked
-asks-of p last s heard.NotOne e = absurd (false≢true e)
-asks-of p last s heard.Silent e = absurd (false≢true e)
-asks-of p last s heard.OtherTag e = absurd (false≢true e)
-asks-of p last s heard.NoIdentifier e = absurd (false≢true e)
-asks-of p last s (heard.NoOperation identifier) e = absurd (false≢true e)
-asks-of p last s (heard.Asks identifier operation at end) e =
-    let P : Question → Type 0 = λ q. q .asked ≡ true → RequestAsked p last q in
-    pick-ind P (duplicate p last identifier) (λ _ f. absurd (false≢true f))
-    (λ new. pick-ind P (known (operation .value))
-    (λ is-known.
-    argued-asks p last identifier operation s at end new is-known (argumentAt operation s at end) refl)
-    (λ _ f. absurd (false≢true f)))
-    e
-
-pub question-asks :
-    (p : Profile) (last : ℕ) (s : List ℕ) → question p last s .asked ≡ true → RequestAsked p last (question p last s)
-unfolding question
-question-asks p last s = asks-of p last s (heard s)
-
--- its identifier has 16 bits
-argued-range :
-    (identifier : ℤ) (operation : Operation) (g : Got Request) → mag identifier < 32768 →
-    mag (argued identifier operation g .identifier) < 32768
-argued-range identifier operation (got r next) range = range
-argued-range identifier operation wrong range = omega arith
-
-range-of :
-    (p : Profile) (last : ℕ) (s : List ℕ) (h : Heard) → HeardRanges h →
-    mag (questionOf p last s h .identifier) < 32768
-unfolding invoked
-range-of p last s heard.NotOne range = omega arith
-range-of p last s heard.Silent range = omega arith
-range-of p last s heard.OtherTag range = omega arith
-range-of p last s heard.NoIdentifier range = omega arith
-range-of p last s (heard.NoOperation identifier) range = omega arith
-range-of p last s (heard.Asks identifier operation at end) range =
-    let P : Question → Type 0 = λ q. mag (q .identifier) < 32768 in
-    pick-ind P (duplicate p last identifier) (λ _. omega arith)
-    (λ _. pick-ind P (known (operation .value))
-    (λ _. argued-range identifier operation (argumentAt operation s at end) range) (λ _. omega arith))
-
-pub question-range : (p : Profile) (last : ℕ) (s : List ℕ) → mag (question p last s .identifier) < 32768
-unfolding question
-question-range p last s = range-of p last s (heard s) (heard-range s)
+-- table holds unless its number is of another kind, its identifier has 16 bits and for a counted end it is new
+pub record RequestAsked (p : Profile) (last : ℕ) (identifier : ℤ) (operation : ℕ) (r : Request) : Type 0 where
+  pub procedure : r .procedure < 3
+  pub service : serviceCode (r .service) ≡ true
+  pub known : Known operation
+  pub to : operation ≡ activation → ToUnless (r .to)
+  pub range : mag identifier < 32768
+  pub above : p .counted ≡ 1 → Above last identifier
 
 -- before a request is judged there is silence or a reject, no error, no result and no listing
 pub data AtOnce (a : Answer) : Type 0 where
   silence : a ≡ answer.Silence → AtOnce a
   reject : (whose : Whose) (problem : Problem) → a ≡ answer.Reject whose problem → AtOnce a
 
-argued-says :
-    (identifier : ℤ) (operation : Operation) (g : Got Request) → AtOnce (argued identifier operation g .answer)
-argued-says identifier operation (got r next) = silence refl
-argued-says identifier operation wrong = reject (Own identifier) (Invoke 2) refl
+-- and it fits the output
+pub record Said (a : Answer) : Type 0 where
+  pub once : AtOnce a
+  pub fits : EntriesFit a
 
-says-of : (p : Profile) (last : ℕ) (s : List ℕ) (h : Heard) → AtOnce (questionOf p last s h .answer)
+-- either
+abbrev Sound : Profile → ℕ → Question → Type 0
+Sound p last (says a) = Said a
+Sound p last (asks identifier operation r) = RequestAsked p last identifier operation r
+
+rejected : (p : Profile) (last : ℕ) (whose : Whose) (problem : Problem) → OwnFits whose → Sound p last (rejects whose problem)
+rejected p last whose problem fits = record { once = reject whose problem refl; fits = fits }
+
+argued-sound :
+    (p : Profile) (last : ℕ) (identifier : ℤ) (operation : Operation) (s : List ℕ) (at end : ℕ) → mag identifier < 32768 →
+    duplicate p last identifier ≡ false → known (operation .value) ≡ true →
+    (g : Got Request) → argumentAt operation s at end ≡ g → Sound p last (argued identifier operation g)
+argued-sound p last identifier operation s at end range new is-known (got r next) read =
+    let known = known-code (operation .value) is-known in
+    let is = argument-read operation s at end r next read in
+    record {
+      procedure = is .procedure;
+      service = is .service;
+      known = known .1;
+      to = λ activates. is .to (known .0 ∙ ap pos activates);
+      range = range;
+      above = duplicate-false p last identifier new;
+    }
+argued-sound p last identifier operation s at end range new is-known wrong read =
+    rejected p last (Own identifier) (Invoke 2) range
+
+sound-of : (p : Profile) (last : ℕ) (s : List ℕ) (h : Heard) → HeardRanges h → Sound p last (questionOf p last s h)
 unfolding invoked
-says-of p last s heard.NotOne = reject Null (General 2) refl
-says-of p last s heard.Silent = silence refl
-says-of p last s heard.OtherTag = reject Null (General 0) refl
-says-of p last s heard.NoIdentifier = reject Null (General 1) refl
-says-of p last s (heard.NoOperation identifier) = reject (Own identifier) (General 1) refl
-says-of p last s (heard.Asks identifier operation at end) =
-    let P : Question → Type 0 = λ q. AtOnce (q .answer) in
-    pick-ind P (duplicate p last identifier) (λ _. reject (Own identifier) (Invoke 0) refl)
-    (λ _. pick-ind P (known (operation .value))
-    (λ _. argued-says identifier operation (argumentAt operation s at end))
-    (λ _. reject (Own identifier) (Invoke 1) refl))
+sound-of p last s heard.NotOne range = rejected p last Null (General 2) tt
+sound-of p last s heard.Silent range = record { once = silence refl; fits = tt }
+sound-of p last s heard.OtherTag range = rejected p last Null (General 0) tt
+sound-of p last s heard.NoIdentifier range = rejected p last Null (General 1) tt
+sound-of p last s (heard.NoOperation identifier) range = rejected p last (Own identifier) (General 1) range
+sound-of p last s (heard.Asks identifier operation at end) range =
+    pick-ind (Sound p last) (duplicate p last identifier)
+    (λ _. rejected p last (Own identifier) (Invoke 0) range)
+    (λ new. pick-ind (Sound p last) (known (operation .value))
+    (λ is-known.
+    argued-sound p last identifier operation s at end range new is-known (argumentAt operation s at end) refl)
+    (λ _. rejected p last (Own identifier) (Invoke 1) range))
 
-pub question-says : (p : Profile) (last : ℕ) (s : List ℕ) → AtOnce (question p last s .answer)
-unfolding question
-question-says p last s = says-of p last s (heard s)
+module _ (p : Profile) (last : ℕ) (s : List ℕ) where
+  sound : Sound p last (question p last s)
+  unfolding question
+  sound = sound-of p last s (heard s) (heard-range s)
+
+  -- what is known of a request that must be judged
+  pub question-asks :
+      (identifier : ℤ) (operation : ℕ) (r : Request) → question p last s ≡ asks identifier operation r →
+      RequestAsked p last identifier operation r
+  question-asks identifier operation r e = rw e at sound
+
+  -- and of an answer at once
+  pub question-says : (a : Answer) → question p last s ≡ says a → Said a
+  question-says a e = rw e at sound

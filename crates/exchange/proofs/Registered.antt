@@ -1,158 +1,183 @@
--- What a request that is handled does to the registrations, place by place (document 01, "Replies, in the order checked"):
--- an activation is all or nothing, a deactivation fails exactly if there is nothing to remove, an interrogation lists exactly what is
--- active. Assumes nothing.
-use Prim.Native.Nat.{ℕ, _<_}
+-- What a request does to the registrations, at the octets and for every procedure, number and service (document 01, "Replies, in the
+-- order checked"): an activation is all or nothing, a deactivation fails exactly if there is nothing to remove, an interrogation lists
+-- exactly what is active. Assumes nothing.
+use Prim.Native.Nat.{ℕ}
 use mathlib.Core.Path.{_≡_, refl, sym, ap, _∙_}
-use mathlib.Core.Bool.{Bool, true, false}
-use mathlib.Core.List.{map}
+use mathlib.Core.List.{List, [], _∷_, map}
 use mathlib.Core.Option.{Option, none, some}
 use native.Mathlib.Omega.{arith}
 use lib.IntN.{ℤ}
-use lib.ListN.{length, getD}
+use lib.ListN.{length}
 use lib.Dec.{eqb}
-use borrow.Author.Tests.{eqb-true, ne-eqb}
+use borrow.Author.Tests.{eqb-true}
 use Rattle.laws.specs.Pick.{pick}
-use Rattle.laws.specs.Places.{placesWhere}
-use Rattle.laws.proofs.Chosen.{places-same}
-use Rattle.numbers.specs.Address.{tidyAddress}
+use Rattle.laws.proofs.Picks.{by-bool}
+use Rattle.laws.proofs.Eaches.{Up, up-those}
+use Rattle.refusals.specs.Refusal.{tells}
 use Rattle.numbers.specs.declared.address.Address.{Address}
-use Rattle.profile.specs.Profile.{servicesMost, profileGood}
+use Rattle.profile.specs.Access.{accessRead}
 use Rattle.profile.specs.declared.profile.Profile.{Profile}
-use Rattle.profile.proofs.Profiles.{good-profile}
 use Rattle.requests.specs.Request.{activation, deactivation, interrogation}
 use Rattle.requests.specs.declared.request.Request.{Request}
 use Rattle.lists.specs.Entries.{instancesMost}
-use Rattle.store.specs.Row.{places, active, held, selected, entryOfPlace}
-use Rattle.store.specs.Grid.{procedures, rowAt}
-use Rattle.store.specs.declared.grid.Grid.{Grid}
-use Rattle.store.specs.declared.row.Row.{Row}
-use Rattle.store.proofs.Turns.{bothAt}
-use Rattle.store.proofs.Rows.{held-put, held-clear}
-use Rattle.store.proofs.Listings.{entries-places, none-active, active-none}
-use Rattle.rules.specs.Selection.{selects, concerns, placesOf}
-use Rattle.rules.specs.Judge.{firstError, everyTests, judge, applied}
-use Rattle.rules.proofs.Selections.{selected-selects}
-use Rattle.rules.proofs.Judges.{applied-activation, applied-deactivation, none-fails, fails-none}
-use Rattle.answers.specs.Answer.{answerNo, answerValues}
-use Rattle.answers.specs.declared.answer.Answer.{Answer}
-use Rattle.answers.specs.declared.answer.Answer.the-variants.{Listing, Result, Error}
-use Rattle.exchange.specs.Table.{withRow}
-use Rattle.exchange.specs.Step.{Step, verdictOf, resultOf, handled}
+use Rattle.instances.specs.Instance.{keyOf, chosen}
+use Rattle.instances.specs.Run.{instancesOf, listed, entryFor, forwardedTo}
+use Rattle.instances.specs.declared.instance.Instance.{Instance}
+use Rattle.instances.specs.declared.instance.Selection.{Selection}
+use Rattle.instances.proofs.Finds.{names, hasPlace, find-cleared, find-put}
+use Rattle.rules.specs.Selection.{selectionOf}
+use Rattle.rules.specs.Judge.{firstError, everyTests, changed}
+use Rattle.rules.proofs.Judges.{judge-rest, none-fails, changed-activation, changed-deactivation}
+use Rattle.answers.specs.Answer.{answerNo, answerOctets, Answered}
+use Rattle.answers.specs.Reply.{replyNo, reply}
+use Rattle.answers.specs.declared.answer.Answer.the-variants as answer
+use Rattle.answers.proofs.Answers.{error-back, result-back}
+use Rattle.exchange.specs.Question.{asks, question}
+use Rattle.exchange.specs.Step.{Step, handled}
+use Rattle.exchange.specs.Arrive.{Done, answered, done}
 use Rattle.exchange.specs.declared.table.Table.{Table}
-use Rattle.exchange.proofs.Shapes.{Shaped, row-set}
-use Rattle.exchange.proofs.Kept.{changed, moved-grid}
+use Rattle.exchange.proofs.Questions.{question-asks}
+use Rattle.exchange.proofs.Steps.{verdict, handled-fails, handled-changes, handled-ind, step-asks}
+use Rattle.exchange.proofs.Nexts.{heeded, error-nothing, run-held, applied-holds}
 
-pick-each :
-    (j : ℕ) (b : Bool) (x y : Row) {u v : Option Address} → (b ≡ true → held x j ≡ u) → (b ≡ false → held y j ≡ v) →
-    held (pick b x y) j ≡ pick b u v
-pick-each j true x y f g = f refl
-pick-each j false x y f g = g refl
+none-there : {A : Type 0} (l : List A) → length l ≡ 0 → l ≡ []
+none-there [] h = refl
+none-there (x ∷ l) h = absurd (omega arith)
 
-module _ (p : Profile) (t : Table) (identifier : ℤ) (r : Request) where
-  abbrev row : Row
-  row = rowAt (t .grid) (r .procedure)
+module _
+    (access : List ℕ) (t : Table) (s : List ℕ) (size : ℕ) (x : Answered) (told : done access t s size .told ≡ tells x)
+    (identifier : ℤ) (r : Request)
+  where
+    abbrev p : Profile
+    p = accessRead access .profile
 
-  -- every place that the request selects holds `now`, and every other place what it held
-  pub Everywhere : Option Address → Grid → Type 0
-  Everywhere now grid =
-      (k j : ℕ) → k < procedures → j < places →
-      held (rowAt grid k) j
-      ≡ pick (concerns r k) (pick (selects p r j) now (held (rowAt (t .grid) k) j)) (held (rowAt (t .grid) k) j)
+    -- the instances before and afterwards, and those that the request selects
+    abbrev before : List Instance
+    before = instancesOf (t .run)
 
-  -- a result, and all is done; or an error, and nothing is
-  pub data AllOrNothing (now : Option Address) (x : Step) : Type 0 where
-    all : x .answer ≡ Result identifier → Everywhere now (x .next .grid) → AllOrNothing now x
-    nothing : (e : ℕ) → x .answer ≡ Error identifier e → x .next .grid ≡ t .grid → AllOrNothing now x
+    abbrev after : List Instance
+    after = instancesOf (done access t s size .table .run)
 
-  -- the answer tells the verdict
-  verdict-46 :
-      (v : Option ℕ) → verdictOf p t identifier deactivation r v .answer ≡ Error identifier 46 → v ≡ some 46
-  unfolding resultOf
-  verdict-46 none h = absurd (omega (arith, ap answerNo h))
-  verdict-46 (some e) h = ap some (ap (λ (a : Answer). getD (answerValues a) 0 0) h)
+    abbrev sel : Selection
+    sel = selectionOf p r
 
-  module _ (profile : profileGood p ≡ true) (long : length (p .services) ≡ servicesMost) (so : Shaped t)
-      (known : r .procedure < procedures) where
-    everywhere :
-        (now : Option Address) (next : Row) →
-        ((j : ℕ) → j < places → held next j ≡ pick (selected (placesOf p r) j) now (held row j)) →
-        Everywhere now (withRow (r .procedure) next t .grid)
-    unfolding Everywhere
-    everywhere now next is k j hk hj =
-        rw (row-set (t .grid .rows) (r .procedure) k next _ (omega (arith, so .rows)))
-        (pick-each j (eqb k (r .procedure)) next (rowAt (t .grid) k)
-        (λ e.
-        rw (eqb-true k (r .procedure) e, ← selected-selects p r (good-profile p profile .rises) long j hj) (is j hj))
-        (λ _. refl))
+    abbrev Asks : ℕ → Type 0
+    Asks operation = question p (t .last) s ≡ asks identifier operation r
 
-    verdict-all :
-        (operation : ℕ) (now : Option Address) → (operation ≡ interrogation → ⊥) →
-        ((j : ℕ) → j < places → held (applied operation r (placesOf p r) row) j ≡ pick (selected (placesOf p r) j) now (held row j)) →
-        (v : Option ℕ) → AllOrNothing now (verdictOf p t identifier operation r v)
-    unfolding resultOf
-    verdict-all operation now asks is none =
-        rw (ne-eqb _ _ asks)
-        (all refl
-        (rw (moved-grid p t identifier (changed p t identifier operation r))
-        (everywhere now (applied operation r (placesOf p r) row) is)))
-    verdict-all operation now asks is (some e) = nothing e refl (moved-grid p t identifier t)
+    is-handled : (operation : ℕ) → Asks operation → done access t s size ≡ answered (handled p t identifier operation r)
+    is-handled operation asked = heeded access t s size x told .is ∙ ap answered (step-asks p t s identifier operation r asked)
 
-    -- "every selected number and service .. gets the address, replacing an older one, all together"
-    pub activation-all : AllOrNothing (some (tidyAddress (r .to .address))) (handled p t identifier activation r)
-    unfolding handled
-    activation-all =
-        verdict-all activation (some (tidyAddress (r .to .address))) (λ e. omega arith)
-        (λ j h.
-        rw (applied-activation r (placesOf p r) row)
-        (held-put (placesOf p r) (r .to .address) row j (omega (arith, so .cells (r .procedure) known))))
-        (judge instancesMost p activation r (placesOf p r) row)
+    is-number : (operation : ℕ) → Asks operation → answerNo (handled p t identifier operation r .answer) ≡ x .number
+    is-number operation asked =
+        ap (λ (y : Step). answerNo (y .answer)) (sym (step-asks p t s identifier operation r asked))
+        ∙ ap (λ (y : Answered). y .number) (heeded access t s size x told .tells)
+
+    -- ---- an activation and a deactivation
+
+    -- with a result every place that the request names has what the request says, and every other what it had; with any other answer
+    -- every place has what it had
+    pub record AllOrNothing (now : ℕ → ℕ → Option Address) : Type 0 where
+      pub all :
+          x .number ≡ 0xA2 → (q n service : ℕ) →
+          forwardedTo q n service after ≡ pick (names sel q n service) (now n service) (forwardedTo q n service before)
+      pub nothing :
+          (x .number ≡ 0xA2 → ⊥) → (q n service : ℕ) → forwardedTo q n service after ≡ forwardedTo q n service before
+
+    changed-all :
+        (operation : ℕ) (now : ℕ → ℕ → Option Address) → Asks operation → (operation ≡ interrogation → ⊥) →
+        ((q n service : ℕ) →
+        forwardedTo q n service (changed p operation r before)
+        ≡ pick (names sel q n service) (now n service) (forwardedTo q n service before)) →
+        AllOrNothing now
+    changed-all operation now asked other is = record {
+      all = λ number q n service.
+          let so = heeded access t s size x told in
+          rw (is-handled operation asked)
+          (handled-ind p t identifier operation r
+          (λ y.
+          answerNo (y .answer) ≡ 0xA2 →
+          forwardedTo q n service (instancesOf (y .next .run))
+          ≡ pick (names sel q n service) (now n service) (forwardedTo q n service before))
+          (λ _ _ h. absurd (omega arith))
+          (λ _ e _. absurd (other e))
+          (λ passes not _.
+          rw (applied-holds p t (so .rules) (so .table) identifier operation r
+          (question-asks p (t .last) s identifier operation r asked) passes not)
+          (is q n service))
+          (is-number operation asked ∙ number));
+      nothing = λ not q n service. rw (error-nothing access t s size x told not);
+    }
+
+    -- "every selected number and service (code 0: all subscribed) gets the address, replacing an older one, all together"
+    pub activation-all :
+        Asks activation → AllOrNothing (λ n service. pick (hasPlace p n service) (some (r .to .address)) none)
+    activation-all asked =
+        changed-all activation _ asked (λ e. omega arith)
+        (λ q n service. rw (changed-activation p r before) (find-put q n service sel (r .to .address) p before))
 
     -- "removes every active selected instance"
-    pub deactivation-all : AllOrNothing none (handled p t identifier deactivation r)
-    unfolding handled
-    deactivation-all =
-        verdict-all deactivation none (λ e. omega arith)
-        (λ j h. rw (applied-deactivation r (placesOf p r) row) (held-clear (placesOf p r) row j))
-        (judge instancesMost p deactivation r (placesOf p r) row)
+    pub deactivation-all : Asks deactivation → AllOrNothing (λ n service. none)
+    deactivation-all asked =
+        changed-all deactivation _ asked (λ e. omega arith)
+        (λ q n service. rw (changed-deactivation p r before) (find-cleared q n service sel before))
 
-    -- "error 46 exactly if there's none": no selected instance was active
-    abbrev pub NoneActive : Type 0
-    NoneActive = (j : ℕ) → j < places → selects p r j ≡ true → active row j ≡ false
+    -- "error 46 exactly if there's none": the octets are that error's, and no selected instance is active
+    pub record NoneActive : Type 0 where
+      pub fails : listed sel before ≡ [] → done access t s size .octets ≡ answerOctets (answer.Error identifier 46) []
+      pub only : done access t s size .octets ≡ answerOctets (answer.Error identifier 46) [] → listed sel before ≡ []
 
-    marked : (j : ℕ) → j < places → selected (placesOf p r) j ≡ selects p r j
-    marked = selected-selects p r (good-profile p profile .rises) long
+    module _ (asked : Asks deactivation) (every : firstError (everyTests p r) ≡ none) where
+      -- a result has other octets
+      passes-not :
+          verdict p t identifier deactivation r ≡ none →
+          done access t s size .octets ≡ answerOctets (answer.Error identifier 46) [] → ⊥
+      passes-not passes h =
+          let range = question-asks p (t .last) s identifier deactivation r asked .range in
+          let octets : done access t s size .octets ≡ answerOctets (answer.Result identifier) [] =
+          ap (λ (d : Done). d .octets)
+          (is-handled deactivation asked ∙ ap answered (handled-changes p t identifier deactivation r passes (λ e. omega arith))) in
+          let back =
+          sym (result-back identifier deactivation range [] (λ e. omega arith))
+          ∙ ap (reply identifier deactivation) (sym octets ∙ h)
+          ∙ error-back identifier deactivation range 46 [] (omega arith) in
+          omega (arith, ap replyNo back)
 
-    module _ (every : firstError (everyTests p r) ≡ none) where
-      pub none-46 : NoneActive → handled p t identifier deactivation r .answer ≡ Error identifier 46
-      unfolding handled
-      none-46 silent =
-          rw (none-fails instancesMost p r (placesOf p r) row every
-          (active-none (placesOf p r) row (λ j h chosen. silent j h (sym (marked j h) ∙ chosen))))
+      pub none-active : NoneActive
+      none-active = record {
+        fails = λ nothing.
+            ap (λ (d : Done). d .octets)
+            (is-handled deactivation asked
+            ∙ ap answered
+            (handled-fails p t identifier deactivation r 46 (none-fails instancesMost p r before every (ap length nothing))));
+        only = λ failed.
+            by-bool (listed sel before ≡ []) (eqb (length (listed sel before)) 0)
+            (λ h. none-there (listed sel before) (eqb-true (length (listed sel before)) 0 h))
+            (λ h. absurd (passes-not (judge-rest instancesMost p deactivation r before every ∙ rw h) failed));
+      }
 
-      pub only-46 : handled p t identifier deactivation r .answer ≡ Error identifier 46 → NoneActive
-      unfolding handled
-      only-46 failed j h chosen =
-          none-active (placesOf p r) row
-          (fails-none instancesMost p r (placesOf p r) row every
-          (verdict-46 (judge instancesMost p deactivation r (placesOf p r) row) failed))
-          j h (marked j h ∙ chosen)
+    -- ---- an interrogation
 
     -- "every active selected instance, by profile number, then service code. Each carries the profile's own number."
-    pub record Lists (x : Step) : Type 0 where
-      pub answer : x .answer ≡ Listing identifier
-      pub entries :
-          x .entries
-          ≡ map (entryOfPlace p (r .procedure) row) (placesWhere (λ j. pick (selects p r j) (active row j) false) places)
+    pub record Lists : Type 0 where
+      pub octets :
+          done access t s size .octets ≡ answerOctets (answer.Listing identifier) (map (entryFor (p .numbers)) (listed sel before))
+      -- each once
+      pub ascends : Up keyOf 0 (listed sel before)
 
-    pub interrogation-lists :
-        judge instancesMost p interrogation r (placesOf p r) row ≡ none → Lists (handled p t identifier interrogation r)
-    unfolding handled resultOf
-    interrogation-lists passes =
-        rw passes (record {
-          answer = refl;
-          entries =
-              entries-places (placesOf p r) row p (r .procedure)
-              ∙ ap (map (entryOfPlace p (r .procedure) row))
-              (places-same (bothAt (placesOf p r) row) (λ j. pick (selects p r j) (active row j) false) places (λ j h.
-              ap (λ b. pick b (active row j) false) (marked j h)));
-        })
+    pub interrogation-lists : Asks interrogation → x .number ≡ 0xA2 → Lists
+    interrogation-lists asked number =
+        let so = heeded access t s size x told in
+        record {
+          octets =
+              rw (is-handled interrogation asked)
+              (handled-ind p t identifier interrogation r
+              (λ y.
+              answerNo (y .answer) ≡ 0xA2 →
+              answerOctets (y .answer) (y .entries)
+              ≡ answerOctets (answer.Listing identifier) (map (entryFor (p .numbers)) (listed sel before)))
+              (λ _ _ h. absurd (omega arith))
+              (λ _ _ _. refl)
+              (λ _ other _. absurd (other refl))
+              (is-number interrogation asked ∙ number));
+          ascends = up-those keyOf (chosen sel) 0 before (run-held p t (so .rules) (so .table) .ascends);
+        }

@@ -1,140 +1,158 @@
--- Laws of a step of the exchange, over plain values. Assumes nothing.
-use Prim.Native.Nat.{ℕ, zero, suc, _<_}
+-- What the exchange does with a component, by its question and by the verdict on its request. Assumes nothing.
+use Prim.Native.Nat.{ℕ}
 use mathlib.Core.Path.{_≡_, refl, sym, ap, _∙_}
-use mathlib.Core.Bool.{Bool, true, false}
-use mathlib.Core.List.{List, [], _∷_}
-use mathlib.Core.Option.{none, some}
-use native.Mathlib.Nat.{not-suc-le-zero, le-of-suc-le-suc}
-use lib.IntN.{ℤ}
-use lib.Signed.{mag}
-use lib.ListN.{length, getD, take, set}
+use mathlib.Core.Bool.{true, false, false≢true}
+use mathlib.Core.List.{List, map}
+use mathlib.Core.Option.{Option, none, some}
+use native.Mathlib.Omega.{arith}
+use lib.IntN.{ℤ, pos, negsuc, natAbs}
+use lib.Signed.{ltZ, mag}
 use lib.Dec.{eqb}
-use borrow.Author.Tests.{eq-eqb, ne-eqb}
-use Rattle.laws.specs.Pick.{pick}
+use mir.Syntax.{w16}
+use mir.Val.{SFits, toZ, ofZ}
+use mir.Facts.{toZ-ofZ}
+use borrow.Author.Tests.{ltb-true, eq-eqb, ne-eqb, eqb-true, eqb-false}
+use Rattle.laws.proofs.Picks.{pick-ind}
+use Rattle.values.proofs.Signs.{positive}
 use Rattle.profile.specs.declared.profile.Profile.{Profile}
 use Rattle.requests.specs.Request.{interrogation}
 use Rattle.requests.specs.declared.request.Request.{Request}
-use Rattle.lists.specs.Entries.{instancesMost, entriesOf}
-use Rattle.lists.specs.declared.entries.Entries.{Entries}
-use Rattle.store.specs.Row.{entriesIn}
-use Rattle.store.specs.Grid.{rowAt}
-use Rattle.store.specs.declared.row.Places.{Places}
-use Rattle.store.specs.declared.row.Row.{Row}
-use Rattle.rules.specs.Selection.{placesOf}
+use Rattle.lists.specs.Entries.{instancesMost}
+use Rattle.instances.specs.Run.{instancesOf, listed, entryFor}
+use Rattle.rules.specs.Selection.{selectionOf}
 use Rattle.rules.specs.Judge.{judge, applied}
-use Rattle.answers.specs.declared.answer.Answer.the-variants.{Listing, Result, Error}
-use Rattle.exchange.specs.Table.{withRow, withLast}
-use Rattle.exchange.specs.Question.{question}
-use Rattle.exchange.specs.Step.{moved, resultOf, handled, stepOf, step}
-use Rattle.exchange.specs.inner.Step.{Handles, Steps}
-use Rattle.exchange.specs.declared.question.Question.{Question}
+use Rattle.answers.specs.declared.answer.Answer.{Answer}
+use Rattle.answers.specs.declared.answer.Answer.the-variants as answer
+use Rattle.exchange.specs.Table.{tableOf}
+use Rattle.exchange.specs.Question.{Question, says, asks, question}
+use Rattle.exchange.specs.Step.{Step, stays, lastAfter, resultOf, verdictOf, handled, stepOf, step}
+use Rattle.exchange.specs.inner.Question.{questionRead}
+use Rattle.exchange.specs.declared.question.QuestionRead.{QuestionRead}
 use Rattle.exchange.specs.declared.table.Table.{Table}
-use Rattle.exchange.specs.declared.step.Stepped.{Stepped}
+use Rattle.exchange.proofs.Questions.{Said, question-says}
 
 -- ---- the last handled identifier
 
 -- "Only a result or an error on a counted end moves" it
-abbrev pub lastAfter : Profile → ℤ → ℕ → ℕ
-lastAfter p identifier last = pick (eqb (p .counted) 1) (mag identifier) last
+pub after-stays : (p : Profile) (identifier : ℤ) (last : ℕ) → (p .counted ≡ 1 → ⊥) → lastAfter p identifier last ≡ last
+unfolding lastAfter
+after-stays p (pos n) last h = rw (ne-eqb (p .counted) 1 h)
+after-stays p (negsuc n) last h = refl
 
-pick-last : (b : Bool) (last : ℕ) (t : Table) → withLast (pick b last (t .last)) t ≡ pick b (withLast last t) t
-pick-last true last t = refl
-pick-last false last t = refl
+pub after-moves : (p : Profile) (n last : ℕ) → p .counted ≡ 1 → lastAfter p (pos n) last ≡ n
+unfolding lastAfter
+after-moves p n last h = rw (eq-eqb (p .counted) 1 h)
 
-moved-last :
-    (p : Profile) (identifier : ℤ) (t : Table) → withLast (lastAfter p identifier (t .last)) t ≡ moved p identifier t
-unfolding moved
-moved-last p identifier t = pick-last (eqb (p .counted) 1) (mag identifier) t
+last-negative : (p : Profile) (identifier : ℤ) (last : ℕ) → ltZ identifier (pos 0) ≡ true → last ≡ lastAfter p identifier last
+unfolding lastAfter
+last-negative p (pos n) last e = absurd (omega (arith, ltb-true n 0 e))
+last-negative p (negsuc n) last e = refl
 
--- ---- the row of a procedure
+-- as the machine tells it
+module _ (p : Profile) (z : ℤ) (fits : SFits w16 z) (last : ℕ) where
+  pub machine-below : ltZ (toZ w16 (ofZ w16 z)) (pos 0) ≡ true → last ≡ lastAfter p z last
+  machine-below e = last-negative p z last (rw (toZ-ofZ fits) at e)
 
-set-same : {A : Type 0} (l : List A) (i : ℕ) (d : A) → i < length l → set l i (getD l i d) ≡ l
-set-same [] i d h = absurd (not-suc-le-zero h)
-set-same (x ∷ xs) zero d h = refl
-set-same (x ∷ xs) (suc i) d h = ap (λ (l : List _). x ∷ l) (set-same xs i d (le-of-suc-le-suc h))
+  pub machine-moves :
+      ltZ (toZ w16 (ofZ w16 z)) (pos 0) ≡ false → p .counted ≡ 1 → natAbs (toZ w16 (ofZ w16 z)) ≡ lastAfter p z last
+  machine-moves e counted =
+      let number = positive z (rw (toZ-ofZ fits) at e) in
+      rw (toZ-ofZ fits, number) (sym (after-moves p (mag z) last counted))
 
--- its own row in its place leaves a table as it is
-row-same : (t : Table) (k : ℕ) → k < length (t .grid .rows) → withRow k (rowAt (t .grid) k) t ≡ t
-row-same t k h =
-    ap (λ (l : List Row). record { last = t .last; grid = record { rows = l } })
-    (set-same (t .grid .rows) k (record { cells = [] }) h)
+-- ---- a request that is handled
 
-own-row :
-    (t : Table) (k : ℕ) (row : Row) (last : ℕ) → rowAt (t .grid) k ≡ row → k < length (t .grid .rows) →
-    withLast last (withRow k row t) ≡ withLast last t
-own-row t k row last held h =
-    ap (λ (x : Row). withLast last (withRow k x t)) (sym held) ∙ ap (withLast last) (row-same t k h)
+module _ (p : Profile) (t : Table) (identifier : ℤ) (operation : ℕ) (r : Request) where
+  -- an error, a list, and a change
+  abbrev pub fails : ℕ → Step
+  fails error = stays (tableOf (lastAfter p identifier (t .last)) (t .run)) (answer.Error identifier error)
 
--- ---- a request that is judged, where it selects the places w of the row
+  abbrev pub lists : Step
+  lists = record {
+    next = tableOf (lastAfter p identifier (t .last)) (t .run);
+    answer = answer.Listing identifier;
+    entries = map (entryFor (p .numbers)) (listed (selectionOf p r) (instancesOf (t .run)));
+  }
 
-module _ (p : Profile) (identifier : ℤ) (operation : ℕ) (r : Request) (before : ℕ) where
-  module _ (w : Places) (row : Row) (selects : w ≡ placesOf p r) where
-    module _ (last : ℕ) (lasts : last ≡ lastAfter p identifier before) where
-      -- the next table where the row stays as it is
-      same-row :
-          (t : Table) → t .last ≡ before → rowAt (t .grid) (r .procedure) ≡ row → r .procedure < length (t .grid .rows) →
-          withLast last (withRow (r .procedure) row t) ≡ moved p identifier t
-      same-row t begins held known =
-          own-row t (r .procedure) row last held known
-          ∙ ap (λ (n : ℕ). withLast n t) (lasts ∙ ap (lastAfter p identifier) (sym begins))
-          ∙ moved-last p identifier t
+  abbrev pub changes : Step
+  changes = stays (tableOf (lastAfter p identifier (t .last)) (applied p operation r (t .run))) (answer.Result identifier)
 
-      pub handled-fails :
-          (error : ℕ) → judge instancesMost p operation r w row ≡ some error → (list : Entries) → list ≡ entriesOf [] →
-          Handles p before row identifier operation r
-          (record { last = last; row = row; answer = Error identifier error; list = list })
-      unfolding handled
-      handled-fails error fails list lists t begins held known =
-          rw (← selects, held, fails)
-          (record { next = same-row t begins held known; answer = refl; list = lists })
+  abbrev pub verdict : Option ℕ
+  verdict = judge instancesMost p operation r (instancesOf (t .run))
 
-      module _ (passes : judge instancesMost p operation r w row ≡ none) where
-        pub handled-listed :
-            operation ≡ interrogation → (list : Entries) → list ≡ entriesOf (take instancesMost (entriesIn p (r .procedure) w row)) →
-            Handles p before row identifier operation r
-            (record { last = last; row = row; answer = Listing identifier; list = list })
-        unfolding handled resultOf
-        handled-listed asks list lists t begins held known =
-            rw (← selects, held, passes, eq-eqb _ _ asks, ← selects, held)
-            (record { next = same-row t begins held known; answer = refl; list = lists })
+  pub handled-fails : (error : ℕ) → verdict ≡ some error → handled p t identifier operation r ≡ fails error
+  unfolding handled
+  handled-fails error h = rw h
 
-        pub handled-changed :
-            (operation ≡ interrogation → ⊥) → (after : Row) → after ≡ applied operation r w row → (list : Entries) →
-            list ≡ entriesOf [] →
-            Handles p before row identifier operation r
-            (record { last = last; row = after; answer = Result identifier; list = list })
-        unfolding handled resultOf
-        handled-changed asks after applies list lists t begins held known =
-            rw (← selects, held, passes, ne-eqb _ _ asks, ← selects, held, ← applies)
-            (record {
-              next = rw (lasts, ← begins) (moved-last p identifier (withRow (r .procedure) after t));
-              answer = refl;
-              list = lists;
-            })
+  module _ (passes : verdict ≡ none) where
+    pub handled-lists : operation ≡ interrogation → handled p t identifier operation r ≡ lists
+    unfolding handled resultOf
+    handled-lists h = rw (passes, eq-eqb operation interrogation h)
 
--- ---- a question
+    pub handled-changes : (operation ≡ interrogation → ⊥) → handled p t identifier operation r ≡ changes
+    unfolding handled resultOf
+    handled-changes h = rw (passes, ne-eqb operation interrogation h)
 
-module _ (p : Profile) (last : ℕ) (row : Row) (q : Question) (s : Stepped) where
-  pub steps-asked :
-      q .asked ≡ true → Handles p last row (q .identifier) (q .operation) (q .request) s → Steps p last row q s
-  unfolding stepOf
-  steps-asked h handles t begins held known = rw h (handles t begins held known)
+  -- what holds of all three holds of what is done with the request
+  verdict-ind :
+      (P : Step → Type 0) (v : Option ℕ) → verdict ≡ v → ((error : ℕ) → verdict ≡ some error → P (fails error)) →
+      (verdict ≡ none → operation ≡ interrogation → P lists) →
+      (verdict ≡ none → (operation ≡ interrogation → ⊥) → P changes) →
+      P (verdictOf p t identifier operation r v)
+  unfolding resultOf
+  verdict-ind P none h fail list change =
+      pick-ind P (eqb operation interrogation)
+      (λ e. list h (eqb-true operation interrogation e))
+      (λ e. change h (eqb-false operation interrogation e))
+  verdict-ind P (some error) h fail list change = fail error h
 
-pub steps-said :
-    (p : Profile) (last : ℕ) (row : Row) (q : Question) (list : Entries) → q .asked ≡ false → list ≡ entriesOf [] →
-    Steps p last row q (record { last = last; row = row; answer = q .answer; list = list })
-unfolding stepOf
-steps-said p last row q list h lists t begins held known =
-    rw h
-    (record {
-      next =
-          own-row t (q .request .procedure) row last held known ∙ ap (λ (n : ℕ). withLast n t) (sym begins);
-      answer = refl;
-      list = lists;
-    })
+  pub handled-ind :
+      (P : Step → Type 0) → ((error : ℕ) → verdict ≡ some error → P (fails error)) →
+      (verdict ≡ none → operation ≡ interrogation → P lists) →
+      (verdict ≡ none → (operation ≡ interrogation → ⊥) → P changes) →
+      P (handled p t identifier operation r)
+  unfolding handled
+  handled-ind P = verdict-ind P verdict refl
 
--- the step of a component is that of its question
-pub step-of :
-    (p : Profile) (t : Table) (s : List ℕ) (q : Question) → q ≡ question p (t .last) s → step p t s ≡ stepOf p t q
-unfolding step
-step-of p t s q asks = rw (← asks)
+-- ---- a component
+
+module _ (p : Profile) (t : Table) (s : List ℕ) where
+  pub step-says : (a : Answer) → question p (t .last) s ≡ says a → step p t s ≡ stays t a
+  unfolding step
+  step-says a e = rw e
+
+  pub step-asks :
+      (identifier : ℤ) (operation : ℕ) (r : Request) → question p (t .last) s ≡ asks identifier operation r →
+      step p t s ≡ handled p t identifier operation r
+  unfolding step
+  step-asks identifier operation r e = rw e
+
+  -- what holds of an answer at once, and of a request that is handled, holds of a step
+  question-ind :
+      (P : Step → Type 0) (q : Question) → question p (t .last) s ≡ q → ((a : Answer) → Said a → P (stays t a)) →
+      ((identifier : ℤ) (operation : ℕ) (r : Request) →
+      question p (t .last) s ≡ asks identifier operation r → P (handled p t identifier operation r)) →
+      P (stepOf p t q)
+  question-ind P (says a) e said asked = said a (question-says p (t .last) s a e)
+  question-ind P (asks identifier operation r) e said asked = asked identifier operation r e
+
+  pub step-ind :
+      (P : Step → Type 0) → ((a : Answer) → Said a → P (stays t a)) →
+      ((identifier : ℤ) (operation : ℕ) (r : Request) →
+      question p (t .last) s ≡ asks identifier operation r → P (handled p t identifier operation r)) →
+      P (step p t s)
+  unfolding step
+  step-ind P = question-ind P (question p (t .last) s) refl
+
+-- ---- a question, as the code tells it
+
+pub read-says : (x : Question) (q : QuestionRead) → q ≡ questionRead x → q .asked ≡ false → x ≡ says (q .answer)
+read-says (says a) q e h = ap (λ (y : QuestionRead). says (y .answer)) (sym e)
+read-says (asks identifier operation r) q e h =
+    absurd (false≢true (sym h ∙ ap (λ (y : QuestionRead). y .asked) e))
+
+pub read-asks :
+    (x : Question) (q : QuestionRead) → q ≡ questionRead x → q .asked ≡ true →
+    x ≡ asks (q .identifier) (q .operation) (q .request)
+read-asks (says a) q e h = absurd (false≢true (sym (ap (λ (y : QuestionRead). y .asked) e) ∙ h))
+read-asks (asks identifier operation r) q e h =
+    ap (λ (y : QuestionRead). asks (y .identifier) (y .operation) (y .request)) (sym e)

@@ -1,13 +1,20 @@
 -- What it means that a table breaks no rule. Assumes nothing.
 use Prim.Native.Nat.{ℕ, _<_, _≤_}
-use mathlib.Core.Path.{_≡_}
+use mathlib.Core.Path.{_≡_, refl, ap, _∙_}
 use mathlib.Core.Bool.{true, false}
+use mathlib.Core.List.{[]}
+use native.Mathlib.Omega.{arith}
+use lib.ListN.{length}
 use lib.Dec.{leb}
 use borrow.Author.Tests.{le-leb, lt-leb, leb-true}
-use Rattle.laws.proofs.Picks.{pick-then}
+use Rattle.laws.proofs.Picks.{pick-last}
+use Rattle.laws.proofs.Tests.{both-hold}
+use Rattle.laws.proofs.Thoses.{those-none}
 use Rattle.profile.specs.declared.profile.Profile.{Profile}
-use Rattle.store.specs.Grid.{gridGood}
-use Rattle.exchange.specs.Table.{lastMost, tableGood}
+use Rattle.lists.specs.Entries.{instancesMost}
+use Rattle.instances.specs.Run.{isOf, countOf, runGood}
+use Rattle.instances.proofs.Goods.{good-run}
+use Rattle.exchange.specs.Table.{lastMost, freshTable, tableGood}
 use Rattle.exchange.specs.declared.table.Table.{Table}
 
 module _ (most : ℕ) (p : Profile) (t : Table) where
@@ -17,13 +24,24 @@ module _ (most : ℕ) (p : Profile) (t : Table) where
   table-over lt = rw (lt-leb (t .last) lastMost lt)
 
   -- where it is not, the instances decide
-  pub table-grid : t .last ≤ lastMost → tableGood most p t ≡ gridGood most p (t .grid)
+  pub table-run : t .last ≤ lastMost → tableGood most p t ≡ runGood most p (t .run)
   unfolding tableGood
-  table-grid le = rw (le-leb (t .last) lastMost le)
+  table-run le = rw (le-leb (t .last) lastMost le) (pick-last (runGood most p (t .run)))
 
   -- a table that breaks no rule
-  pub table-good : tableGood most p t ≡ true → (t .last ≤ lastMost) × (gridGood most p (t .grid) ≡ true)
+  pub table-good : tableGood most p t ≡ true → (t .last ≤ lastMost) × (runGood most p (t .run) ≡ true)
   unfolding tableGood
   table-good good =
-      let both = pick-then (leb (t .last) lastMost) (gridGood most p (t .grid)) good in
+      let both = both-hold (leb (t .last) lastMost) (runGood most p (t .run)) good in
       (leb-true (t .last) lastMost (both .0), both .1)
+
+  -- and one that is made
+  pub good-table : t .last ≤ lastMost → runGood most p (t .run) ≡ true → tableGood most p t ≡ true
+  good-table le good = table-run le ∙ good
+
+-- the fresh table breaks no rule of any profile
+pub fresh-good : (p : Profile) → tableGood instancesMost p freshTable ≡ true
+fresh-good p =
+    let none : (q : ℕ) → countOf q [] ≤ instancesMost = λ q. omega (arith, ap length (those-none (isOf q) [] refl)) in
+    good-table instancesMost p freshTable (omega arith)
+    (good-run p [] (record { ascends = tt; each = tt; few = (none 0, none 1, none 2) }))

@@ -1,7 +1,6 @@
 -- What an arriving component asks of the exchange, or the answer that it gets at once: the rows of document 01's table down to
 -- "argument" (document 01, "Replies, in the order checked").
 use Prim.Native.Nat.{ℕ}
-use mathlib.Core.Path.{_≡_}
 use mathlib.Core.Bool.{Bool, true, false}
 use mathlib.Core.List.{List}
 use lib.IntN.{ℤ, pos, negsuc}
@@ -10,39 +9,22 @@ use Rattle.laws.specs.Pick.{pick}
 use Rattle.laws.specs.Got.{Got, got, wrong}
 use Rattle.profile.specs.declared.profile.Profile.{Profile}
 use Rattle.requests.specs.Heard.{heard}
-use Rattle.requests.specs.Request.{activation, deactivation, interrogation, noRequest, argumentAt}
+use Rattle.requests.specs.Request.{activation, deactivation, interrogation, argumentAt}
 use Rattle.requests.specs.declared.heard.Heard.{Heard}
 use Rattle.requests.specs.declared.heard.Heard.the-variants as heard
 use Rattle.requests.specs.declared.heard.Operation.{Operation}
 use Rattle.requests.specs.declared.request.Request.{Request}
-use Rattle.answers.specs.Answer.{answeredBy}
 use Rattle.answers.specs.declared.answer.Answer.{Answer}
 use Rattle.answers.specs.declared.answer.Answer.the-variants as answer
 use Rattle.answers.specs.declared.answer.Problem.{Problem}
 use Rattle.answers.specs.declared.answer.Problem.the-variants.{General, Invoke}
 use Rattle.answers.specs.declared.answer.Whose.{Whose}
 use Rattle.answers.specs.declared.answer.Whose.the-variants.{Null, Own}
-use Rattle.exchange.specs.declared.question.Question.{Question}
 
--- a request that must be judged
-abbrev pub asks : ℤ → ℕ → Request → Question
-asks identifier operation r = record {
-  asked = true;
-  answer = answer.Silence;
-  identifier = identifier;
-  operation = operation;
-  request = r;
-}
-
--- an answer at once
-abbrev pub says : Answer → Question
-says a = record {
-  asked = false;
-  answer = a;
-  identifier = pos 0;
-  operation = 0;
-  request = noRequest;
-}
+-- what a component asks: nothing, and it gets its answer at once; or a request, with its identifier and operation, that must be judged
+pub data Question : Type 0 where
+  says : Answer → Question
+  asks : (identifier : ℤ) (operation : ℕ) (request : Request) → Question
 
 abbrev pub rejects : Whose → Problem → Question
 rejects whose problem = says (answer.Reject whose problem)
@@ -86,12 +68,3 @@ questionOf p last s (heard.Asks identifier operation at end) = invoked p last s 
 -- what the component s asks of an exchange that has handled `last`
 unfoldable pub question : Profile → ℕ → List ℕ → Question
 question p last s = questionOf p last s (heard s)
-
--- what `question_of` promises: whether something is asked, the request with its identifier and operation, and the answer where nothing is,
--- by document 01's numbers
-pub record QuestionOf (p : Profile) (last : ℕ) (s : List ℕ) (r : Question) : Type 0 where
-  pub asked : r .asked ≡ question p last s .asked
-  pub answer : answeredBy (r .answer) ≡ answeredBy (question p last s .answer)
-  pub identifier : r .identifier ≡ question p last s .identifier
-  pub operation : r .operation ≡ question p last s .operation
-  pub request : r .request ≡ question p last s .request

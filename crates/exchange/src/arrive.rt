@@ -1,13 +1,22 @@
 // Each arriving component turns a table into the next table and a reply (document 01, "Replies", "Local refusals").
 use crate::question::question_of;
-use crate::step::step_of;
+use crate::table::LASTMOST;
 use crate::table::Table;
 use answers::Answer;
 use answers::put_answer;
+use instances::Run;
+use lists::no_entries;
+use profile::Profile;
 use profile::read_access;
 use refusals::Refusal;
-use store::Grid;
+use requests::INTERROGATION;
+use rules::Verdict;
+use rules::apply_request;
+use rules::judge_request;
+use rules::selection_of;
 ghost use mathlib.Core.Path.{_≡_};
+ghost use Rattle.exchange.specs.Table.{tableOf};
+ghost use Rattle.exchange.specs.Step.{lastAfter};
 ghost use Rattle.exchange.specs.Arrive.{Arrives};
 ghost use Rattle.exchange.specs.inner.Refused.{arrivedRefused};
 
@@ -29,53 +38,108 @@ pub struct Arrived {
     pub count: usize,
 }
 
-fn refuses(last: u16, grid: Grid, refusal: Refusal) -> Arrived
-    ensures { λ r. ⌜ r ≡ arrivedRefused (record { last = last; grid = grid }) refusal ⌝ }
+fn refuses(last: u16, run: Run, refusal: Refusal) -> Arrived
+    ensures { λ r. ⌜ r ≡ arrivedRefused (tableOf last run) refusal ⌝ }
 {
+    let table = Table { last, run };
     Arrived {
-        table: Table { last, grid },
+        table,
         outcome: Arriving::Refuses { refusal },
         count: 0,
     }
 }
 
+// The last handled identifier moves on a counted end alone, to the request's own; a negative one is never handled there.
+fn last_after(p: Profile, identifier: i16, last: u16) -> u16
+    ensures { λ r. ⌜ r ≡ lastAfter p identifier last ⌝ }
+{
+    if identifier < 0 {
+        return last;
+    }
+    if p.counted == 1 {
+        return identifier as u16;
+    }
+    last
+}
+
 impl Table {
-    // The next table and the reply to a component, which is written at the start of the output.
+    // The next table and the reply to a component, which is written at the start of the output. One function, since each further one
+    // that took the table would copy it.
     pub fn arrive(self, access: &[u8], component: &[u8], out: &mut [u8]) -> Arrived
         ensures { λ r. ⌜ Arrives (now (access .entry)) self (now (component .entry)) (now (out .entry)) r (now (out .exit)) ⌝ }
     {
-        // Taken first, and handed back by every refusal: so a compiler needs no other copy of the table.
-        let mut grid = self.grid;
+        let run = self.run;
         if out.len() < OUTPUTLEAST {
-            return refuses(self.last, grid, Refusal::ShortOutput);
+            return refuses(self.last, run, Refusal::ShortOutput);
         }
         if COMPONENTMOST < component.len() {
-            return refuses(self.last, grid, Refusal::LongComponent);
+            return refuses(self.last, run, Refusal::LongComponent);
         }
         let read = read_access(access);
         if !read.ok {
-            return refuses(self.last, grid, Refusal::BadProfile);
+            return refuses(self.last, run, Refusal::BadProfile);
         }
         let p = read.profile;
-        if !self.good(p) {
-            return refuses(self.last, grid, Refusal::BadTable);
+        if LASTMOST < self.last {
+            return refuses(self.last, run, Refusal::BadTable);
+        }
+        if !run.good(p) {
+            return refuses(self.last, run, Refusal::BadTable);
         }
         let q = question_of(p, self.last, component);
-        let procedure = q.request.procedure as usize;
-        let row = grid.rows[procedure];
-        let done = step_of(p, self.last, row, q);
-        let after = done.row;
-        grid.rows[procedure] = after;
-        let answer = done.answer;
-        let list = done.list;
-        let count = put_answer(out, answer, list);
-        Arrived {
-            table: Table {
-                last: done.last,
-                grid,
-            },
-            outcome: Arriving::Answers { answer },
-            count,
+        if !q.asked {
+            let answer = q.answer;
+            let list = no_entries();
+            let count = put_answer(out, answer, list);
+            return Arrived {
+                table: Table {
+                    last: self.last,
+                    run,
+                },
+                outcome: Arriving::Answers { answer },
+                count,
+            };
+        }
+        let r = q.request;
+        let operation = q.operation;
+        let identifier = q.identifier;
+        let last = last_after(p, identifier, self.last);
+        match judge_request(p, operation, r, run) {
+            Verdict::Fails { error } => {
+                let answer = Answer::Error {
+                    identifier,
+                    value: error,
+                };
+                let list = no_entries();
+                let count = put_answer(out, answer, list);
+                Arrived {
+                    table: Table { last, run },
+                    outcome: Arriving::Answers { answer },
+                    count,
+                }
+            }
+            Verdict::Passes => {
+                if operation == INTERROGATION {
+                    let sel = selection_of(p, r);
+                    let list = run.entries(p, sel);
+                    let answer = Answer::Listing { identifier };
+                    let count = put_answer(out, answer, list);
+                    return Arrived {
+                        table: Table { last, run },
+                        outcome: Arriving::Answers { answer },
+                        count,
+                    };
+                }
+                let next = apply_request(p, operation, r, run);
+                let answer = Answer::Result { identifier };
+                let list = no_entries();
+                let count = put_answer(out, answer, list);
+                Arrived {
+                    table: Table { last, run: next },
+                    outcome: Arriving::Answers { answer },
+                    count,
+                }
+            }
         }
     }
 }

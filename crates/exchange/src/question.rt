@@ -15,7 +15,8 @@ use requests::hear;
 ghost use mathlib.Core.Path.{_≡_};
 ghost use Rattle.answers.specs.declared.answer.Problem.the-variants.{General};
 ghost use Rattle.answers.specs.declared.answer.Whose.the-variants.{Null};
-ghost use Rattle.exchange.specs.Question.{notAbove, duplicate, known, says, rejects, invoked, QuestionOf};
+ghost use Rattle.exchange.specs.Question.{notAbove, duplicate, known, says, rejects, invoked, question};
+ghost use Rattle.exchange.specs.inner.Question.{questionRead};
 
 // The operations as the numbers that an identifier's reader hands on.
 const ACTIVATIONVALUE: i16 = ACTIVATION as i16;
@@ -25,20 +26,20 @@ const DEACTIVATIONVALUE: i16 = DEACTIVATION as i16;
 const INTERROGATIONVALUE: i16 = INTERROGATION as i16;
 
 // A request that must be judged, with its identifier and its operation's code; or, where `asked` is false, the answer.
-pub struct Question {
-    pub asked: bool,
-    pub answer: Answer,
-    pub identifier: i16,
-    pub operation: u8,
-    pub request: Request,
+pub(crate) struct QuestionRead {
+    pub(crate) asked: bool,
+    pub(crate) answer: Answer,
+    pub(crate) identifier: i16,
+    pub(crate) operation: u8,
+    pub(crate) request: Request,
 }
 
 // An answer at once.
-fn says_at_once(answer: Answer) -> Question
-    ensures { λ r. ⌜ r ≡ says answer ⌝ }
+fn says_at_once(answer: Answer) -> QuestionRead
+    ensures { λ r. ⌜ r ≡ questionRead (says answer) ⌝ }
 {
     let request = blank_request();
-    Question {
+    QuestionRead {
         asked: false,
         answer,
         identifier: 0,
@@ -86,8 +87,8 @@ fn invoked_by(
     operation: Operation,
     at: usize,
     end: usize,
-) -> Question
-    ensures { λ r. ⌜ r ≡ invoked p last (now (s .entry)) identifier operation at end ⌝ }
+) -> QuestionRead
+    ensures { λ r. ⌜ r ≡ questionRead (invoked p last (now (s .entry)) identifier operation at end) ⌝ }
 {
     let whose = Whose::Own(identifier);
     if is_duplicate(p, last, identifier) {
@@ -104,7 +105,7 @@ fn invoked_by(
         return says_at_once(Answer::Reject { whose, problem });
     }
     let request = read.request;
-    Question {
+    QuestionRead {
         asked: true,
         answer: Answer::Silence,
         identifier,
@@ -114,8 +115,8 @@ fn invoked_by(
 }
 
 // A reject of a component without a readable identifier.
-fn rejects_null(problem: u8) -> Question
-    ensures { λ r. ⌜ r ≡ rejects Null (General problem) ⌝ }
+fn rejects_null(problem: u8) -> QuestionRead
+    ensures { λ r. ⌜ r ≡ questionRead (rejects Null (General problem)) ⌝ }
 {
     let problem = Problem::General(problem);
     says_at_once(Answer::Reject {
@@ -125,8 +126,8 @@ fn rejects_null(problem: u8) -> Question
 }
 
 // What the component `s` asks of an exchange that has handled `last`.
-pub fn question_of(p: Profile, last: u16, s: &[u8]) -> Question
-    ensures { λ r. ⌜ QuestionOf p last (now (s .entry)) r ⌝ }
+pub(crate) fn question_of(p: Profile, last: u16, s: &[u8]) -> QuestionRead
+    ensures { λ r. ⌜ r ≡ questionRead (question p last (now (s .entry))) ⌝ }
 {
     match hear(s) {
         Heard::NotOne => rejects_null(2),

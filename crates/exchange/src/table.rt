@@ -1,24 +1,23 @@
 // A table: the instances and the last handled identifier.
+use instances::Run;
+use instances::fresh_run;
 use profile::Profile;
-use store::Grid;
-use store::fresh_grid;
-use store::rows_good;
 ghost use Rattle.exchange.specs.Table.{FreshTable, TableGood};
 
-const LASTMOST: u16 = 32767;
+pub(crate) const LASTMOST: u16 = 32767;
 
 #[repr(C)]
 pub struct Table {
     pub last: u16,
-    pub grid: Grid,
+    pub run: Run,
 }
 
 // The table of a new access.
 pub fn fresh_table() -> Table
     ensures { λ r. ⌜ FreshTable r ⌝ }
 {
-    let grid = fresh_grid();
-    Table { last: 0, grid }
+    let run = fresh_run();
+    Table { last: 0, run }
 }
 
 impl Table {
@@ -29,10 +28,7 @@ impl Table {
         if LASTMOST < self.last {
             return false;
         }
-        let grid = self.grid;
-        let cfu = grid.rows[0];
-        let cfb = grid.rows[1];
-        let cfnr = grid.rows[2];
-        rows_good(p, cfu, cfb, cfnr)
+        let run = self.run;
+        run.good(p)
     }
 }

@@ -1,1 +1,11 @@
-pub mod Orders
+pub mod Parts
+pub mod Fields
+pub mod Readers
+pub mod Fits
+pub mod Instances
+pub mod Sheets
+pub mod Octets
+pub mod Trips
+pub mod Sizes
+pub mod Accepted
+pub mod Handlings

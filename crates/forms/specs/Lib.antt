@@ -1,2 +1,7 @@
 pub mod Form
-pub mod Order
+pub mod Size
+pub mod Instance
+pub mod Sheet
+pub mod Formed
+pub mod Handling
+pub mod inner

@@ -1,10 +1,13 @@
-// The form of a night sheet: what its fields may be, and in which order instances stand in it (document 01, "Night sheet").
+// What a night sheet is, by its form alone (document 01, "Night sheet").
+mod field;
 mod form;
-mod instance;
-mod order;
+mod read;
+mod record;
+mod sheet;
 
 pub use form::Form;
 pub use form::form_one;
-pub use instance::Instance;
-pub use order::comes_before;
-pub use order::may_follow;
+pub use record::Handling;
+pub use record::Written;
+pub use sheet::FormRead;
+pub use sheet::read_form;

@@ -6,7 +6,7 @@ use native.Mathlib.Nat.{add-zero, zero-add, add-suc, suc-add}
 use native.Mathlib.Numerals.{add-one}
 use native.Mathlib.Omega.{arith}
 use lib.ListN.{length, take, getD, set}
-use lib.Seq.{take-length, take-suc-set, ext-getD, slice, slice-empty, slice-cons}
+use lib.Seq.{take-length, take-suc-set, slice, slice-empty, slice-cons}
 use Rattle.laws.specs.Places.{eachFrom}
 
 module _ {A : Type 0} (f : ℕ → A) where
@@ -31,13 +31,6 @@ module _ {A : Type 0} (f : ℕ → A) where
   getD-each zero from i d h = absurd (omega arith)
   getD-each (suc n) from zero d h = rw add-zero
   getD-each (suc n) from (suc i) d h = rw (add-suc, ← suc-add) (getD-each n (suc from) i d (omega arith))
-
-  -- an array that has the thing of each place there
-  pub each-all :
-      (n : ℕ) (l : List A) (d : A) → length l ≡ n → ((i : ℕ) → i < n → getD l i d ≡ f i) → l ≡ eachFrom f n 0
-  each-all n l d long at =
-      ext-getD d l (eachFrom f n 0) (long ∙ sym (length-each n 0))
-      (λ i h. at i (omega arith) ∙ sym (rw zero-add at (getD-each n 0 i d (omega arith))))
 
   -- one thing more, at the end
   pub each-more : (n from : ℕ) → eachFrom f (suc n) from ≡ eachFrom f n from ++ (f (from + n) ∷ [])

@@ -10,3 +10,6 @@ pub mod Each
 pub mod Gots
 pub mod Chosen
 pub mod Lefts
+pub mod Filled
+pub mod Thoses
+pub mod Eaches

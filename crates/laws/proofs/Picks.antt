@@ -45,3 +45,8 @@ pick-last false = refl
 pub not-passed : (b : Bool) → not b ≡ true → b ≡ false
 not-passed true h = absurd (false≢true h)
 not-passed false h = refl
+
+-- by cases of a test
+pub by-bool : (P : Type 0) (b : Bool) → (b ≡ true → P) → (b ≡ false → P) → P
+by-bool P true f g = f refl
+by-bool P false f g = g refl

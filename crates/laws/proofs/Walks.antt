@@ -1,15 +1,14 @@
 -- Walks over the places of an array: what a loop has counted, tested, changed or gathered, and what has come of it at the end.
 -- Assumes nothing.
-use Prim.Native.Nat.{ℕ, zero, suc, _+_, _-_, _<_, _≤_}
+use Prim.Native.Nat.{ℕ, zero, suc, _+_, _<_, _≤_}
 use mathlib.Core.Path.{_≡_, refl, sym, ap, _∙_}
 use mathlib.Core.Bool.{Bool, true, false}
-use mathlib.Core.List.{List, [], _∷_, _++_, append-nil}
+use mathlib.Core.List.{List, [], _∷_, _++_}
 use mathlib.Core.Logic.{⊎-elim}
-use native.Mathlib.Nat.{add-zero, zero-add, add-suc, suc-add, sub-zero, not-suc-le-zero, le-of-suc-le-suc, eq-or-lt-of-le}
+use native.Mathlib.Nat.{add-zero, zero-add, add-suc, suc-add, not-suc-le-zero, le-of-suc-le-suc, eq-or-lt-of-le}
 use native.Mathlib.Numerals.{add-one}
 use native.Mathlib.Omega.{arith}
-use lib.ListN.{length, take, getD, set, replicate, length-append, length-take, length-set, List·getD-eq-default}
-use lib.Seq.{take-all, take-nil, take-append-le, getD-set-same, getD-set-other, ext-getD}
+use lib.ListN.{length, getD, set, replicate, length-append, List·getD-eq-default}
 use Rattle.laws.specs.Pick.{pick}
 use Rattle.laws.specs.Places.{everyTo, countTo, changedFrom, gathered}
 use Rattle.laws.proofs.Picks.{pick-ind, pick-then}
@@ -25,10 +24,7 @@ module _ (f : ℕ → Bool) where
   unfolding countTo
   count-more k = refl
 
-  -- a turn that counts, and one that does not
-  pub count-one : (k n : ℕ) → f k ≡ true → n ≡ countTo f k → n + 1 ≡ countTo f (k + 1)
-  count-one k n e h = rw (add-one k, count-more k, e, h)
-
+  -- a turn that does not count
   pub count-skip : (k n : ℕ) → f k ≡ false → n ≡ countTo f k → n ≡ countTo f (k + 1)
   count-skip k n e h = rw (add-one k, count-more k, e, h, add-zero)
 
@@ -113,44 +109,6 @@ module _ {A : Type 0} (f : ℕ → A → A) where
   pub changed-past : (d : A) (l : List A) (k : ℕ) → length l ≤ k → getD (changedFrom f 0 l) k d ≡ d
   changed-past d l k h = List·getD-eq-default (changedFrom f 0 l) d (omega (arith, length-changed 0 l))
 
-  -- a walk over l₀ that has changed the first i of its things, so that it is l
-  pub record Reached (d : A) (l₀ l : List A) (i : ℕ) : Type 0 where
-    pub long : length l ≡ length l₀
-    pub done : (k : ℕ) → k < i → getD l k d ≡ f k (getD l₀ k d)
-    pub rest : (k : ℕ) → i ≤ k → getD l k d ≡ getD l₀ k d
-
-  module _ (d : A) (l₀ : List A) where
-    pub reach-none : Reached d l₀ l₀ 0
-    reach-none = record { long = refl; done = λ k h. absurd (not-suc-le-zero h); rest = λ k h. refl }
-
-    module _ (l : List A) (i : ℕ) (so : Reached d l₀ l i) where
-      -- a turn that stores, and one that leaves the thing as it is
-      pub reach-set : (x : A) → i < length l₀ → x ≡ f i (getD l₀ i d) → Reached d l₀ (set l i x) (i + 1)
-      reach-set x h e = record {
-        long = length-set l i x ∙ so .long;
-        done = λ k hk. ⊎-elim
-            (λ (same : k ≡ i). rw same (getD-set-same l i x d (omega (arith, so .long)) ∙ e))
-            (λ (lt : k < i). getD-set-other l i k x d (λ q. omega arith) ∙ so .done k lt)
-            (eq-or-lt-of-le (omega arith));
-        rest = λ k hk. getD-set-other l i k x d (λ q. omega arith) ∙ so .rest k (omega arith);
-      }
-
-      pub reach-keep : f i (getD l₀ i d) ≡ getD l₀ i d → Reached d l₀ l (i + 1)
-      reach-keep e = record {
-        long = so .long;
-        done = λ k hk. ⊎-elim
-            (λ (same : k ≡ i). rw same (so .rest i (omega arith) ∙ sym e))
-            (λ (lt : k < i). so .done k lt)
-            (eq-or-lt-of-le (omega arith));
-        rest = λ k hk. so .rest k (omega arith);
-      }
-
-      -- it has come to the end
-      pub reach-all : length l₀ ≤ i → l ≡ changedFrom f 0 l₀
-      reach-all h =
-          ext-getD d l (changedFrom f 0 l₀) (so .long ∙ sym (length-changed 0 l₀)) (λ k lt.
-          so .done k (omega (arith, so .long)) ∙ sym (changed-at d l₀ k (omega (arith, so .long))))
-
 -- ---- gathered
 
 module _ {A : Type 0} where
@@ -188,40 +146,3 @@ pub store-next :
     set (es ++ replicate (suc left) a) (length es) e ≡ (es ++ (e ∷ [])) ++ replicate left a
 store-next [] e a left = refl
 store-next (f ∷ es) e a left = ap (λ (l : List _). f ∷ l) (store-next es e a left)
-
--- `count` things in an array of `size`: those of es for which there is room
-pub record Kept {A : Type 0} (size : ℕ) (blank : A) (es : List A) (count : ℕ) (array : List A) : Type 0 where
-  pub counted : count ≡ length (take size es)
-  pub stored : array ≡ take size es ++ replicate (size - count) blank
-
-module _ {A : Type 0} (size : ℕ) (blank : A) where
-  pub kept-none : Kept size blank [] 0 (replicate size blank)
-  kept-none = record { counted = rw take-nil; stored = rw (take-nil size, sub-zero) }
-
-  module _ (es : List A) (count : ℕ) (array : List A) (so : Kept size blank es count array) where
-    pub kept-few : count ≤ size
-    kept-few = omega (arith, so .counted, length-take size es)
-
-    -- nothing more
-    pub kept-same : Kept size blank (es ++ []) count array
-    kept-same = rw append-nil so
-
-    -- one more, for which there is room
-    pub kept-next : (e : A) → count < size → Kept size blank (es ++ (e ∷ [])) (count + 1) (set array count e)
-    kept-next e h =
-        let short : length es < size = omega (arith, so .counted, length-take size es) in
-        let now : take size es ≡ es = take-all size es (omega arith) in
-        let next : take size (es ++ (e ∷ [])) ≡ es ++ (e ∷ []) = take-all size (es ++ (e ∷ [])) (rw length-append (omega arith)) in
-        let long : count ≡ length es = so .counted ∙ ap length now in
-        let left : size - count ≡ suc (size - (count + 1)) = omega arith in
-        record {
-          counted = rw (next, length-append es (e ∷ []), long);
-          stored = rw (next, so .stored, now, left, long) (store-next es e blank (size - (length es + 1)));
-        }
-
-    -- one more, for which there is none
-    pub kept-full : (e : A) → size ≤ count → Kept size blank (es ++ (e ∷ [])) count array
-    kept-full e h =
-        let over : size ≤ length es = omega (arith, so .counted, length-take size es) in
-        let same : take size (es ++ (e ∷ [])) ≡ take size es = take-append-le size es (e ∷ []) over in
-        record { counted = rw same (so .counted); stored = rw same (so .stored) }

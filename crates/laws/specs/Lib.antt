@@ -5,3 +5,4 @@ pub mod Got
 pub mod Over
 pub mod Places
 pub mod Stands
+pub mod Those

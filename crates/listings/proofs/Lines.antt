@@ -10,9 +10,10 @@ use Rattle.laws.proofs.Over.{then, wrote, room-then}
 use Rattle.laws.proofs.Picks.{pick-ind}
 use Rattle.numbers.specs.Number.{unknown, digitsOf}
 use Rattle.numbers.specs.declared.address.Address.{Address}
+use Rattle.instances.specs.declared.instance.Instance.{Instance}
 use Rattle.forms.specs.Form.{form1}
-use Rattle.forms.specs.declared.instance.Instance.{Instance}
-use Rattle.sheet.proofs.Bounds.{Bounded}
+use Rattle.forms.proofs.Readers.{service-few}
+use Rattle.forms.proofs.Fits.{FieldsFit, Small, held-small}
 use Rattle.listings.specs.Listing.{decimal, procedureName, kindText, hexText, subText, marked, lineOf, headerLine, headerMost, instanceLine, lineMost}
 use Rattle.listings.proofs.Words.{decimal-one, decimal-most, hex-length}
 
@@ -116,11 +117,14 @@ module _ (i : Instance) where
                   (line-wrote vs m digits sub [] after-kind w5 (rw (line-last sub) w6))))))
 
   -- a line has at most 71 octets beside its procedure's name
-  module _ (b : Bounded form1 i) where
+  module _ (b : FieldsFit form1 i) where
+    small : Small a
+    small = held-small a (b .address)
+
     kind-most : length kind ≤ 2
     unfolding kindText
     kind-most =
-        let type = decimal-most 0 (a .number .kind) (omega (arith, b .address .kind)) in
+        let type = decimal-most 0 (a .number .kind) (omega (arith, small .kind)) in
         pick-ind (λ ws. length ws ≤ 2) (eqb (a .number .form) unknown) {x = 117 ∷ []} {y = 112 ∷ decimal (a .number .kind)}
         (λ _. omega arith)
         (λ _. omega (arith, type))
@@ -131,7 +135,7 @@ module _ (i : Instance) where
         let octets : List ℕ = take (a .subcount) (a .sub) in
         pick-ind (λ ws. length ws ≤ 40) (eqb (a .subcount) 0) {x = 45 ∷ []} {y = hexText octets}
         (λ _. omega arith)
-        (λ _. omega (arith, hex-length octets, length-take (a .subcount) (a .sub), b .address .sub))
+        (λ _. omega (arith, hex-length octets, length-take (a .subcount) (a .sub), small .sub))
 
     pub line-most : length (instanceLine i) ≤ lineMost (i .procedure)
     line-most =
@@ -156,10 +160,10 @@ module _ (i : Instance) where
           ap length (line-last sub),
           length-append sub (10 ∷ []),
           decimal-most 0 (i .number) (omega (arith, b .number)),
-          decimal-most 1 (i .service) (omega (arith, b .service)),
+          decimal-most 1 (i .service) (omega (arith, service-few (i .service) (b .service))),
           kind-most,
           length-take (a .number .count) (a .number .digits),
-          b .address .digits,
+          small .digits,
           sub-most,
         )
 

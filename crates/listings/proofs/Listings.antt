@@ -1,21 +1,18 @@
--- Laws of the lines of a sheet's instances, over plain values: what their writer leaves, instance by instance. Assumes nothing.
-use Prim.Native.Nat.{ℕ, suc, _+_, _-_, _≤_, _<_}
+-- Laws of the lines of instances, over plain values: what their writer leaves, instance by instance. Assumes nothing.
+use Prim.Native.Nat.{ℕ, min, _+_, _≤_, _<_}
 use mathlib.Core.Path.{_≡_, refl, sym, ap, _∙_}
 use mathlib.Core.List.{List, [], _∷_, _++_, append-assoc, append-nil}
-use native.Mathlib.Nat.{sub-zero}
 use native.Mathlib.Omega.{arith}
-use lib.ListN.{length, length-append}
+use lib.ListN.{length, drop, getD, length-append}
 use Rattle.laws.specs.Over.{Wrote}
 use Rattle.laws.proofs.Over.{wrote-length, then, wrote-none}
-use Rattle.forms.specs.Form.{form1}
-use Rattle.forms.specs.declared.instance.Instance.{Instance}
-use Rattle.sheet.specs.Sheet.{instancesFrom, noInstance}
-use Rattle.sheet.specs.Formed.{Holds, InstanceFound}
-use Rattle.sheet.specs.declared.read.InstanceRead.{InstanceRead}
-use Rattle.sheet.proofs.Bounds.{Bounded}
-use Rattle.sheet.proofs.Walks.{Left, left-first, left-none, left-bounded, left-others, left-is, left-next}
+use Rattle.instances.specs.Places.{room}
+use Rattle.instances.specs.Run.{instancesOf}
+use Rattle.instances.specs.declared.instance.Instance.{Instance}
+use Rattle.instances.specs.declared.run.Run.{Run}
+use Rattle.instances.proofs.Runs.{outside, next-is, none-left}
 use Rattle.listings.specs.Listing.{instanceLine, instanceLines}
-use Rattle.listings.specs.inner.Write.{Counted, linesFound}
+use Rattle.listings.specs.inner.Write.{Counted, AllCounted}
 
 -- ---- lines, one after the other
 
@@ -35,82 +32,75 @@ lines-append (i ∷ is) ks =
 lines-one : (k : Instance) → instanceLines (k ∷ []) ≡ instanceLine k
 lines-one k = rw (lines-more k [], lines-none, append-nil (instanceLine k))
 
--- A writer of the lines of `count` instances that are there has come to `here` in the sheet and to p in the output, with i of them
--- listed: those that are `done`, and then the `rest`.
-pub record Going (s : List ℕ) (from count : ℕ) (xs : List ℕ) (at i here p : ℕ) (ys : List ℕ) : Type 0 where
-  pub few : i ≤ count
+-- A writer of the lines of these instances has come to the i-th and to p in the output: those before it are `done`.
+pub record Going (is : List Instance) (xs : List ℕ) (at i p : ℕ) (ys : List ℕ) : Type 0 where
   pub done : List Instance
-  pub rest : List Instance
-  pub left : Left form1 s here (count - i) rest
-  pub all : linesFound (instancesFrom form1 count noInstance 0 s from) ≡ instanceLines (done ++ rest)
+  pub all : is ≡ done ++ drop i is
+  pub counted : AllCounted (drop i is)
   pub wrote : Wrote xs at (instanceLines done) p ys
 
-module _ (s : List ℕ) (from count : ℕ) (xs : List ℕ) (at : ℕ) where
-  pub going-first : Holds (instancesFrom form1 count noInstance 0 s from) → Going s from count xs at 0 from at xs
-  going-first there = record {
-    few = omega arith;
-    done = [];
-    rest = there .thing;
-    left = rw sub-zero (left-first form1 s from count (there .thing) (there .next) (there .is));
-    all = rw (there .is);
-    wrote = rw lines-none wrote-none;
-  }
+module _ (is : List Instance) (xs : List ℕ) (at : ℕ) where
+  pub going-first : AllCounted is → Going is xs at 0 at xs
+  going-first counted = record { done = []; all = refl; counted = counted; wrote = rw lines-none wrote-none }
 
-  module _ {i here p : ℕ} {ys : List ℕ} (so : Going s from count xs at i here p ys) where
+  module _ {i p : ℕ} {ys : List ℕ} (so : Going is xs at i p ys) where
     -- it has listed them all
-    pub going-all :
-        count ≤ i → Wrote xs at (linesFound (instancesFrom form1 count noInstance 0 s from)) p ys
-    going-all h =
-        let none : count - i ≡ 0 = omega arith in
-        let end : [] ≡ so .rest = left-none form1 s here (so .rest) (rw none at (so .left)) in
-        rw (so .all, ← end, append-nil (so .done)) (so .wrote)
+    going-all : drop i is ≡ [] → Wrote xs at (instanceLines is) p ys
+    going-all none =
+        let end : is ≡ so .done = so .all ∙ ap (λ (l : List Instance). so .done ++ l) none ∙ append-nil (so .done) in
+        rw end (so .wrote)
 
-    module _ (more : i < count) where
-      one-left : Left form1 s here (suc (count - (i + 1))) (so .rest)
-      one-left = let one : count - i ≡ suc (count - (i + 1)) = omega arith in rw one at (so .left)
+    -- the next one
+    module _ (k : Instance) (more : drop i is ≡ k ∷ drop (i + 1) is) where
+      going-counted : Counted (k .address)
+      going-counted = let each = rw more at (so .counted) in each .0
 
-      -- the next one is there, as the reader names it
-      module _ (r : InstanceRead) (told : InstanceFound form1 s here r) where
-        abbrev k : Instance
-        k = r .instance
+      -- there is room for its line where there is for them all
+      going-room : at + length (instanceLines is) ≤ length xs → p + length (instanceLine k) ≤ length ys
+      going-room fits =
+          let lines : instanceLines is ≡ instanceLines (so .done) ++ instanceLines (drop i is) =
+          ap instanceLines (so .all) ∙ lines-append (so .done) (drop i is) in
+          omega (
+            arith,
+            fits,
+            so .wrote .moved,
+            wrote-length (so .wrote),
+            ap length lines,
+            length-append (instanceLines (so .done)) (instanceLines (drop i is)),
+            ap length (ap instanceLines more ∙ lines-more k (drop (i + 1) is)),
+            length-append (instanceLine k) (instanceLines (drop (i + 1) is)),
+          )
 
-        bounded : Bounded form1 k
-        bounded = left-bounded form1 s here (count - (i + 1)) (so .rest) one-left r told
+      -- it is written after the others
+      pub going-next : {q : ℕ} {zs : List ℕ} → Wrote ys p (instanceLine k) q zs → Going is xs at (i + 1) q zs
+      going-next line = record {
+        done = so .done ++ (k ∷ []);
+        all = so .all ∙ ap (λ (l : List Instance). so .done ++ l) more ∙ sym (append-assoc (so .done) (k ∷ []) (drop (i + 1) is));
+        counted = let each = rw more at (so .counted) in each .1;
+        wrote = rw (lines-append (so .done) (k ∷ []), lines-one k) (then (so .wrote) line);
+      }
 
-        pub going-counted : Counted (k .address)
-        going-counted = record { digits = bounded .address .digits; sub = bounded .address .sub }
+-- ---- the instances of a run
 
-        others : List Instance
-        others = left-others form1 s here (count - (i + 1)) (so .rest) one-left r told
+module _ (run : Run) (long : length (run .run) ≡ room) (xs : List ℕ) (at : ℕ) where
+  abbrev is : List Instance
+  is = instancesOf run
 
-        is-rest : k ∷ others ≡ so .rest
-        unfolding others
-        is-rest = left-is form1 s here (count - (i + 1)) (so .rest) one-left r told
+  module _ (i : ℕ) {p : ℕ} {ys : List ℕ} (so : Going is xs at i p ys) where
+    -- no more are counted, or it is at the end of the array
+    pub run-all : min (run .count) room ≤ i → Wrote xs at (instanceLines is) p ys
+    run-all h = going-all is xs at so (none-left run (min (run .count) room) i refl long h)
 
-        -- there is room for its line where there is for them all
-        pub going-room :
-            at + length (linesFound (instancesFrom form1 count noInstance 0 s from)) ≤ length xs →
-            p + length (instanceLine k) ≤ length ys
-        going-room fits =
-            omega (
-              arith,
-              fits,
-              so .wrote .moved,
-              wrote-length (so .wrote),
-              ap length (so .all ∙ lines-append (so .done) (so .rest)),
-              length-append (instanceLines (so .done)) (instanceLines (so .rest)),
-              ap length (sym (ap instanceLines is-rest) ∙ lines-more k others),
-              length-append (instanceLine k) (instanceLines others),
-            )
+    module _ (few : i < run .count) (less : i < room) where
+      abbrev k : Instance
+      k = getD (run .run) i outside
 
-        -- it is written after the others
-        pub going-next : {q : ℕ} {zs : List ℕ} → Wrote ys p (instanceLine k) q zs → Going s from count xs at (i + 1) (r .next) q zs
-        unfolding others
-        going-next line = record {
-          few = omega arith;
-          done = so .done ++ (k ∷ []);
-          rest = others;
-          left = left-next form1 s here (count - (i + 1)) (so .rest) one-left r told;
-          all = so .all ∙ ap instanceLines (ap (λ (is : List Instance). so .done ++ is) (sym is-rest) ∙ sym (append-assoc (so .done) (k ∷ []) others));
-          wrote = rw (lines-append (so .done) (k ∷ []), lines-one k) (then (so .wrote) line);
-        }
+      more : drop i is ≡ k ∷ drop (i + 1) is
+      more = next-is run (min (run .count) room) i refl long (omega arith)
+
+      pub run-room :
+          at + length (instanceLines is) ≤ length xs → Counted (k .address) × (p + length (instanceLine k) ≤ length ys)
+      run-room fits = (going-counted is xs at so k more, going-room is xs at so k more fits)
+
+      pub run-next : {q : ℕ} {zs : List ℕ} → Wrote ys p (instanceLine k) q zs → Going is xs at (i + 1) q zs
+      run-next line = going-next is xs at so k more line

@@ -16,10 +16,10 @@ use Rattle.numbers.specs.Number.{unknown, digitsOf}
 use Rattle.numbers.specs.declared.address.Address.{Address}
 use Rattle.forms.specs.Form.{form1}
 use Rattle.forms.specs.declared.form.Form.{Form}
-use Rattle.forms.specs.declared.instance.Instance.{Instance}
-use Rattle.sheet.specs.Sheet.{Sheet, sheetIn}
-use Rattle.sheet.specs.Handling.{handlingTold, Made, notMade, made}
-use Rattle.sheet.specs.declared.record.Written.{Written}
+use Rattle.instances.specs.declared.instance.Instance.{Instance}
+use Rattle.forms.specs.Sheet.{Sheet, sheetIn}
+use Rattle.forms.specs.Handling.{handlingTold, Made, notMade, made}
+use Rattle.forms.specs.declared.record.Written.{Written}
 
 -- ---- words
 

@@ -4,18 +4,17 @@ use crate::word::write_kind;
 use crate::word::write_name;
 use crate::word::write_number;
 use crate::word::write_sub;
-use forms::Instance;
-use forms::form_one;
+use instances::Instance;
+use instances::ROOM;
+use instances::Run;
 use octets::put_all;
-use sheet::instance_at;
 ghost use Prim.Native.Nat.{_+_, _≤_};
 ghost use lib.ListN.{length};
 ghost use Rattle.laws.specs.Over.{Wrote};
+ghost use Rattle.instances.specs.Run.{instancesOf};
 ghost use Rattle.forms.specs.Form.{form1};
-ghost use Rattle.sheet.specs.Sheet.{instancesFrom, noInstance};
-ghost use Rattle.sheet.specs.Formed.{Holds};
-ghost use Rattle.listings.specs.Listing.{headerLine, instanceLine};
-ghost use Rattle.listings.specs.inner.Write.{Counted, linesFound};
+ghost use Rattle.listings.specs.Listing.{headerLine, instanceLine, instanceLines};
+ghost use Rattle.listings.specs.inner.Write.{Counted, AllCounted};
 
 // The header at the start of the output.
 pub(crate) fn write_header(out: &mut [u8], last: u16, count: u32) -> usize
@@ -44,20 +43,20 @@ fn write_line(out: &mut [u8], at: usize, i: Instance) -> usize
     write_sub(out, t, sub, address.subcount as usize)
 }
 
-// The lines of `count` instances from `from` on, which `sheet_form` has found there.
-pub(crate) fn write_lines(out: &mut [u8], at: usize, s: &[u8], from: usize, count: u32) -> usize
-    requires { ⌜ Holds (instancesFrom form1 count noInstance 0 (now s) from) × (at + length (linesFound (instancesFrom form1 count noInstance 0 (now s) from)) ≤ length (now out)) ⌝ }
-    ensures { λ r. ⌜ Wrote (now (out .entry)) at (linesFound (instancesFrom form1 count noInstance 0 (now (s .entry)) from)) r (now (out .exit)) ⌝ }
+// The lines of the instances of a run.
+pub(crate) fn write_lines(out: &mut [u8], at: usize, run: Run) -> usize
+    requires { ⌜ AllCounted (instancesOf run) × (at + length (instanceLines (instancesOf run)) ≤ length (now out)) ⌝ }
+    ensures { λ r. ⌜ Wrote (now (out .entry)) at (instanceLines (instancesOf run)) r (now (out .exit)) ⌝ }
 {
-    let f = form_one();
+    let n = run.count as usize;
     let mut p = at;
-    let mut here = from;
-    let mut i: u32 = 0;
-    while i < count {
-        let read = instance_at(f, s, here);
-        let instance = read.instance;
-        p = write_line(out, p, instance);
-        here = read.next;
+    let mut i: usize = 0;
+    while i < ROOM {
+        if n <= i {
+            return p;
+        }
+        let x = run.run[i];
+        p = write_line(out, p, x);
         i += 1;
     }
     p

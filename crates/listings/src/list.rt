@@ -1,36 +1,33 @@
 // A night sheet is listed, or refused (document 01, "Samples", "Local refusals").
 use crate::line::write_header;
 use crate::line::write_lines;
-use forms::form_one;
+use forms::Handling;
+use forms::Written;
+use forms::read_form;
+use instances::Run;
 use octets::put_all;
 use refusals::Refusal;
-use sheet::Handling;
-use sheet::Written;
-use sheet::opening_of;
-use sheet::sheet_form;
 ghost use mathlib.Core.Path.{_≡_};
-ghost use mathlib.Core.Bool.{true};
 ghost use Prim.Native.Nat.{_≤_};
 ghost use lib.ListN.{length};
 ghost use Rattle.laws.specs.Over.{Wrote};
+ghost use Rattle.instances.specs.Places.{room};
+ghost use Rattle.instances.specs.Run.{instancesOf};
 ghost use Rattle.forms.specs.Form.{form1};
-ghost use Rattle.sheet.specs.Sheet.{sheetIn};
-ghost use Rattle.sheet.specs.Formed.{formedBy};
-ghost use Rattle.sheet.specs.inner.Refused.{notWritten};
-ghost use Rattle.listings.specs.Listing.{listingMost, listingIn, ListsSheet, PrintsSheet};
+ghost use Rattle.forms.specs.inner.Refused.{notWritten};
+ghost use Rattle.listings.specs.Listing.{listing, ListsSheet, PrintsSheet};
+ghost use Rattle.listings.specs.inner.Write.{AllCounted, sheetOf};
 
 // The most octets of a listing: 27 of its header, and at most 8 lines of each procedure, which have 74 for cfu, 74 for cfb and 75 for cfnr.
 const LISTINGMOST: usize = 27 + 8 * (74 + 74 + 75);
 
-// The listing of a sheet that `sheet_form` has found, in two passes: nothing is written of what is no sheet.
-fn write_listing(out: &mut [u8], s: &[u8]) -> usize
-    requires { ⌜ (listingMost form1 ≤ length (now out)) × (formedBy (sheetIn form1 (now s)) .ok ≡ true) ⌝ }
-    ensures { λ r. ⌜ Wrote (now (out .entry)) 0 (listingIn (sheetIn form1 (now (s .entry)))) r (now (out .exit)) ⌝ }
+// The listing of a sheet that holds this identifier and these instances, where there is room for it.
+fn write_listing(out: &mut [u8], last: u16, run: Run) -> usize
+    requires { ⌜ (run .count ≤ room) × (length (listing form1 (sheetOf last run)) ≤ length (now out)) × AllCounted (instancesOf run) ⌝ }
+    ensures { λ r. ⌜ Wrote (now (out .entry)) 0 (listing form1 (sheetOf last run)) r (now (out .exit)) ⌝ }
 {
-    let f = form_one();
-    let opening = opening_of(f, s);
-    let p = write_header(out, opening.last, opening.count);
-    write_lines(out, p, s, opening.next, opening.count)
+    let p = write_header(out, last, run.count as u32);
+    write_lines(out, p, run)
 }
 
 fn refuses(refusal: Refusal) -> Written
@@ -49,12 +46,12 @@ pub fn list_sheet(s: &[u8], out: &mut [u8]) -> Written
     if out.len() < LISTINGMOST {
         return refuses(Refusal::ShortOutput);
     }
-    let f = form_one();
-    let form = sheet_form(f, s);
+    let form = read_form(s);
     if !form.ok {
         return refuses(Refusal::BadSheet);
     }
-    let count = write_listing(out, s);
+    let run = form.run;
+    let count = write_listing(out, form.last, run);
     Written {
         outcome: Handling::Done,
         count,
@@ -68,10 +65,10 @@ pub fn print_sheet(s: &[u8], out: &mut [u8]) -> usize
     if out.len() < LISTINGMOST {
         return 0;
     }
-    let f = form_one();
-    let form = sheet_form(f, s);
+    let form = read_form(s);
     if !form.ok {
         return put_all(out, 0, b"refused 9\n");
     }
-    write_listing(out, s)
+    let run = form.run;
+    write_listing(out, form.last, run)
 }

@@ -19,8 +19,8 @@ abbrev pub instancesMost : ℕ
 instancesMost = 8
 
 -- the entries that a record counts
-abbrev pub listed : Entries → List Entry
-listed list = take (list .count) (list .entries)
+abbrev pub entriesIn : Entries → List Entry
+entriesIn list = take (list .count) (list .entries)
 
 -- the record of at most 8 entries
 abbrev pub entriesOf : List Entry → Entries

@@ -6,7 +6,7 @@ use Rattle.laws.specs.Over.{Puts}
 use Rattle.octets.specs.Element.{element}
 use Rattle.values.specs.Ident.{identOctets}
 use Rattle.requests.specs.Request.{interrogation}
-use Rattle.lists.specs.Entries.{listed, entriesOctets}
+use Rattle.lists.specs.Entries.{entriesIn, entriesOctets}
 use Rattle.lists.specs.declared.entry.Entry.{Entry}
 use Rattle.lists.specs.declared.entries.Entries.{Entries}
 
@@ -20,4 +20,4 @@ listOctets identifier es = element 0xA2 (identOctets identifier ++ element 0x30 
 
 -- what `put_list` promises
 abbrev pub PutList : List ℕ → ℤ → Entries → ℕ → List ℕ → Type 0
-PutList xs identifier list count ys = Puts xs 0 (listOctets identifier (listed list)) count ys
+PutList xs identifier list count ys = Puts xs 0 (listOctets identifier (entriesIn list)) count ys

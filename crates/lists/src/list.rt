@@ -18,7 +18,7 @@ ghost use lib.ListN.{length};
 ghost use Rattle.laws.specs.Over.{Wrote};
 ghost use Rattle.lists.specs.Entry.{entryOctets};
 ghost use Rattle.lists.specs.inner.Entry.{entrySize};
-ghost use Rattle.lists.specs.Entries.{instancesMost, listed, entriesOctets};
+ghost use Rattle.lists.specs.Entries.{instancesMost, entriesIn, entriesOctets};
 ghost use Rattle.lists.specs.Listed.{PutList};
 
 // The most octets of an entry, and of the entries of a list.
@@ -45,7 +45,7 @@ fn write_entry(out: &mut [u8], at: usize, e: Entry) -> usize
 
 fn write_entries(out: &mut [u8], list: Entries) -> usize
     requires { ⌜ entrySize * instancesMost ≤ length (now out) ⌝ }
-    ensures { λ r. ⌜ Wrote (now (out .entry)) 0 (entriesOctets (listed list)) r (now (out .exit)) × (r ≤ entrySize * instancesMost) ⌝ }
+    ensures { λ r. ⌜ Wrote (now (out .entry)) 0 (entriesOctets (entriesIn list)) r (now (out .exit)) × (r ≤ entrySize * instancesMost) ⌝ }
 {
     let count = list.count as usize;
     let entries = list.entries;

@@ -10,12 +10,11 @@ pub mod OnlyForms
 pub mod OnlyGroups
 pub mod OnlyListings
 pub mod OnlyLists
-pub mod OnlyNightly
+pub mod OnlySheets
 pub mod OnlyNumbers
 pub mod OnlyOctets
 pub mod OnlyRules
-pub mod OnlySheet
 pub mod OnlySkip
-pub mod OnlyStore
+pub mod OnlyInstances
 pub mod OnlyTesttext
 pub mod OnlyValues

@@ -11,15 +11,12 @@ use Rattle.exchange.specs.declared.table.Table.{Table}
 use Rattle.exchange.specs.declared.arrive.Arriving.{Arriving}
 use Rattle.exchange.specs.declared.arrive.Arrived.{Arrived}
 use Rattle.exchange.proofs.Arrivings.{arriving-same}
-use Rattle.exchange.proofs.QuestionNumbers.{question-is}
-use Rattle.exchange.specs.Question.{QuestionOf}
-use Rattle.exchange.specs.declared.question.Question.{Question}
 
 pub only-fresh-table : {a b : Table} → FreshTable a → FreshTable b → a ≡ b
 only-fresh-table = both
 
-pub only-good : (p : Profile) (t : Table) {a b : Bool} → TableGood p t a → TableGood p t b → a ≡ b
-only-good p t = both
+pub only-exchange-good : (p : Profile) (t : Table) {a b : Bool} → TableGood p t a → TableGood p t b → a ≡ b
+only-exchange-good p t = both
 
 abbrev arrivedOf : Table → Arriving → ℕ → Arrived
 arrivedOf table outcome count = record { table = table; outcome = outcome; count = count }
@@ -42,7 +39,3 @@ only-arrive access t s xs {r} {q} a b = (
       (both (a .count) (b .count)),
   both (a .lent) (b .lent),
 )
-
-pub only-question-of :
-    (p : Profile) (last : ℕ) (s : List ℕ) {a b : Question} → QuestionOf p last s a → QuestionOf p last s b → a ≡ b
-only-question-of p last s a b = both (question-is a) (question-is b)

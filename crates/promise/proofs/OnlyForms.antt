@@ -1,19 +1,15 @@
 -- Each promise of the crate forms admits one answer. Assumes nothing.
 use Prim.Native.Nat.{ℕ}
+use mathlib.Core.List.{List}
 use mathlib.Core.Path.{_≡_}
-use mathlib.Core.Bool.{Bool}
 use Rattle.laws.proofs.Picks.{both}
 use Rattle.forms.specs.Form.{FormOne}
-use Rattle.forms.specs.Order.{ComesBefore, MayFollow}
+use Rattle.forms.specs.Formed.{ReadForm}
 use Rattle.forms.specs.declared.form.Form.{Form}
-use Rattle.forms.specs.declared.instance.Instance.{Instance}
+use Rattle.forms.specs.declared.sheet.FormRead.{FormRead}
 
 pub only-form-one : {a b : Form} → FormOne a → FormOne b → a ≡ b
 only-form-one = both
 
-pub only-comes-before : (i k : Instance) {a b : Bool} → ComesBefore i k a → ComesBefore i k b → a ≡ b
-only-comes-before i k = both
-
-pub only-may-follow :
-    (f : Form) (i : Instance) (run : ℕ) (k : Instance) {a b : Bool} → MayFollow f i run k a → MayFollow f i run k b → a ≡ b
-only-may-follow f i run k = both
+pub only-read-form : (s : List ℕ) {a b : FormRead} → ReadForm s a → ReadForm s b → a ≡ b
+only-read-form s = both

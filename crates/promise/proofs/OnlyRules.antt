@@ -4,25 +4,24 @@ use mathlib.Core.Path.{_≡_}
 use Rattle.laws.proofs.Picks.{both}
 use Rattle.profile.specs.declared.profile.Profile.{Profile}
 use Rattle.requests.specs.declared.request.Request.{Request}
-use Rattle.store.specs.declared.row.Places.{Places}
-use Rattle.store.specs.declared.row.Row.{Row}
-use Rattle.rules.specs.Selection.{PlacesOf}
+use Rattle.instances.specs.declared.instance.Selection.{Selection}
+use Rattle.instances.specs.declared.run.Run.{Run}
+use Rattle.rules.specs.Selection.{SelectionOf}
 use Rattle.rules.specs.Judge.{JudgeRequest, ApplyRequest}
 use Rattle.rules.specs.declared.verdict.Verdict.{Verdict}
 use Rattle.rules.proofs.Judges.{verdict-same}
 
-pub only-places-of : (p : Profile) (r : Request) {a b : Places} → PlacesOf p r a → PlacesOf p r b → a ≡ b
-only-places-of p r = both
+pub only-selection-of : (p : Profile) (r : Request) {a b : Selection} → SelectionOf p r a → SelectionOf p r b → a ≡ b
+only-selection-of p r = both
 
 pub only-judge-request :
-    (p : Profile) (operation : ℕ) (r : Request) (w : Places) (row : Row) {a b : Verdict} →
-    JudgeRequest p operation r w row a →
-    JudgeRequest p operation r w row b →
+    (p : Profile) (operation : ℕ) (r : Request) (run : Run) {a b : Verdict} → JudgeRequest p operation r run a →
+    JudgeRequest p operation r run b →
     a ≡ b
-only-judge-request p operation r w row {a = a} {b = b} h k = verdict-same a b (both h k)
+only-judge-request p operation r run {a = a} {b = b} h k = verdict-same a b (both h k)
 
 pub only-apply-request :
-    (operation : ℕ) (r : Request) (w : Places) (row : Row) {a b : Row} → ApplyRequest operation r w row a →
-    ApplyRequest operation r w row b →
+    (p : Profile) (operation : ℕ) (r : Request) (run : Run) {a b : Run} → ApplyRequest p operation r run a →
+    ApplyRequest p operation r run b →
     a ≡ b
-only-apply-request operation r w row = both
+only-apply-request p operation r run = both

@@ -23,8 +23,8 @@ only-octet-of high low = both
 pub only-hex-character : (n : ℕ) {a b : ℕ} → HexCharacter n a → HexCharacter n b → a ≡ b
 only-hex-character n = both
 
-pub only-find : (s : List ℕ) (at wanted : ℕ) {a b : ℕ} → Find s at wanted a → Find s at wanted b → a ≡ b
-only-find s at wanted p q = both (p .is) (q .is)
+pub only-testtext-find : (s : List ℕ) (at wanted : ℕ) {a b : ℕ} → Find s at wanted a → Find s at wanted b → a ≡ b
+only-testtext-find s at wanted p q = both (p .is) (q .is)
 
 pub only-last-number : (s : List ℕ) {a b : ℕ} → LastNumber s a → LastNumber s b → a ≡ b
 only-last-number s = both

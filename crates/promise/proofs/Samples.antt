@@ -20,28 +20,28 @@ use Rattle.answers.specs.Reply.{failedAt, setAt, sequenceAt, listAt, resultAt, 
 use Rattle.requests.specs.Heard.{replyTag, operationAt, identifierAt, heard}
 use Rattle.requests.specs.Request.{codeAt, serviceAt, servedAt, privates, lastIn, activationIn, interrogationIn, contentsIn, argumentAt}
 use Rattle.requests.specs.Sent.{servedOctets, toOctets, requestOctets}
-use Rattle.laws.specs.Places.{everyTo, countTo, eachFrom, changedFrom, gathered}
+use Rattle.laws.specs.Places.{everyTo, eachFrom, gathered}
 use Rattle.profile.specs.Access.{numberFrom, prefixFrom, prefixesFrom, profileFrom, accessRead}
 use Rattle.profile.specs.Profile.{sameDigits, sameNumber, same, placeIn, numbersGood, rising, servicesGood, prefixGood, prefixesGood, subscriptionsGood, usesGood, diversionGood, profileGood}
-use Rattle.store.specs.Row.{active, selected, countWith, activeOf, putIn, clearIn, entryOfPlace, entriesIn, cellGood, rowGood}
-use Rattle.store.specs.Grid.{gridGood}
+use Rattle.laws.specs.Those.{those}
+use Rattle.instances.specs.Instance.{key, named, selected, concerns, chosen, isAt, among, instanceFits}
+use Rattle.instances.specs.Places.{placesFrom, placesOf}
+use Rattle.instances.specs.Run.{servedNumber, forwardedTo, merged, ascending, eachGood, fewOfEach, runGood}
 use Rattle.rules.specs.Prefix.{begins, beginsAny}
-use Rattle.rules.specs.Judge.{isSubscribed, servedInvalid, notProvided, otherKind, selectedSame, fits, noRoom, judge, applied}
-use Rattle.rules.specs.Selection.{numberChosen, serviceChosen, selects, placesOf}
+use Rattle.rules.specs.Judge.{isSubscribed, hasAllNumbers, servedInvalid, notProvided, otherKind, selectedSame, fits, afterwards, judge, changed, applied}
+use Rattle.rules.specs.Selection.{numberAsked, selectionOf}
 use Rattle.exchange.specs.Table.{tableGood}
 use Rattle.exchange.specs.Question.{notAbove, duplicate, known, invoked, question}
-use Rattle.exchange.specs.Step.{moved, resultOf, handled, stepOf, step}
+use Rattle.exchange.specs.Step.{lastAfter, resultOf, handled, step}
 use Rattle.exchange.specs.Arrive.{done}
-use Rattle.calls.specs.Onward.{reasonOf, optionAfter, preferenceAfter, originalShown}
+use Rattle.calls.specs.Onward.{reasonOf, optionsOf, optionAfter, preferenceAfter, originalShown}
 use Rattle.calls.specs.Call.{callFrom, namesGood, valuesGood, originalGood, callGood}
 use Rattle.calls.specs.Divert.{applying, servedOf, noticed, onward, noOnward, comes}
-use Rattle.forms.specs.Order.{before, follows}
-use Rattle.sheet.specs.Instance.{allGroups, instanceOctets, fieldAt, fieldsAt, addressFrom, instanceFrom}
-use Rattle.sheet.specs.Sheet.{instancesOctets, sheetOctets, runOf, instancesFrom, sheetIn}
+use Rattle.forms.specs.Instance.{allGroups, instanceOctets, fieldAt, fieldsAt, addressFrom, instanceFrom}
+use Rattle.forms.specs.Sheet.{instancesOctets, sheetOctets, instancesFrom, inOrder, sheetIn}
 use Rattle.listings.specs.Listing.{decimalIn, decimal, procedureName, kindText, hexOf, hexText, subText}
 use Rattle.listings.specs.Listing.{lineOf, headerLine, instanceLine, instanceLines, listing, listedSheet, refusedLine, printedSheet}
-use Rattle.nightly.specs.Instances.{instancesOf}
-use Rattle.nightly.specs.Record.{wroteSheet}
+use Rattle.sheets.specs.Sheets.{wroteSheet}
 use Rattle.promise.specs.Samples.{Each, samples}
 
 pub each-sample : Each samples
@@ -49,16 +49,16 @@ unfolding fewestFrom wordAt wordOctets spanOf lengthAt headAt lengthHolds length
     identIn identAt identFewest fills groupsIn groupsAt groupsWith groups placeOf serviceCode procedureCode allDigits fair typeGood
     digitsGood digitsIn numberAt numberOctets subAt addressAt subOctets addressOctets replyTag operationAt identifierAt heard codeAt
     serviceAt servedAt privates lastIn activationIn interrogationIn contentsIn argumentAt servedOctets toOctets requestOctets
-    answerOctets entriesOctets entriesFrom listOctets sameIdent failedAt setAt sequenceAt listAt resultAt ownAt reply everyTo countTo
-    eachFrom changedFrom gathered numberGood addressGood numberFrom prefixFrom prefixesFrom profileFrom accessRead sameDigits
+    answerOctets entriesOctets entriesFrom listOctets sameIdent failedAt setAt sequenceAt listAt resultAt ownAt reply everyTo
+    eachFrom gathered numberGood addressGood numberFrom prefixFrom prefixesFrom profileFrom accessRead sameDigits
     sameNumber same placeIn numbersGood rising servicesGood prefixGood prefixesGood subscriptionsGood usesGood diversionGood
-    profileGood active selected countWith activeOf putIn clearIn entryOfPlace entriesIn cellGood rowGood gridGood isSubscribed
-    servedInvalid notProvided otherKind begins beginsAny selectedSame fits noRoom judge applied numberChosen serviceChosen selects
-    placesOf tableGood notAbove duplicate known invoked question moved resultOf handled stepOf step done reasonOf optionAfter
-    preferenceAfter originalShown callFrom namesGood valuesGood originalGood callGood applying servedOf noticed onward noOnward comes
-    allGroups instanceOctets fieldAt fieldsAt addressFrom instanceFrom instancesOctets sheetOctets before follows runOf instancesFrom
-    sheetIn decimalIn decimal procedureName kindText hexOf hexText subText lineOf headerLine instanceLine instanceLines listing
-    listedSheet refusedLine printedSheet instancesOf wroteSheet saidAt
+    profileGood those key named selected concerns chosen isAt among instanceFits placesFrom placesOf servedNumber forwardedTo merged
+    ascending eachGood fewOfEach runGood isSubscribed hasAllNumbers servedInvalid notProvided otherKind begins beginsAny selectedSame
+    fits afterwards judge changed applied numberAsked selectionOf tableGood notAbove duplicate known invoked question lastAfter
+    resultOf handled step done reasonOf optionsOf optionAfter preferenceAfter originalShown callFrom namesGood valuesGood originalGood
+    callGood applying servedOf noticed onward noOnward comes allGroups instanceOctets fieldAt fieldsAt addressFrom instanceFrom
+    instancesOctets sheetOctets instancesFrom inOrder sheetIn decimalIn decimal procedureName kindText hexOf hexText subText lineOf
+    headerLine instanceLine instanceLines listing listedSheet refusedLine printedSheet wroteSheet saidAt
 each-sample =
     let sheets : Each (drop 35 samples) = (refl, (refl, (refl, (refl, tt)))) in
     let calls : Each (drop 31 samples) = ((refl, refl, refl), ((refl, refl, refl), ((refl, refl, refl), ((refl, refl, refl), sheets)))) in

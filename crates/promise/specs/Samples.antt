@@ -4,7 +4,7 @@ use Prim.Native.Nat.{ℕ, _+_, _/_, _%_}
 use mathlib.Core.Path.{_≡_}
 use mathlib.Core.List.{List, [], _∷_, _++_}
 use lib.IntN.{ℤ, pos, negsuc}
-use lib.ListN.{length, set, replicate}
+use lib.ListN.{length, replicate}
 use Rattle.laws.specs.Got.{got}
 use Rattle.laws.specs.Places.{gathered}
 use Rattle.refusals.specs.Refusal.{Told, refuses, tells}
@@ -22,15 +22,15 @@ use Rattle.answers.specs.Answer.{answerOctets}
 use Rattle.answers.specs.Reply.{reply}
 use Rattle.answers.specs.declared.reply.Reply.{Reply}
 use Rattle.answers.specs.declared.reply.Reply.the-variants as reply
-use Rattle.store.specs.Row.{cellOf}
-use Rattle.store.specs.Grid.{noRow}
-use Rattle.exchange.specs.Table.{freshTable, withRow, withLast}
+use Rattle.instances.specs.Instance.{instanceOf}
+use Rattle.instances.specs.Run.{packed}
+use Rattle.exchange.specs.Table.{tableOf, freshTable}
 use Rattle.exchange.specs.Arrive.{outputLeast, done}
 use Rattle.exchange.specs.declared.table.Table.{Table}
 use Rattle.forms.specs.Form.{form1}
-use Rattle.sheet.specs.Size.{sheetMost}
+use Rattle.forms.specs.Size.{sheetMost}
 use Rattle.listings.specs.Listing.{listingMost, listedSheet, printedSheet}
-use Rattle.nightly.specs.Record.{wroteSheet}
+use Rattle.sheets.specs.Sheets.{wroteSheet}
 use Rattle.calls.specs.Divert.{Course, passes, diverts, comes}
 use Rattle.requests.specs.Heard.{local, heard}
 use Rattle.requests.specs.Request.{activation, interrogation, allNumbers, noForwarded, requestOf, argumentAt}
@@ -123,9 +123,7 @@ otherOctets =
 
 -- the table that holds the one instance, speech for 13579
 abbrev pub activatedTable : Table
-activatedTable =
-    withLast 2
-    (withRow 1 (record { cells = set (noRow .cells) 0 (cellOf 1 (activationOfCfb .to .address)) }) freshTable)
+activatedTable = tableOf 2 (packed (instanceOf 1 0 1 (activationOfCfb .to .address) ∷ []))
 
 -- a call of speech for 13579 that met busy, over its counter and the chain's notification option
 abbrev pub callWith : ℕ → ℕ → List ℕ
@@ -191,12 +189,12 @@ samples =
     ∷ told (pos 1) interrogation (0xA3 ∷ 0x06 ∷ 0x02 ∷ 0x01 ∷ 0x01 ∷ 0x02 ∷ 0x01 ∷ 0x00 ∷ []) (reply.Failed (pos 0))
     ∷ told (pos 1) interrogation (0xA4 ∷ 0x05 ∷ 0x05 ∷ 0x00 ∷ 0x80 ∷ 0x01 ∷ 0x02 ∷ []) reply.Dropped
     -- the exchange: the interrogation of a fresh table, the activation, the latter again, what is not subscribed, and no octet
-    ∷ arrives sampleAccess freshTable interrogationOctets freshOctets (withLast 1 freshTable)
+    ∷ arrives sampleAccess freshTable interrogationOctets freshOctets (tableOf 1 (packed []))
     ∷ arrives sampleAccess freshTable activationOctets (0xA2 ∷ 0x03 ∷ 0x02 ∷ 0x01 ∷ 0x02 ∷ []) activatedTable
     ∷ arrives sampleAccess activatedTable activationOctets
     (0xA4 ∷ 0x06 ∷ 0x02 ∷ 0x01 ∷ 0x02 ∷ 0x81 ∷ 0x01 ∷ 0x00 ∷ []) activatedTable
     ∷ arrives sampleAccess freshTable otherOctets
-    (0xA3 ∷ 0x06 ∷ 0x02 ∷ 0x01 ∷ 0x01 ∷ 0x02 ∷ 0x01 ∷ 0x00 ∷ []) (withLast 1 freshTable)
+    (0xA3 ∷ 0x06 ∷ 0x02 ∷ 0x01 ∷ 0x01 ∷ 0x02 ∷ 0x01 ∷ 0x00 ∷ []) (tableOf 1 (packed []))
     ∷ arrives sampleAccess freshTable [] (0xA4 ∷ 0x05 ∷ 0x05 ∷ 0x00 ∷ 0x80 ∷ 0x01 ∷ 0x02 ∷ []) freshTable
     -- "counter 4, limit 5: diverted, counter 5"; "counter 5: refusal 6; no instance: not diverted"
     ∷ diverts-to sampleAccess activatedTable (callWith 4 0) (tells (diverts 2 0)) 5 0

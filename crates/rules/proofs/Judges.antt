@@ -1,9 +1,10 @@
 -- Laws of the verdict on a request, over plain values: what judging needs, and all that a caller needs of it. Assumes nothing.
-use Prim.Native.Nat.{ℕ, _≤_, _<_}
+use Prim.Native.Nat.{ℕ, _+_, _≤_, _<_}
 use mathlib.Core.Path.{_≡_, refl, sym, ap, subst, _∙_}
 use mathlib.Core.Bool.{Bool, true, false, not, false≢true}
 use mathlib.Core.List.{List, [], _∷_, _++_}
 use mathlib.Core.Option.{Option, none, some}
+use mathlib.Core.Logic.{_⊎_, ⊎-elim}
 use native.Mathlib.Omega.{arith}
 use lib.ListN.{length, getD, List·getD-eq-default}
 use lib.Dec.{ltb, eqb}
@@ -12,19 +13,28 @@ use Rattle.laws.specs.Pick.{pick}
 use Rattle.laws.specs.Tests.{Test}
 use Rattle.laws.proofs.Picks.{pick-ind, pick-then, pick-map, pick-first, not-passed}
 use Rattle.numbers.specs.Number.{other, digitsOf}
+use Rattle.numbers.specs.Address.{addressGood}
 use Rattle.numbers.specs.declared.number.Number.{Number}
 use Rattle.profile.specs.Profile.{servedNumbers, barred}
 use Rattle.profile.specs.declared.profile.Profile.{Profile}
+use Rattle.profile.proofs.Profiles.{GoodProfile}
 use Rattle.requests.specs.Request.{activation, deactivation}
 use Rattle.requests.specs.declared.request.Request.{Request}
-use Rattle.store.specs.Row.{countWith, activeOf, putIn, clearIn}
-use Rattle.store.specs.declared.row.Places.{Places}
-use Rattle.store.specs.declared.row.Row.{Row}
+use Rattle.instances.specs.Run.{instancesOf, packed, listed, countOf, deactivated, activated}
+use Rattle.instances.specs.Places.{placesOf}
+use Rattle.instances.specs.declared.instance.Instance.{Instance}
+use Rattle.instances.specs.declared.instance.Selection.{Selection}
+use Rattle.instances.specs.declared.run.Run.{Run}
+use Rattle.instances.proofs.Counts.{count-activated}
+use Rattle.instances.proofs.Goods.{GoodList, cleared-good, activated-good}
 use Rattle.rules.specs.Prefix.{beginsAny}
+use Rattle.rules.specs.Selection.{numberAsked, selectionOf}
 use Rattle.rules.specs.Judge.{firstError, verdictNo, notInUse, isSubscribed, servedInvalid, notProvided, userSpecified, otherKind}
-use Rattle.rules.specs.Judge.{selectedSame, fits, noRoom, everyTests, activationTests, deactivationTests, testsOf, judge, applied}
+use Rattle.rules.specs.Judge.{selectedSame, fits, afterwards, everyTests, activationTests, deactivationTests, testsOf, judge}
+use Rattle.rules.specs.Judge.{changed, applied}
 use Rattle.rules.specs.declared.verdict.Verdict.{Verdict}
 use Rattle.rules.specs.declared.verdict.Verdict.the-variants.{Passes, Fails}
+use Rattle.rules.proofs.Selections.{selection-procedure, selection-number}
 
 -- ---- tests one after the other
 
@@ -110,15 +120,24 @@ pub kind-known : (n : Number) → otherKind n ≡ false → n .form ≡ other �
 unfolding otherKind
 kind-known n h e = false≢true (sym h ∙ rw (eq-eqb _ _ e))
 
-module _ (most : ℕ) (p : Profile) (w : Places) (row : Row) where
-  -- so many fit, or not, as the code asks
-  pub room-fits : (count : ℕ) → count ≡ countWith w row → noRoom most p w row ≡ not (fits most p count)
-  unfolding noRoom
-  room-fits count e = rw e
+module _ (most : ℕ) (p : Profile) (count : ℕ) where
+  -- as many as fit are within the limit
+  pub fits-few : fits most p count ≡ true → count ≤ most
+  unfolding fits
+  fits-few h = leb-true count most h
 
-  room-few : noRoom most p w row ≡ false → countWith w row ≤ most
-  unfolding noRoom fits
-  room-few h = leb-true _ _ (not-not (fits most p (countWith w row)) h)
+module _ (p : Profile) (r : Request) (is : List Instance) (sel : Selection) (same : sel ≡ selectionOf p r) where
+  -- how many there are afterwards, as they are counted before
+  pub count-afterwards :
+      (count : ℕ) → count ≡ length (placesOf p sel) + countOf (sel .procedure) (deactivated sel is) →
+      count ≡ afterwards p r is
+  unfolding afterwards
+  count-afterwards count e =
+      let mine = selectionOf p r in
+      e
+      ∙ sym (count-activated p sel (r .to .address) is)
+      ∙ ap (λ (x : Selection). countOf (x .procedure) (activated p x (r .to .address) is)) same
+      ∙ ap (λ (q : ℕ). countOf q (activated p mine (r .to .address) is)) (selection-procedure p r)
 
 -- ---- the verdict, and what it tells
 
@@ -127,107 +146,207 @@ pub record EveryPasses (p : Profile) (r : Request) : Type 0 where
   pub subscribed : isSubscribed p (r .procedure) ≡ true
   pub served : servedInvalid p r ≡ false
 
-module _ (most : ℕ) (p : Profile) (operation : ℕ) (r : Request) (w : Places) (row : Row) where
-  both-tests : judge most p operation r w row ≡ orElse (firstError (everyTests p r)) (firstError (testsOf most p operation r w row))
+module _ (most : ℕ) (p : Profile) (operation : ℕ) (r : Request) (is : List Instance) where
+  both-tests : judge most p operation r is ≡ orElse (firstError (everyTests p r)) (firstError (testsOf most p operation r is))
   unfolding judge
-  both-tests = first-append (everyTests p r) (testsOf most p operation r w row)
+  both-tests = first-append (everyTests p r) (testsOf most p operation r is)
 
   -- an error of every request is the verdict
-  pub judge-fails : (e : ℕ) → firstError (everyTests p r) ≡ some e → judge most p operation r w row ≡ some e
+  pub judge-fails : (e : ℕ) → firstError (everyTests p r) ≡ some e → judge most p operation r is ≡ some e
   judge-fails e h = rw (both-tests, h)
 
   -- where there is none, the tests of the operation decide
   pub judge-rest :
-      firstError (everyTests p r) ≡ none → judge most p operation r w row ≡ firstError (testsOf most p operation r w row)
+      firstError (everyTests p r) ≡ none → judge most p operation r is ≡ firstError (testsOf most p operation r is)
   judge-rest h = rw (both-tests, h)
 
   -- an operation with no tests of its own
   pub judge-interrogation :
       (operation ≡ activation → ⊥) → (operation ≡ deactivation → ⊥) →
-      judge most p operation r w row ≡ firstError (everyTests p r)
+      judge most p operation r is ≡ firstError (everyTests p r)
   unfolding judge
   judge-interrogation activates deactivates = rw (ne-eqb _ _ activates, ne-eqb _ _ deactivates)
 
-  pub judge-subscribed : judge most p operation r w row ≡ none → EveryPasses p r
+  pub judge-subscribed : judge most p operation r is ≡ none → EveryPasses p r
   unfolding judge
   judge-subscribed h =
-      let t = passed (everyTests p r ++ testsOf most p operation r w row) h in
+      let t = passed (everyTests p r ++ testsOf most p operation r is) h in
       record { used = t .0; subscribed = not-not (isSubscribed p (r .procedure)) (t .1 .0); served = t .1 .1 .0 }
 
   -- each error fits an octet
-  pub judge-errors : (e : ℕ) → judge most p operation r w row ≡ some e → e < 256
+  pub judge-errors : (e : ℕ) → judge most p operation r is ≡ some e → e < 256
   unfolding judge
   judge-errors e h =
       subst SmallIf h
-      (first-small (everyTests p r ++ testsOf most p operation r w row)
+      (first-small (everyTests p r ++ testsOf most p operation r is)
       (pick-ind (λ ts. small ts ≡ true) (eqb operation activation)
       (λ _. refl)
       (λ _. pick-ind (λ ts. small ts ≡ true) (eqb operation deactivation) (λ _. refl) (λ _. refl))))
 
-module _ (most : ℕ) (p : Profile) (r : Request) (w : Places) (row : Row) where
+-- the tests of an operation as the code makes them, by a selection that is the request's
+module _
+    (most : ℕ) (p : Profile) (operation : ℕ) (r : Request) (is : List Instance) (sel : Selection)
+    (every : firstError (everyTests p r) ≡ none) (same : sel ≡ selectionOf p r)
+  where
+    pub judge-put :
+        (after : ℕ) → operation ≡ activation →
+        after ≡ length (placesOf p sel) + countOf (sel .procedure) (deactivated sel is) →
+        firstError (activationTests most p r (sel .number) after) ≡ judge most p operation r is
+    judge-put after activates e =
+        rw (
+          judge-rest most p operation r is every,
+          eq-eqb operation activation activates,
+          ap (λ (x : Selection). x .number) same ∙ selection-number p r,
+          count-afterwards p r is sel same after e,
+        )
+
+    pub judge-clear :
+        (count : ℕ) → (operation ≡ activation → ⊥) → operation ≡ deactivation → count ≡ length (listed sel is) →
+        firstError (deactivationTests count) ≡ judge most p operation r is
+    judge-clear count activates deactivates e =
+        rw (
+          judge-rest most p operation r is every,
+          ne-eqb operation activation activates,
+          eq-eqb operation deactivation deactivates,
+          e ∙ ap (λ (x : Selection). length (listed x is)) same,
+        )
+
+module _ (most : ℕ) (p : Profile) (r : Request) (is : List Instance) where
   pub record ActivationPasses : Type 0 where
     pub provided : notProvided p r ≡ false
     pub user : userSpecified r ≡ false
     pub kind : otherKind (r .to .address .number) ≡ false
     pub prefix : beginsAny (barred p) (digitsOf (r .to .address .number)) ≡ false
-    pub own : selectedSame p r 0 (servedNumbers p) ≡ false
-    pub room : countWith w row ≤ most
+    pub own : selectedSame p (numberAsked p (r .served)) (r .to .address .number) 0 (servedNumbers p) ≡ false
+    pub room : afterwards p r is ≤ most
 
-  pub judge-activation : judge most p activation r w row ≡ none → ActivationPasses
+  pub judge-activation : judge most p activation r is ≡ none → ActivationPasses
   unfolding judge
   judge-activation h =
-      let t = passed (everyTests p r ++ activationTests most p r w row) h .1 .1 .1 in
+      let t = passed (everyTests p r ++ activationTests most p r (numberAsked p (r .served)) (afterwards p r is)) h .1 .1 .1 in
       record {
         provided = t .0;
         user = t .1 .0;
         kind = t .1 .1 .0;
         prefix = t .1 .1 .1 .0;
         own = t .1 .1 .1 .1 .0;
-        room = room-few most p w row (t .1 .1 .1 .1 .1 .0);
+        room = fits-few most p (afterwards p r is) (not-not (fits most p (afterwards p r is)) (t .1 .1 .1 .1 .1 .0));
       }
 
-  pub judge-deactivation : judge most p deactivation r w row ≡ none → 0 < activeOf w row
+  -- how many active instances are selected
+  abbrev active : ℕ
+  active = length (listed (selectionOf p r) is)
+
+  pub judge-deactivation : judge most p deactivation r is ≡ none → 0 < length (listed (selectionOf p r) is)
   unfolding judge
   judge-deactivation h =
-      let t = passed (everyTests p r ++ deactivationTests w row) h .1 .1 .1 in
-      let some : activeOf w row ≡ 0 → ⊥ = eqb-false (activeOf w row) 0 (t .0) in
+      let t = passed (everyTests p r ++ deactivationTests active) h .1 .1 .1 in
+      let some : active ≡ 0 → ⊥ = eqb-false active 0 (t .0) in
       omega arith
 
   -- "error 46 exactly if there's none"
-  pub none-fails : firstError (everyTests p r) ≡ none → activeOf w row ≡ 0 → judge most p deactivation r w row ≡ some 46
-  none-fails every nothing = rw (judge-rest most p deactivation r w row every, eq-eqb _ _ nothing)
+  pub none-fails :
+      firstError (everyTests p r) ≡ none → length (listed (selectionOf p r) is) ≡ 0 →
+      judge most p deactivation r is ≡ some 46
+  none-fails every nothing = rw (judge-rest most p deactivation r is every, eq-eqb active 0 nothing)
 
-  pub fails-none : firstError (everyTests p r) ≡ none → judge most p deactivation r w row ≡ some 46 → activeOf w row ≡ 0
+  pub fails-none :
+      firstError (everyTests p r) ≡ none → judge most p deactivation r is ≡ some 46 →
+      length (listed (selectionOf p r) is) ≡ 0
   fails-none every h =
-      let b : Bool = eqb (activeOf w row) 0 in
-      let e : pick {A = Option ℕ} b (some 46) none ≡ some 46 = sym (judge-rest most p deactivation r w row every) ∙ h in
-      eqb-true (activeOf w row) 0 (pick-first {A = Option ℕ} b (some 46) none (λ q. apart 46 (sym q ∙ e)))
+      let b : Bool = eqb active 0 in
+      let e : pick {A = Option ℕ} b (some 46) none ≡ some 46 = sym (judge-rest most p deactivation r is every) ∙ h in
+      eqb-true active 0 (pick-first {A = Option ℕ} b (some 46) none (λ q. apart 46 (sym q ∙ e)))
 
--- ---- what the row becomes
+-- ---- what the instances become
 
-module _ (r : Request) (w : Places) (row : Row) where
-  pub applied-activation : applied activation r w row ≡ putIn w (r .to .address) row
-  unfolding applied
-  applied-activation = refl
+module _ (p : Profile) (r : Request) (is : List Instance) where
+  pub changed-activation : changed p activation r is ≡ activated p (selectionOf p r) (r .to .address) is
+  unfolding changed
+  changed-activation = refl
 
-  pub applied-deactivation : applied deactivation r w row ≡ clearIn w row
-  unfolding applied
-  applied-deactivation = refl
+  pub changed-deactivation : changed p deactivation r is ≡ deactivated (selectionOf p r) is
+  unfolding changed
+  changed-deactivation = refl
 
-  pub applied-other :
+  pub changed-other :
       (operation : ℕ) → (operation ≡ activation → ⊥) → (operation ≡ deactivation → ⊥) →
-      applied operation r w row ≡ row
-  unfolding applied
-  applied-other operation activates deactivates = rw (ne-eqb _ _ activates, ne-eqb _ _ deactivates)
+      changed p operation r is ≡ is
+  unfolding changed
+  changed-other operation activates deactivates = rw (ne-eqb _ _ activates, ne-eqb _ _ deactivates)
 
-  -- what holds of the row that is put, of the row that is cleared and of the row as it was holds of what the row becomes
-  pub applied-ind :
-      (P : Row → Type 0) (operation : ℕ) →
-      (operation ≡ activation → P (putIn w (r .to .address) row)) →
-      (operation ≡ deactivation → P (clearIn w row)) →
-      P row →
-      P (applied operation r w row)
-  unfolding applied
-  applied-ind P operation puts clears stays =
+  -- what holds after an activation, after a deactivation and of the instances as they were holds of what they become
+  pub changed-ind :
+      (P : List Instance → Type 0) (operation : ℕ) →
+      (operation ≡ activation → P (activated p (selectionOf p r) (r .to .address) is)) →
+      (operation ≡ deactivation → P (deactivated (selectionOf p r) is)) →
+      P is →
+      P (changed p operation r is)
+  unfolding changed
+  changed-ind P operation puts clears stays =
       pick-ind P (eqb operation activation) (λ e. puts (eqb-true operation activation e)) (λ _.
       pick-ind P (eqb operation deactivation) (λ e. clears (eqb-true operation deactivation e)) (λ _. stays))
+
+-- the limit, of the procedure of the selection
+afterwards-few :
+    (p : Profile) (r : Request) (is : List Instance) (most : ℕ) → afterwards p r is ≤ most →
+    countOf (selectionOf p r .procedure) (activated p (selectionOf p r) (r .to .address) is) ≤ most
+unfolding afterwards
+afterwards-few p r is most h =
+    let ends : List Instance = activated p (selectionOf p r) (r .to .address) is in
+    subst (λ (q : ℕ). countOf q ends ≤ most) (sym (selection-procedure p r)) h
+
+-- good instances stay good where the request passes
+pub changed-good :
+    (most : ℕ) (p : Profile) (operation : ℕ) (r : Request) (is : List Instance) → GoodProfile p → r .procedure < 3 →
+    judge most p operation r is ≡ none → (operation ≡ activation → addressGood (r .to .address) ≡ true) →
+    GoodList p most is → GoodList p most (changed p operation r is)
+changed-good most p operation r is profile three passes address good =
+    let sel = selectionOf p r in
+    let flag = subscribed-flag p (r .procedure) (judge-subscribed most p operation r is passes .subscribed) in
+    let subscribes : getD (p .subscribed) (r .procedure) 0 ≡ 1 = omega (arith, profile .flags (r .procedure) three, flag) in
+    changed-ind p r is (GoodList p most) operation
+    (λ e.
+    let told = judge-activation most p r is (rw e at passes) in
+    activated-good p profile sel (r .to .address) (rw (selection-procedure p r) three) (rw (selection-procedure p r) subscribes)
+    (address e) most is good (afterwards-few p r is most (told .room)))
+    (λ _. cleared-good p sel most is good)
+    good
+
+-- ---- and their record
+
+module _ (p : Profile) (operation : ℕ) (r : Request) (run : Run) where
+  pub applied-changes :
+      (operation ≡ activation) ⊎ (operation ≡ deactivation) →
+      applied p operation r run ≡ packed (changed p operation r (instancesOf run))
+  unfolding applied
+  applied-changes h =
+      ⊎-elim
+      (λ e. rw (eq-eqb operation activation e))
+      (λ e. rw (ne-eqb operation activation (λ other. omega (arith, e, other)), eq-eqb operation deactivation e))
+      h
+
+  pub applied-other :
+      (operation ≡ activation → ⊥) → (operation ≡ deactivation → ⊥) → applied p operation r run ≡ run
+  unfolding applied
+  applied-other activates deactivates = rw (ne-eqb _ _ activates, ne-eqb _ _ deactivates)
+
+  -- as the code makes it, by a selection that is the request's
+  module _ (next : Run) (sel : Selection) (same : sel ≡ selectionOf p r) where
+    pub put-applied :
+        operation ≡ activation → next ≡ packed (activated p sel (r .to .address) (instancesOf run)) →
+        next ≡ applied p operation r run
+    unfolding applied changed
+    put-applied activates e =
+        e
+        ∙ ap (λ (x : Selection). packed (activated p x (r .to .address) (instancesOf run))) same
+        ∙ rw (eq-eqb operation activation activates)
+
+    pub clear-applied :
+        (operation ≡ activation → ⊥) → operation ≡ deactivation → next ≡ packed (deactivated sel (instancesOf run)) →
+        next ≡ applied p operation r run
+    unfolding applied changed
+    clear-applied activates deactivates e =
+        e
+        ∙ ap (λ (x : Selection). packed (deactivated x (instancesOf run))) same
+        ∙ rw (ne-eqb operation activation activates, eq-eqb operation deactivation deactivates)

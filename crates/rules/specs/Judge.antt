@@ -5,7 +5,7 @@ use mathlib.Core.Path.{_≡_}
 use mathlib.Core.Bool.{Bool, false, not}
 use mathlib.Core.List.{List, [], _∷_, _++_}
 use mathlib.Core.Option.{Option, none, some}
-use lib.ListN.{getD}
+use lib.ListN.{length, getD}
 use lib.Dec.{ltb, leb, eqb}
 use Rattle.laws.specs.Pick.{pick}
 use Rattle.laws.specs.Tests.{all, any, Test, test, first}
@@ -18,10 +18,11 @@ use Rattle.profile.specs.declared.profile.Profile.{Profile}
 use Rattle.requests.specs.Request.{activation, deactivation}
 use Rattle.requests.specs.declared.request.Request.{Request}
 use Rattle.lists.specs.Entries.{instancesMost}
-use Rattle.store.specs.Row.{countWith, activeOf, putIn, clearIn}
-use Rattle.store.specs.declared.row.Places.{Places}
-use Rattle.store.specs.declared.row.Row.{Row}
-use Rattle.rules.specs.Selection.{numberChosen}
+use Rattle.instances.specs.Instance.{everyNumber, named}
+use Rattle.instances.specs.Run.{instancesOf, packed, listed, countOf, deactivated, activated}
+use Rattle.instances.specs.declared.instance.Instance.{Instance}
+use Rattle.instances.specs.declared.run.Run.{Run}
+use Rattle.rules.specs.Selection.{numberAsked, selectionOf}
 use Rattle.rules.specs.declared.verdict.Verdict.{Verdict}
 use Rattle.rules.specs.declared.verdict.Verdict.the-variants.{Passes, Fails}
 
@@ -46,7 +47,7 @@ abbrev pub notSubscribed : Profile → Request → Bool
 notSubscribed p r = not (isSubscribed p (r .procedure))
 
 -- the "all numbers" option
-abbrev pub hasAllNumbers : Profile → Bool
+unfoldable pub hasAllNumbers : Profile → Bool
 hasAllNumbers p = not (eqb (p .all) 0)
 
 -- a number of the profile
@@ -90,61 +91,66 @@ otherKind n =
     ∷ all (eqb (n .form) public ∷ eqb (n .kind) international ∷ ltb internationalMost (n .count) ∷ [])
     ∷ [])
 
--- "forwarded-to number the same as a selected served number", the first of ns having the place `from`
-unfoldable pub selectedSame : Profile → Request → ℕ → List Number → Bool
-selectedSame p r from [] = false
-selectedSame p r from (n ∷ ns) =
-    any
-    (all (numberChosen p (r .served) from ∷ same p n (r .to .address .number) ∷ [])
-    ∷ selectedSame p r (1 + from) ns
-    ∷ [])
+-- "forwarded-to number the same as a selected served number": one of ns that was asked for, the first of them having the place `from`
+unfoldable pub selectedSame : Profile → ℕ → Number → ℕ → List Number → Bool
+selectedSame p asked to from [] = false
+selectedSame p asked to from (n ∷ ns) =
+    any (all (named everyNumber asked from ∷ same p n to ∷ []) ∷ selectedSame p asked to (1 + from) ns ∷ [])
 
--- "more than 8 instances of the procedure afterwards": whether so many fit, over the limit
+-- whether so many instances of a procedure may be, over the limit
 unfoldable pub fits : ℕ → Profile → ℕ → Bool
 fits most p count = leb count most
 
--- "more than 8 instances of the procedure afterwards"
-unfoldable pub noRoom : ℕ → Profile → Places → Row → Bool
-noRoom most p w row = not (fits most p (countWith w row))
+-- "instances of the procedure afterwards"
+unfoldable pub afterwards : Profile → Request → List Instance → ℕ
+afterwards p r is = countOf (r .procedure) (activated p (selectionOf p r) (r .to .address) is)
 
--- ---- the verdict, where the request selects the places w
+-- ---- the verdict
 
 abbrev pub everyTests : Profile → Request → List (Test ℕ)
 everyTests p r = test (notInUse p) 3 ∷ test (notSubscribed p r) 0 ∷ test (servedInvalid p r) 6 ∷ []
 
-abbrev pub activationTests : ℕ → Profile → Request → Places → Row → List (Test ℕ)
-activationTests most p r w row =
+-- of an activation that selects the number `asked`, or all, and leaves so many instances
+abbrev pub activationTests : ℕ → Profile → Request → ℕ → ℕ → List (Test ℕ)
+activationTests most p r asked count =
     test (notProvided p r) 8
     ∷ test (userSpecified r) 11
     ∷ test (otherKind (r .to .address .number)) 12
     ∷ test (beginsAny (barred p) (digitsOf (r .to .address .number))) 14
-    ∷ test (selectedSame p r 0 (servedNumbers p)) 15
-    ∷ test (noRoom most p w row) 11
+    ∷ test (selectedSame p asked (r .to .address .number) 0 (servedNumbers p)) 15
+    ∷ test (not (fits most p count)) 11
     ∷ []
 
--- "error 46 exactly if there's none (house)"
-abbrev pub deactivationTests : Places → Row → List (Test ℕ)
-deactivationTests w row = test (eqb (activeOf w row) 0) 46 ∷ []
+-- "error 46 exactly if there's none (house)", of so many active selected instances
+abbrev pub deactivationTests : ℕ → List (Test ℕ)
+deactivationTests count = test (eqb count 0) 46 ∷ []
 
-abbrev pub testsOf : ℕ → Profile → ℕ → Request → Places → Row → List (Test ℕ)
-testsOf most p operation r w row =
-    pick (eqb operation activation) (activationTests most p r w row)
-    (pick (eqb operation deactivation) (deactivationTests w row) [])
+abbrev pub testsOf : ℕ → Profile → ℕ → Request → List Instance → List (Test ℕ)
+testsOf most p operation r is =
+    pick (eqb operation activation) (activationTests most p r (numberAsked p (r .served)) (afterwards p r is))
+    (pick (eqb operation deactivation) (deactivationTests (length (listed (selectionOf p r) is))) [])
 
 -- the error that a request earns, or none
-unfoldable pub judge : ℕ → Profile → ℕ → Request → Places → Row → Option ℕ
-judge most p operation r w row = firstError (everyTests p r ++ testsOf most p operation r w row)
+unfoldable pub judge : ℕ → Profile → ℕ → Request → List Instance → Option ℕ
+judge most p operation r is = firstError (everyTests p r ++ testsOf most p operation r is)
 
--- what the row of the request's procedure becomes where it passes
-unfoldable pub applied : ℕ → Request → Places → Row → Row
-applied operation r w row =
-    pick (eqb operation activation) (putIn w (r .to .address) row)
-    (pick (eqb operation deactivation) (clearIn w row) row)
+-- what the instances become where the request passes
+unfoldable pub changed : Profile → ℕ → Request → List Instance → List Instance
+changed p operation r is =
+    pick (eqb operation activation) (activated p (selectionOf p r) (r .to .address) is)
+    (pick (eqb operation deactivation) (deactivated (selectionOf p r) is) is)
+
+-- and their record: one that nothing changes stays octet for octet
+unfoldable pub applied : Profile → ℕ → Request → Run → Run
+applied p operation r run =
+    pick (any (eqb operation activation ∷ eqb operation deactivation ∷ []))
+    (packed (changed p operation r (instancesOf run)))
+    run
 
 -- what `judge_request` promises
-abbrev pub JudgeRequest : Profile → ℕ → Request → Places → Row → Verdict → Type 0
-JudgeRequest p operation r w row v = verdictNo v ≡ judge instancesMost p operation r w row
+abbrev pub JudgeRequest : Profile → ℕ → Request → Run → Verdict → Type 0
+JudgeRequest p operation r run v = verdictNo v ≡ judge instancesMost p operation r (instancesOf run)
 
 -- what `apply_request` promises
-abbrev pub ApplyRequest : ℕ → Request → Places → Row → Row → Type 0
-ApplyRequest operation r w row next = next ≡ applied operation r w row
+abbrev pub ApplyRequest : Profile → ℕ → Request → Run → Run → Type 0
+ApplyRequest p operation r run next = next ≡ applied p operation r run

@@ -1,4 +1,3 @@
 pub mod Selection
 pub mod Judge
 pub mod Prefix
-pub mod inner

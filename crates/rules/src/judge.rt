@@ -1,18 +1,18 @@
-// A request is judged, and applied to the row of its procedure.
+// A request is judged, and applied to the instances of a table or a picture (document 01, "Replies, in the order checked").
 use crate::prefix::begins_any;
+use crate::selection::selection_of;
 use crate::tests::not_provided;
 use crate::tests::other_kind;
 use crate::tests::selected_same;
 use crate::tests::served_invalid;
 use crate::verdict::Verdict;
+use instances::Run;
 use lists::INSTANCESMOST;
 use profile::Profile;
 use requests::ACTIVATION;
 use requests::DEACTIVATION;
 use requests::PROCEDURES;
 use requests::Request;
-use store::Places;
-use store::Row;
 ghost use mathlib.Core.Path.{_≡_};
 ghost use Rattle.lists.specs.Entries.{instancesMost};
 ghost use Rattle.rules.specs.Judge.{isSubscribed, fits, firstError, verdictNo, everyTests, activationTests, deactivationTests, JudgeRequest, ApplyRequest};
@@ -51,8 +51,9 @@ fn fits(p: Profile, count: usize) -> bool
     count <= INSTANCESMOST
 }
 
-fn judge_activation(p: Profile, r: Request, w: Places, row: Row) -> Verdict
-    ensures { λ v. ⌜ verdictNo v ≡ firstError (activationTests instancesMost p r w row) ⌝ }
+// The tests of an activation that selects the number `asked`, or all, and leaves `after` instances of its procedure.
+fn judge_activation(p: Profile, r: Request, asked: u8, after: usize) -> Verdict
+    ensures { λ v. ⌜ verdictNo v ≡ firstError (activationTests instancesMost p r asked after) ⌝ }
 {
     if not_provided(p, r) {
         return Verdict::Fails { error: 8 };
@@ -68,53 +69,59 @@ fn judge_activation(p: Profile, r: Request, w: Places, row: Row) -> Verdict
     if begins_any(p, number) {
         return Verdict::Fails { error: 14 };
     }
-    if selected_same(p, r) {
+    if selected_same(p, asked, number) {
         return Verdict::Fails { error: 15 };
     }
-    if !fits(p, row.count_with(w)) {
+    if !fits(p, after) {
         return Verdict::Fails { error: 11 };
     }
     Verdict::Passes
 }
 
-fn judge_deactivation(w: Places, row: Row) -> Verdict
-    ensures { λ v. ⌜ verdictNo v ≡ firstError (deactivationTests w row) ⌝ }
+// The test of a deactivation of so many instances.
+fn judge_deactivation(count: usize) -> Verdict
+    ensures { λ v. ⌜ verdictNo v ≡ firstError (deactivationTests count) ⌝ }
 {
-    if row.active_of(w) == 0 {
+    if count == 0 {
         return Verdict::Fails { error: 46 };
     }
     Verdict::Passes
 }
 
 // The first test that holds decides.
-pub fn judge_request(p: Profile, operation: u8, r: Request, w: Places, row: Row) -> Verdict
-    ensures { λ v. ⌜ JudgeRequest p operation r w row v ⌝ }
+pub fn judge_request(p: Profile, operation: u8, r: Request, run: Run) -> Verdict
+    ensures { λ v. ⌜ JudgeRequest p operation r run v ⌝ }
 {
     match judge_every(p, r) {
         Verdict::Fails { error } => Verdict::Fails { error },
         Verdict::Passes => {
+            let sel = selection_of(p, r);
             if operation == ACTIVATION {
-                return judge_activation(p, r, w, row);
+                let after = run.count_after(p, sel);
+                return judge_activation(p, r, sel.number, after);
             }
             if operation == DEACTIVATION {
-                return judge_deactivation(w, row);
+                let count = run.chosen_count(sel);
+                return judge_deactivation(count);
             }
             Verdict::Passes
         }
     }
 }
 
-// What the row of the request's procedure becomes.
-pub fn apply_request(operation: u8, r: Request, w: Places, row: Row) -> Row
-    ensures { λ next. ⌜ ApplyRequest operation r w row next ⌝ }
+// What the instances become.
+pub fn apply_request(p: Profile, operation: u8, r: Request, run: Run) -> Run
+    ensures { λ next. ⌜ ApplyRequest p operation r run next ⌝ }
 {
     if operation == ACTIVATION {
+        let sel = selection_of(p, r);
         let to = r.to;
         let address = to.address;
-        return row.put(w, address);
+        return run.put(p, sel, address);
     }
     if operation == DEACTIVATION {
-        return row.clear(w);
+        let sel = selection_of(p, r);
+        return run.clear(sel);
     }
-    row
+    run
 }

@@ -7,5 +7,5 @@ mod verdict;
 
 pub use judge::apply_request;
 pub use judge::judge_request;
-pub use selection::places_of;
+pub use selection::selection_of;
 pub use verdict::Verdict;

@@ -1,6 +1,5 @@
 // The tests of registration, one by one.
 use crate::selection::is_asked;
-use crate::selection::number_asked;
 use numbers::Number;
 use profile::NUMBERS;
 use profile::Profile;
@@ -81,14 +80,12 @@ pub(crate) fn other_kind(n: Number) -> bool
     false
 }
 
-pub(crate) fn selected_same(p: Profile, r: Request) -> bool
-    ensures { λ b. ⌜ b ≡ selectedSame p r 0 (servedNumbers p) ⌝ }
+// Whether a number of the profile that was asked for is the one forwarded to.
+pub(crate) fn selected_same(p: Profile, asked: u8, to: Number) -> bool
+    ensures { λ b. ⌜ b ≡ selectedSame p asked to 0 (servedNumbers p) ⌝ }
 {
-    let asked = number_asked(p, r);
     let count = p.numbercount as usize;
     let numbers = p.numbers;
-    let to = r.to;
-    let number = to.address.number;
     let mut k: usize = 0;
     while k < NUMBERS {
         if count <= k {
@@ -96,7 +93,7 @@ pub(crate) fn selected_same(p: Profile, r: Request) -> bool
         }
         if is_asked(asked, k) {
             let n = numbers[k];
-            if same(p, n, number) {
+            if same(p, n, to) {
                 return true;
             }
         }

@@ -16,8 +16,8 @@ use Rattle.sconcetoad.specs.declared.arrival.Arrival.{Arrival}
 use Rattle.sconcetoad.specs.Diversion.{DivertedBy, CopiesOriginal}
 use Rattle.sconcetoad.specs.declared.diversion.Diverted.{Diverted}
 use Rattle.sconcetoad.specs.Sheets.{SheetWrittenBy, SheetTakenBy, SheetListedBy}
-use Rattle.sconcetoad.specs.declared.sheets.SheetWritten.{SheetWritten}
-use Rattle.sconcetoad.specs.declared.sheets.SheetTaken.{SheetTaken}
+use Rattle.sconcetoad.specs.declared.night.SheetWritten.{SheetWritten}
+use Rattle.sconcetoad.specs.declared.night.SheetTaken.{SheetTaken}
 use Rattle.calls.specs.declared.diverting.Onward.{Onward}
 use Rattle.exchange.specs.Table.{FreshTable}
 use Rattle.exchange.specs.declared.table.Table.{Table}

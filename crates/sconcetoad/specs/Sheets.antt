@@ -6,10 +6,10 @@ use lib.ListN.{length}
 use Rattle.laws.specs.Over.{over}
 use Rattle.refusals.specs.Refusal.{refusalIn}
 use Rattle.exchange.specs.declared.table.Table.{Table}
-use Rattle.nightly.specs.Record.{wroteSheet, readSheet}
+use Rattle.sheets.specs.Sheets.{wroteSheet, readSheet}
 use Rattle.listings.specs.Listing.{listedSheet}
-use Rattle.sconcetoad.specs.declared.sheets.SheetWritten.{SheetWritten}
-use Rattle.sconcetoad.specs.declared.sheets.SheetTaken.{SheetTaken}
+use Rattle.sconcetoad.specs.declared.night.SheetWritten.{SheetWritten}
+use Rattle.sconcetoad.specs.declared.night.SheetTaken.{SheetTaken}
 
 -- what `sconcetoad_write_sheet` promises: the refusal, how many octets the sheet has, and every octet of the output
 pub record SheetWrittenBy (access : List ℕ) (t : Table) (xs : List ℕ) (r : SheetWritten) (ys : List ℕ) : Type 0 where

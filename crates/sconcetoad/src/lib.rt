@@ -2,8 +2,8 @@
 mod arrival;
 mod diversion;
 mod list;
+mod night;
 mod said;
-mod sheets;
 
 pub use arrival::Arrival;
 pub use arrival::sconcetoad_arrive;
@@ -14,10 +14,10 @@ pub use diversion::sconcetoad_original;
 pub use list::ListTold;
 pub use list::sconcetoad_list;
 pub use list::sconcetoad_put_list;
+pub use night::SheetTaken;
+pub use night::SheetWritten;
+pub use night::sconcetoad_list_sheet;
+pub use night::sconcetoad_read_sheet;
+pub use night::sconcetoad_write_sheet;
 pub use said::Said;
 pub use said::sconcetoad_said;
-pub use sheets::SheetTaken;
-pub use sheets::SheetWritten;
-pub use sheets::sconcetoad_list_sheet;
-pub use sheets::sconcetoad_read_sheet;
-pub use sheets::sconcetoad_write_sheet;

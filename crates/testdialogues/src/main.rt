@@ -5,9 +5,9 @@ mod call;
 mod dialogue;
 mod lent;
 mod line;
+mod night;
 mod said;
 mod say;
-mod sheets;
 mod tables;
 
 use testtext::find;

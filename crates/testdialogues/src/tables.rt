@@ -1,46 +1,29 @@
-// Tables in octets: the last handled identifier, and each cell that is not all zeros, after its place.
+// Tables in octets: the last handled identifier, the count, and the places of the run up to the last that is not all zeros.
 use crate::say;
 use exchange::Table;
 use exchange::fresh_table;
+use instances::Instance;
+use instances::ROOM;
 use octets::put_all;
-use store::Cell;
-use store::PLACES;
-use store::PROCEDURES;
 use testtext::address_of;
 use testtext::all_outside;
 ghost use Prim.Native.Nat.{_≤_};
 ghost use lib.ListN.{length};
 
-// The octets of a cell, and of one after its place; and the places of a table.
-const CELL: usize = 45;
+// The octets of an instance; and those that stand before the first.
+const INSTANCE: usize = 47;
 
-const PLACED: usize = CELL + 1;
+const HEAD: usize = 3;
 
-const TABLEPLACES: usize = PROCEDURES * PLACES;
-
-fn cell_of(s: &[u8]) -> Cell
-    requires { ⌜ 45 ≤ length (now s) ⌝ }
+fn instance_of(s: &[u8]) -> Instance
+    requires { ⌜ 47 ≤ length (now s) ⌝ }
 {
-    let address = address_of(&s[1..45]);
-    Cell {
-        service: s[0],
+    let address = address_of(&s[3..47]);
+    Instance {
+        procedure: s[0],
+        number: s[1],
+        service: s[2],
         address,
-    }
-}
-
-// The table with a cell at a place; a place that no table has is passed over.
-fn with_cell(table: Table, octet: u8, cell: Cell) -> Table {
-    let place = octet as usize;
-    if TABLEPLACES <= place {
-        return table;
-    }
-    let mut grid = table.grid;
-    let mut row = grid.rows[place / PLACES];
-    row.cells[place % PLACES] = cell;
-    grid.rows[place / PLACES] = row;
-    Table {
-        last: table.last,
-        grid,
     }
 }
 
@@ -49,59 +32,77 @@ fn last_of(high: u8, low: u8) -> u16 {
 }
 
 pub(crate) fn table_of(s: &[u8]) -> Table {
-    let mut table = fresh_table();
-    if s.len() < 2 {
+    let table = fresh_table();
+    if s.len() < HEAD {
         return table;
     }
-    table.last = last_of(s[0], s[1]);
-    let mut at = 2;
-    while at < s.len() {
-        if s.len() - at < PLACED {
-            return table;
+    let mut run = table.run;
+    run.count = s[2];
+    let mut at = HEAD;
+    let mut i: usize = 0;
+    while i < ROOM {
+        if s.len() < at + INSTANCE {
+            return Table {
+                last: last_of(s[0], s[1]),
+                run,
+            };
         }
-        let cell = cell_of(&s[at + 1..at + PLACED]);
-        table = with_cell(table, s[at], cell);
-        at += PLACED;
+        run.run[i] = instance_of(&s[at..at + INSTANCE]);
+        at += INSTANCE;
+        i += 1;
     }
-    table
+    Table {
+        last: last_of(s[0], s[1]),
+        run,
+    }
 }
 
-fn octets_of(cell: Cell) -> [u8; CELL] {
-    let address = cell.address;
+fn octets_of(x: Instance) -> [u8; INSTANCE] {
+    let address = x.address;
     let number = address.number;
     let digits = number.digits;
     let sub = address.sub;
-    let mut octets = [0u8; CELL];
-    octets[0] = cell.service;
-    octets[1] = number.form;
-    octets[2] = number.kind;
-    octets[3] = number.count;
-    put_all(&mut octets, 4, &digits);
-    octets[24] = address.subcount;
-    put_all(&mut octets, 25, &sub);
+    let mut octets = [0u8; INSTANCE];
+    octets[0] = x.procedure;
+    octets[1] = x.number;
+    octets[2] = x.service;
+    octets[3] = number.form;
+    octets[4] = number.kind;
+    octets[5] = number.count;
+    put_all(&mut octets, 6, &digits);
+    octets[26] = address.subcount;
+    put_all(&mut octets, 27, &sub);
     octets
 }
 
-fn say_cell(place: u8, cell: Cell) {
-    let octets = octets_of(cell);
-    if all_outside(&octets, 0, 0, 0) {
-        return;
+// How many places there are up to the last that is not all zeros.
+fn places_said(table: Table) -> usize
+    ensures { λ r. ⌜ r ≤ 24 ⌝ }
+{
+    let run = table.run;
+    let mut n: usize = 0;
+    let mut i: usize = 0;
+    while i < ROOM {
+        let octets = octets_of(run.run[i]);
+        i += 1;
+        if !all_outside(&octets, 0, 0, 0) {
+            n = i;
+        }
     }
-    say::octet(place);
-    say::octets(&octets);
+    n
 }
 
 pub(crate) fn say_table(table: Table) {
     let last = table.last;
-    let grid = table.grid;
+    let run = table.run;
     say::text(b"table ");
     say::octet((last / 256) as u8);
     say::octet((last % 256) as u8);
-    let mut place: usize = 0;
-    while place < TABLEPLACES {
-        let row = grid.rows[place / PLACES];
-        let cell = row.cells[place % PLACES];
-        say_cell(place as u8, cell);
-        place += 1;
+    say::octet(run.count);
+    let n = places_said(table);
+    let mut i: usize = 0;
+    while i < n {
+        say::octets(&octets_of(run.run[i]));
+        i += 1;
     }
 }

@@ -65,16 +65,19 @@ pub enum Smaller {
 #[derive(Clone, Copy, Debug, PartialEq, Eq)]
 pub enum Rubbish {
     Access,
-    Table,
+    /// Past the counts of an instance.
+    Instance,
+    /// Past the count of the run.
+    PastRun,
     Call,
-    /// In the cell a call looks at, which holds no instance.
-    EmptyCell,
+    /// Past the count of the run, with what a call looks for.
+    LookedFor,
     Called,
     Redirecting,
     Noticed,
 }
 
-pub const KINDS: [(Reached, &str); 75] = [
+pub const KINDS: [(Reached, &str); 76] = [
     (Reached::Refusal(3), "refusal 3"),
     (Reached::Refusal(4), "refusal 4"),
     (Reached::Refusal(5), "refusal 5"),
@@ -201,14 +204,21 @@ pub const KINDS: [(Reached, &str); 75] = [
         Reached::Rubbish(Rubbish::Access),
         "rubbish in the access record",
     ),
-    (Reached::Rubbish(Rubbish::Table), "rubbish in the table"),
+    (
+        Reached::Rubbish(Rubbish::Instance),
+        "rubbish in an instance",
+    ),
+    (
+        Reached::Rubbish(Rubbish::PastRun),
+        "rubbish past the run's count",
+    ),
     (
         Reached::Rubbish(Rubbish::Call),
         "rubbish in the call record",
     ),
     (
-        Reached::Rubbish(Rubbish::EmptyCell),
-        "rubbish in the cell looked at, no instance",
+        Reached::Rubbish(Rubbish::LookedFor),
+        "passed: the instance is past the run's count",
     ),
     (
         Reached::Rubbish(Rubbish::Called),

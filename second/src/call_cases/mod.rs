@@ -5,13 +5,14 @@ mod kinds;
 mod makings;
 mod reached;
 
+use crate::call_answer::CallAnswer;
 use crate::cases::Cases;
 use crate::made;
 use crate::profile::Profile;
 use crate::random::Random;
-use crate::records_at_random::{access, bad_access, bad_table, table};
-use crate::table::Table;
-use crate::table_record::TableRecord;
+use crate::records_at_random::{access, bad_access, fill_past_run, table};
+use crate::refusal::Refusal;
+use crate::table::{Instance, Table};
 use crate::tally::Tally;
 use crate::transcript::Situation;
 
@@ -22,10 +23,10 @@ pub fn call_cases(seed: u64, count: u64) -> Cases<Tally<Reached>> {
     let mut cases = Cases::to_make(seed, count, Tally::of(&KINDS));
     while cases.left > 0 {
         // Refused episodes are short, so that most calls get past refusals 3 and 4.
-        if cases.random.once_in(3) {
-            cases.refused_episode();
-        } else {
-            cases.good_episode();
+        match cases.random.below(7) {
+            0 | 1 => cases.refused_episode(),
+            2 => cases.flawed_episode(),
+            _ => cases.good_episode(),
         }
     }
     cases
@@ -49,7 +50,8 @@ impl Cases<Tally<Reached>> {
         let access = access(random, profile);
         let mut table = table(random, profile, held);
         if random.once_in(12) {
-            fill_empty_cells(random, &mut table);
+            let others = instances_not_held(random, profile, held);
+            fill_past_run(random, &mut table, &others, 1);
         }
         Situation {
             access,
@@ -76,10 +78,21 @@ impl Cases<Tally<Reached>> {
             situation.access = bad_access(&mut self.random, &profile);
         }
         if faults & 2 != 0 {
-            situation.table = bad_table(&mut self.random, &profile, &held);
+            situation.table = self.thrown_table(&profile, &held);
         }
         self.lines.bring_about(&situation);
         for _ in 0..=self.random.below(3) {
+            self.case(&profile, &held);
+        }
+    }
+
+    /// Tables with a flaw one after the other, each with a call.
+    fn flawed_episode(&mut self) {
+        let (profile, held) = self.profile_and_table();
+        let mut situation = self.good_situation(&profile, &held);
+        for _ in 0..5 {
+            situation.table = self.thrown_table(&profile, &held);
+            self.lines.bring_about(&situation);
             self.case(&profile, &held);
         }
     }
@@ -95,14 +108,16 @@ impl Cases<Tally<Reached>> {
             self.tally.add(kind, 1);
         }
         let answer = now.called(&record);
+        if answer == CallAnswer::Refused(Refusal::BadRecord.number()) {
+            self.table_refused();
+        }
         self.lines.call(&record, &answer);
     }
 }
 
-/// Rubbish in every cell without an instance, so that calls look at such cells.
-fn fill_empty_cells(random: &mut Random, table: &mut TableRecord) {
-    let empty = table.cells.iter_mut().filter(|cell| cell[0] == 0);
-    for cell in empty {
-        cell[1..].fill_with(|| random.octet());
-    }
+/// They stand past the run's count, so that calls look for such.
+fn instances_not_held(random: &mut Random, profile: &Profile, held: &Table) -> Vec<Instance> {
+    let mut others = made::instances(random, profile);
+    others.retain(|other| held.instances.iter().all(|one| one.key() != other.key()));
+    others
 }

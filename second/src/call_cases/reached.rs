@@ -7,7 +7,8 @@ use crate::calls::{CallOutcome, Diverted};
 use crate::numbers::Subaddress;
 use crate::onward_record::Carried;
 use crate::refusal::Refusal;
-use crate::table_record::{Cell, TableRecord};
+use crate::table_record::key_at;
+use crate::table_rubbish::{in_an_instance, past_the_run};
 use crate::transcript::Situation;
 
 use super::kinds::{Cause, Original, Reached, Rubbish, Smaller};
@@ -56,11 +57,9 @@ fn by_passing(now: &Situation, lent: &Lent) -> Vec<Reached> {
     if lent.call.counter >= lent.profile.diversion_limit {
         reached.push(Reached::PassedAtLimit(cause));
     }
-    let looked_at = now.table.cell(&lent.profile, lent.call.key());
-    let empty_but_written =
-        |[service, address @ ..]: &Cell| *service == 0 && address.iter().any(|octet| *octet != 0);
-    if looked_at.is_some_and(empty_but_written) {
-        reached.push(Reached::Rubbish(Rubbish::EmptyCell));
+    let mut uncounted = now.table.uncounted().iter();
+    if cause == Cause::NoInstance && uncounted.any(|place| key_at(place) == lent.call.key()) {
+        reached.push(Reached::Rubbish(Rubbish::LookedFor));
     }
     reached
 }
@@ -118,12 +117,12 @@ fn smaller(lent: &Lent) -> Smaller {
     }
 }
 
-/// Octets past a count, or in cells without an instance.
+/// Octets past a count.
 fn rubbish_lent(now: &Situation, lent: &Lent, record: &[u8]) -> Vec<Reached> {
-    let clean_table = TableRecord::of(&lent.profile, &lent.table);
     kinds_of([
         (now.access != access_record(&lent.profile), Rubbish::Access),
-        (now.table != clean_table, Rubbish::Table),
+        (in_an_instance(&now.table), Rubbish::Instance),
+        (past_the_run(&now.table), Rubbish::PastRun),
         (record != call_record(&lent.call), Rubbish::Call),
     ])
 }

@@ -6,11 +6,11 @@ use crate::call_record::{write_call, CALL_OCTETS};
 use crate::calls::{Call, Diverted, Notice};
 use crate::codes::CFU;
 use crate::dialogues::script::Dialogue;
-use crate::dialogues::words::{held, rubbish_cell, scribbled_access, scribbled_cell, to};
+use crate::dialogues::words::{clean, scribbled, scribbled_access, RUBBISH};
 use crate::onward_record::Carried;
 use crate::profile::Profile;
-use crate::samples::{table, wide_profile};
-use crate::table_record::{cell_place, TableRecord};
+use crate::samples::wide_profile;
+use crate::table_record::TableRecord;
 
 use super::words::{
     diverted, first_call, first_diversion, later_call, later_diversion, passed, talk, talk_on,
@@ -23,7 +23,7 @@ pub fn dialogues() -> Vec<Dialogue> {
         access_past_counts(),
         table_past_counts(),
         number_withheld(),
-        empty_cell(),
+        past_the_run(),
         everywhere(),
     ]
 }
@@ -52,13 +52,9 @@ fn call_past_count() -> Dialogue {
         .calls_octets(scribbled_call(&absent, b'5'), diverted(&handed_on_absent))
 }
 
-/// cfu of the third number's service 42, the profile's sixth.
-const CELL: usize = 6 * 2 + 5;
-
+/// cfu of the third number's service 42.
 fn scribbled_table() -> TableRecord {
-    let mut record = TableRecord::fresh();
-    record.cells[CELL] = scribbled_cell(SERVICE);
-    record
+    TableRecord::holding(0, &[scribbled(CFU, THIRD, SERVICE)])
 }
 
 /// Public type 1 4912345, then rubbish.
@@ -135,16 +131,16 @@ fn number_withheld() -> Dialogue {
     .calls(&option_0, answer(&without_notice))
 }
 
-fn empty_cell() -> Dialogue {
-    let of_speech = held(CFU, THIRD, 1, to("24680"));
-    let mut record = TableRecord::of(&wide_profile(), &table(0, &[of_speech]));
-    record.cells[CELL] = rubbish_cell();
-    record.cells[cell_place(2, 3, 5)] = rubbish_cell();
+/// What the first call looks for is among it.
+fn past_the_run() -> Dialogue {
+    let mut record = TableRecord::holding(0, &[clean(CFU, THIRD, 1)]);
+    record.places[1] = scribbled(CFU, THIRD, SERVICE);
+    record.places[23] = RUBBISH;
     let speech = Call {
         service: 1,
         ..first_call()
     };
-    talk("rubbish in a cell without an instance diverts nothing")
+    talk("what stands past the run's count diverts nothing")
         .record(record)
         .calls(&first_call(), passed())
         .calls(&speech, diverted(&first_diversion()))
@@ -152,9 +148,11 @@ fn empty_cell() -> Dialogue {
 
 fn everywhere() -> Dialogue {
     let parts = [scribbled_redirecting, scribbled_called, scribbled_noticed];
+    let mut record = scribbled_table();
+    record.places[1..].fill(RUBBISH);
     talk("octets past every count of all three records")
         .access(scribbled_access(&wide_profile()))
-        .record(scribbled_table())
+        .record(record)
         .calls_octets(
             scribbled_call(&first_call(), b'9'),
             carrying(&first_diversion(), &parts),

@@ -2,11 +2,12 @@
 
 use crate::access_record::{access_record, ACCESS_OCTETS};
 use crate::calls::Call;
+use crate::dialogues::bad_runs::bad_runs;
 use crate::dialogues::script::Dialogue;
-use crate::dialogues::words::to;
+use crate::dialogues::words::clean;
 use crate::profile::Profile;
 use crate::samples::{table, wide_profile};
-use crate::table_record::{cell, cell_place, TableRecord, DIGIT_COUNT};
+use crate::table_record::{place_of, Place, TableRecord, DIGIT_COUNT};
 
 use super::words::{first_call, forwarded, refused, talk, talk_on};
 
@@ -15,10 +16,11 @@ pub fn dialogues() -> Vec<Dialogue> {
         access_sizes(),
         bad_profile(),
         bad_identifier(),
-        bad_cells(),
+        bad_instances(),
         all_at_once(),
     ];
     all.extend(pairs());
+    all.extend(run_by_run());
     all
 }
 
@@ -57,7 +59,7 @@ fn bad_table() -> TableRecord {
 }
 
 fn good_table() -> TableRecord {
-    TableRecord::of(&wide_profile(), &table(0, &forwarded()))
+    TableRecord::of(&table(0, &forwarded()))
 }
 
 fn bad_identifier() -> Dialogue {
@@ -66,19 +68,30 @@ fn bad_identifier() -> Dialogue {
         .calls(&first_call(), refused(4))
 }
 
-/// cfu of the first number's speech, which the call doesn't look at.
-fn bad_cells() -> Dialogue {
-    let place = cell_place(0, 0, 0);
-    let mut no_digits = good_table();
-    no_digits.cells[place] = cell(1, &to("24680"));
-    no_digits.cells[place][DIGIT_COUNT] = 0;
-    let mut other_service = good_table();
-    other_service.cells[place] = cell(2, &to("24680"));
-    talk("a call with a bad cell it does not look at: refused 4")
-        .record(no_digits)
+/// cfu of the first number, which the call doesn't look at.
+fn bad_instances() -> Dialogue {
+    let before_forwarded = |bad: Place| {
+        let [cfu, cfb, cfnr] = forwarded().each_ref().map(place_of);
+        TableRecord::holding(0, &[bad, cfu, cfb, cfnr])
+    };
+    let mut no_digits = clean(0, 0, 1);
+    no_digits[DIGIT_COUNT] = 0;
+    let other_service = clean(0, 0, 3);
+    talk("a call with a bad instance it does not look at: refused 4")
+        .record(before_forwarded(no_digits))
         .calls(&first_call(), refused(4))
-        .record(other_service)
+        .record(before_forwarded(other_service))
         .calls(&first_call(), refused(4))
+}
+
+fn run_by_run() -> Vec<Dialogue> {
+    let talks = bad_runs().into_iter().map(|(name, runs)| {
+        let talk = talk(&format!("a call with a bad run: {name}: refused 4"));
+        runs.into_iter().fold(talk, |talk, run| {
+            talk.record(run).calls(&first_call(), refused(4))
+        })
+    });
+    talks.collect()
 }
 
 /// Refusal 5: option 3.

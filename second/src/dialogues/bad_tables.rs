@@ -2,20 +2,19 @@
 
 use crate::codes::{CFB, CFU};
 use crate::samples::instance;
-use crate::table::Table;
 use crate::table_record::{
-    cell, cell_place, TableRecord, DIGITS, DIGIT_COUNT, FORM, SUBADDRESS_COUNT, TYPE,
+    place, place_of, Place, TableRecord, DIGITS, DIGIT_COUNT, FORM, SUBADDRESS_COUNT, TYPE,
 };
 
 use super::script::{dialogue, Dialogue};
 use super::words::{
-    all_numbers, interrogation, list, listed, narrow_access, refused, silent, to, to_public,
-    with_subaddress, TWENTY,
+    all_numbers, clean, every_pair, interrogation, list, listed, narrow_access, refused, silent,
+    to, to_public, with_subaddress, TWENTY,
 };
 
 pub fn dialogues() -> Vec<Dialogue> {
     let mut all = vec![bad_identifiers()];
-    all.extend(bad_places());
+    all.extend(not_the_profiles());
     all.extend(bad_octets());
     all.push(nine_instances());
     all.extend(just_good());
@@ -30,46 +29,25 @@ fn refuses(name: &str, records: Vec<TableRecord>) -> Dialogue {
 }
 
 fn bad_identifiers() -> Dialogue {
-    let records = [32_768, 65_535].map(|last| TableRecord {
-        last,
-        ..TableRecord::fresh()
-    });
+    let records = [32_768, 65_535].map(|last| TableRecord::holding(last, &[]));
     refuses("last handled identifier over 32,767", records.to_vec())
 }
 
-/// A good address where the profile has nothing, or has another service.
-fn bad_places() -> Vec<Dialogue> {
-    let places = [
-        ("a procedure not subscribed", cell_place(2, 0, 0), 1),
-        ("a number that the profile has not", cell_place(1, 3, 0), 1),
-        (
-            "a place past the profile's services",
-            cell_place(1, 0, 4),
-            42,
-        ),
+/// A good address, but the profile has no such procedure, number or service.
+fn not_the_profiles() -> Vec<Dialogue> {
+    let alone = |place: &Place| TableRecord::holding(0, &[*place]);
+    // The last one is no service at all.
+    let services = [clean(1, 0, 42), clean(0, 1, 33), clean(0, 2, 6)];
+    let talks: [(_, &[Place]); 3] = [
+        ("a procedure not subscribed", &[clean(2, 0, 1)]),
+        ("a number that the profile has not", &[clean(1, 3, 1)]),
+        ("a service that the profile has not (A5)", &services),
     ];
-    let with = |(place, service): (usize, i32)| {
-        let mut record = TableRecord::fresh();
-        record.cells[place] = cell(service, &to("24680"));
-        record
-    };
-    // Another of the profile's, one not subscribed, and no service at all.
-    let codes = [
-        (cell_place(1, 0, 0), 2),
-        (cell_place(0, 1, 2), 33),
-        (cell_place(0, 2, 3), 6),
-    ];
-    let other_codes = refuses(
-        "a service code that is not the profile's at this place (A5)",
-        codes.map(with).to_vec(),
-    );
-    let talks = places
-        .iter()
-        .map(|(name, place, service)| refuses(name, vec![with((*place, *service))]));
-    talks.chain([other_codes]).collect()
+    let talks = talks.map(|(name, places)| refuses(name, places.iter().map(alone).collect()));
+    talks.into()
 }
 
-/// One octet of a cell changed: its place, and what is put there.
+/// One octet of an instance changed: where it stands, and what is put there.
 const BAD_OCTETS: [(&str, &[(usize, u8)]); 5] = [
     ("a number of another kind or form", &[(FORM, 2), (FORM, 3)]),
     ("public type 5 or 7", &[(TYPE, 5), (TYPE, 7)]),
@@ -88,12 +66,10 @@ const BAD_OCTETS: [(&str, &[(usize, u8)]); 5] = [
 ];
 
 fn bad_octets() -> Vec<Dialogue> {
-    let place = cell_place(1, 1, 1);
     let with = |address, changed: &(usize, u8)| {
-        let mut record = TableRecord::fresh();
-        record.cells[place] = cell(2, &address);
-        record.cells[place][changed.0] = changed.1;
-        record
+        let mut bad = place(CFB, 1, 2, &address);
+        bad[changed.0] = changed.1;
+        TableRecord::holding(0, &[bad])
     };
     let talks = BAD_OCTETS.iter().map(|(name, changes)| {
         let records = changes.iter().map(|one| with(to_public(4, "24680"), one));
@@ -105,25 +81,14 @@ fn bad_octets() -> Vec<Dialogue> {
 }
 
 fn nine_instances() -> Dialogue {
-    let mut record = TableRecord::fresh();
-    for (place, code) in narrow_access().services.iter().enumerate().take(3) {
-        for number in 0..3 {
-            record.cells[cell_place(1, number, place)] = cell(*code, &to("1"));
-        }
-    }
+    let nine = every_pair(CFB, &[0, 1, 2], &[1, 2, 3], "1");
+    let nine: Vec<Place> = nine.iter().map(place_of).collect();
+    let record = TableRecord::holding(0, &nine);
     refuses("nine instances of a procedure", vec![record])
 }
 
 fn just_good() -> Vec<Dialogue> {
-    let eight_of = |procedure| {
-        let cells = [0, 1].map(|number| [1, 2, 3, 32].map(|service| (number, service)));
-        let cells = cells.concat().into_iter();
-        cells.map(move |(number, service)| instance(procedure, number, service, "1"))
-    };
-    let full = Table {
-        last: 32_767,
-        instances: eight_of(CFU).chain(eight_of(CFB)).collect(),
-    };
+    let eight_of = |procedure| every_pair(procedure, &[0, 1], &[1, 2, 3, 32], "1");
     let mut longest = instance(CFB, 2, 32, "1");
     longest.address = with_subaddress(to(TWENTY), &[0; 20]);
     let entry = listed(&narrow_access().numbers[2], &longest);
@@ -132,7 +97,7 @@ fn just_good() -> Vec<Dialogue> {
             "good table: eight of each procedure, last 32,767",
             &narrow_access(),
         )
-        .record(TableRecord::of(&narrow_access(), &full))
+        .table(32_767, &[eight_of(CFU), eight_of(CFB)].concat())
         .hears_hex("A2 00", silent()),
         dialogue(
             "good table: 20 digits, subaddress of 20 octets",

@@ -85,7 +85,7 @@ fn pairs_with_3_0_6() -> Vec<Dialogue> {
             fault(SPEECH, to("999"), served(), code),
         ]
     };
-    // No table holds cfb while it isn't subscribed; twelve cells are too many for a fresh one.
+    // No table holds cfb while it isn't subscribed; twelve pairs are too many for a fresh one.
     let no_room = |code| fault(0, to("24680"), all_numbers(), code);
     let all_later = |code| later(own, code).into_iter().chain([no_room(code)]);
     let name = "before 8, 11, 12, 14, 15 and 11 (room)";

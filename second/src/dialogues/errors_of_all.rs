@@ -9,7 +9,7 @@ use crate::table::Instance;
 use super::guarded::foreign;
 use super::script::{dialogue, Dialogue};
 use super::words::{
-    activation, all_numbers, deactivation, error, individual, interrogation, nine_cells, result,
+    activation, all_numbers, deactivation, error, individual, interrogation, nine_pairs, result,
     to, SPEECH,
 };
 
@@ -56,10 +56,10 @@ fn each_earns(talk: Dialogue, served: &Served, code: i32) -> Dialogue {
 
 fn each_error() -> Vec<Dialogue> {
     let all = all_numbers();
-    let unsubscribed = without_cfb(nine_cells());
+    let unsubscribed = without_cfb(nine_pairs());
     vec![
         each_earns(
-            dialogue("error 3: not in use", &not_in_use(nine_cells())),
+            dialogue("error 3: not in use", &not_in_use(nine_pairs())),
             &all,
             3,
         ),
@@ -69,7 +69,7 @@ fn each_error() -> Vec<Dialogue> {
             0,
         ),
         each_earns(
-            dialogue("error 6: number not in the profile", &nine_cells()),
+            dialogue("error 6: number not in the profile", &nine_pairs()),
             &foreign(),
             6,
         ),
@@ -130,7 +130,7 @@ fn nothing_active() -> Vec<Dialogue> {
     ]
 }
 
-/// Of nine cells: cfu and cfb of the first number's speech, cfb of its service 32, and cfb of the
+/// Of nine pairs: cfu and cfb of the first number's speech, cfb of its service 32, and cfb of the
 /// second number's speech.
 fn four_held() -> [Instance; 4] {
     [
@@ -142,12 +142,12 @@ fn four_held() -> [Instance; 4] {
 }
 
 fn on_four(name: &str) -> Dialogue {
-    dialogue(name, &nine_cells()).table(7, &four_held())
+    dialogue(name, &nine_pairs()).table(7, &four_held())
 }
 
 /// Active instances that a deactivation doesn't select don't save it from 46.
 fn nothing_selected_active() -> Vec<Dialogue> {
-    let access = nine_cells();
+    let access = nine_pairs();
     let [first, second] = [0, 1].map(|at| individual(&access.numbers[at]));
     vec![
         on_four("error 46: active are another procedure, number or service")
@@ -164,7 +164,7 @@ fn nothing_selected_active() -> Vec<Dialogue> {
 }
 
 fn deactivations() -> Vec<Dialogue> {
-    let first = || individual(&nine_cells().numbers[0]);
+    let first = || individual(&nine_pairs().numbers[0]);
     let [of_cfu, _, service_32, of_second] = four_held();
     let all_but_one = [of_cfu.clone(), service_32.clone(), of_second.clone()];
     vec![

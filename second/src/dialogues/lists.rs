@@ -121,8 +121,8 @@ fn longest() -> Dialogue {
         ..wide_profile()
     };
     let address = with_subaddress(to_public(0, TWENTY), &[0xEE; 20]);
-    let cells = [0, 1, 2, 3].map(|number| [41, 42].map(|service| (number, service)));
-    let eight: Vec<Instance> = cells
+    let pairs = [0, 1, 2, 3].map(|number| [41, 42].map(|service| (number, service)));
+    let eight: Vec<Instance> = pairs
         .iter()
         .flatten()
         .map(|(number, service)| held(CFNR, *number, *service, address.clone()))

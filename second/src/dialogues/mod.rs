@@ -1,6 +1,7 @@
 //! Dialogues with the exchange whose replies and tables are stated by hand from document 01.
 
 mod bad_access;
+pub(crate) mod bad_runs;
 mod bad_tables;
 mod dead_places;
 mod edges_of_errors;
@@ -16,6 +17,7 @@ mod refusals;
 mod room;
 mod rows_of_arguments;
 mod rows_of_shape;
+mod run_anew;
 pub(crate) mod script;
 mod selection;
 mod turn;
@@ -44,6 +46,8 @@ pub fn dialogues() -> Vec<Dialogue> {
         bad_access::dialogues(),
         bad_tables::dialogues(),
         dead_places::dialogues(),
+        bad_runs::dialogues(),
+        run_anew::dialogues(),
     ]
     .into_iter()
     .flatten()

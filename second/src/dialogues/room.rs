@@ -8,8 +8,8 @@ use crate::table::Instance;
 
 use super::script::{dialogue, Dialogue};
 use super::words::{
-    activation, all_numbers, deactivation, error, grid, individual, instances, nine_cells, result,
-    to,
+    activation, all_numbers, deactivation, error, every_pair, individual, instances, nine_pairs,
+    result, to,
 };
 
 pub fn dialogues() -> Vec<Dialogue> {
@@ -21,57 +21,57 @@ pub fn dialogues() -> Vec<Dialogue> {
     all
 }
 
-/// Two numbers of four services: eight cells for each procedure.
-fn eight_cells() -> Profile {
+/// Two numbers of four services: eight pairs for each procedure.
+fn eight_pairs() -> Profile {
     Profile {
-        numbers: nine_cells().numbers[..2].to_vec(),
+        numbers: nine_pairs().numbers[..2].to_vec(),
         services: vec![1, 2, 3, 4],
-        ..nine_cells()
+        ..nine_pairs()
     }
 }
 
 fn fits_exactly() -> Vec<Dialogue> {
-    let eight = grid(CFB, &[0, 1], &[1, 2, 3, 4], "9");
+    let eight = every_pair(CFB, &[0, 1], &[1, 2, 3, 4], "9");
     let everything = activation(CFB, 0, to("9"), all_numbers());
     let some = instances(CFB, &[(0, 1), (0, 4), (1, 2)], "1");
     vec![
-        dialogue("all services, all numbers: 8 fit exactly", &eight_cells())
+        dialogue("all services, all numbers: 8 fit exactly", &eight_pairs())
             .asks(1, &everything, result(1))
             .then_holds(1, &eight),
         dialogue(
             "all services, all numbers: replacing existing ones does not count twice",
-            &eight_cells(),
+            &eight_pairs(),
         )
         .table(0, &some)
         .asks(1, &everything, result(1))
         .then_holds(1, &eight)
         .asks(2, &activation(CFB, 0, to("8"), all_numbers()), result(2))
-        .then_holds(2, &grid(CFB, &[0, 1], &[1, 2, 3, 4], "8")),
+        .then_holds(2, &every_pair(CFB, &[0, 1], &[1, 2, 3, 4], "8")),
     ]
 }
 
 fn one_too_many() -> Vec<Dialogue> {
     let everything = activation(CFB, 0, to("9"), all_numbers());
     let some = instances(CFB, &[(0, 1), (2, 32)], "1");
-    let six = grid(CFB, &[0, 1], &[1, 3, 32], "1");
-    let third = individual(&nine_cells().numbers[2]);
+    let six = every_pair(CFB, &[0, 1], &[1, 3, 32], "1");
+    let third = individual(&nine_pairs().numbers[2]);
     vec![
         dialogue(
             "all services, all numbers: 9 are one too many, nothing is kept",
-            &nine_cells(),
+            &nine_pairs(),
         )
         .asks(1, &everything, error(1, 11))
         .then_last(1),
         dialogue(
             "all services, all numbers: one too many, older addresses stay",
-            &nine_cells(),
+            &nine_pairs(),
         )
         .table(0, &some)
         .asks(1, &everything, error(1, 11))
         .then_last(1),
         dialogue(
             "all services of one number: 9 afterwards, none is kept",
-            &nine_cells(),
+            &nine_pairs(),
         )
         .table(0, &six)
         .asks(1, &activation(CFB, 0, to("9"), third), error(1, 11))
@@ -79,12 +79,12 @@ fn one_too_many() -> Vec<Dialogue> {
     ]
 }
 
-/// The table grows cell by cell to 8; the ninth is refused, and welcome once one is gone.
+/// The table grows one by one to 8; the ninth is refused, and welcome once one is gone.
 fn number_by_number() -> Dialogue {
-    let access = nine_cells();
+    let access = nine_pairs();
     let one = |service, number: &Number| activation(CFU, service, to("9"), individual(number));
     let [first, second, third] = [0, 1, 2].map(|at| &access.numbers[at]);
-    let six = grid(CFU, &[0, 1], &[1, 3, 32], "9");
+    let six = every_pair(CFU, &[0, 1], &[1, 3, 32], "9");
     let seven = [&six[..], &instances(CFU, &[(2, 1)], "9")].concat();
     let eight = [&seven[..], &instances(CFU, &[(2, 32)], "9")].concat();
     let moved = [&eight[1..], &instances(CFU, &[(2, 3)], "9")].concat();
@@ -107,10 +107,10 @@ fn number_by_number() -> Dialogue {
         .then_holds(8, &moved)
 }
 
-/// Every cell of cfb but service 32 of the third number.
+/// Every pair of cfb but service 32 of the third number.
 fn eight() -> Vec<Instance> {
-    let of_first_two = grid(CFB, &[0, 1], &[1, 3, 32], "1");
-    [of_first_two, grid(CFB, &[2], &[1, 3], "1")].concat()
+    let of_first_two = every_pair(CFB, &[0, 1], &[1, 3, 32], "1");
+    [of_first_two, every_pair(CFB, &[2], &[1, 3], "1")].concat()
 }
 
 /// The eight with some of them forwarded to 9.
@@ -124,9 +124,9 @@ fn eight_with(replaced: fn(&Instance) -> bool) -> Vec<Instance> {
 }
 
 fn replacing() -> Vec<Dialogue> {
-    let [first, third] = [0, 2].map(|at| individual(&nine_cells().numbers[at]));
+    let [first, third] = [0, 2].map(|at| individual(&nine_pairs().numbers[at]));
     let ask = |service, served| activation(CFB, service, to("9"), served);
-    let talk = |name| dialogue(name, &nine_cells()).table(0, &eight());
+    let talk = |name| dialogue(name, &nine_pairs()).table(0, &eight());
     vec![
         talk("8 held: one replaced")
             .asks(1, &ask(3, third.clone()), result(1))
@@ -147,8 +147,8 @@ fn replacing() -> Vec<Dialogue> {
 
 fn each_procedure_by_itself() -> Dialogue {
     let all_of = |procedure| activation(procedure, 0, to("9"), all_numbers());
-    let of = |procedure| grid(procedure, &[0, 1], &[1, 2, 3, 4], "9");
-    dialogue("8 for each procedure: 24 in all", &eight_cells())
+    let of = |procedure| every_pair(procedure, &[0, 1], &[1, 2, 3, 4], "9");
+    dialogue("8 for each procedure: 24 in all", &eight_pairs())
         .asks(1, &all_of(CFNR), result(1))
         .then_holds(1, &of(CFNR))
         .asks(2, &all_of(CFU), result(2))

@@ -20,8 +20,6 @@ use super::turn::{Line, Turn};
 pub struct Dialogue {
     pub name: String,
     pub turns: Vec<Turn>,
-    /// Says where the services of the tables stated stand.
-    profile: Profile,
     now: Situation,
 }
 
@@ -33,17 +31,20 @@ pub fn dialogue(name: impl Into<String>, profile: &Profile) -> Dialogue {
     let start = Dialogue {
         name: name.into(),
         turns: Vec::new(),
-        profile: profile.clone(),
         now: Situation::at_the_start(),
     };
     start.moves_to(profile)
 }
 
+/// In whatever order they are stated, the record holds them in its own.
+fn stated_table(last: i32, instances: &[Instance]) -> TableRecord {
+    TableRecord::of(&table(last, instances))
+}
+
 /// What there is from now on.
 impl Dialogue {
     /// Another profile, while the table stays.
-    pub fn moves_to(mut self, profile: &Profile) -> Self {
-        self.profile = profile.clone();
+    pub fn moves_to(self, profile: &Profile) -> Self {
         self.access(access_record(profile))
     }
 
@@ -53,12 +54,7 @@ impl Dialogue {
     }
 
     pub fn table(self, last: i32, instances: &[Instance]) -> Self {
-        let record = self.stated_table(last, instances);
-        self.record(record)
-    }
-
-    fn stated_table(&self, last: i32, instances: &[Instance]) -> TableRecord {
-        TableRecord::of(&self.profile, &table(last, instances))
+        self.record(stated_table(last, instances))
     }
 
     pub fn record(mut self, record: TableRecord) -> Self {
@@ -106,8 +102,7 @@ impl Dialogue {
 
     /// The table the latest component leaves.
     pub fn then_holds(self, last: i32, instances: &[Instance]) -> Self {
-        let record = self.stated_table(last, instances);
-        self.then_record(record)
+        self.then_record(stated_table(last, instances))
     }
 
     /// The latest component moves the last handled identifier and nothing else.
@@ -154,7 +149,7 @@ impl Dialogue {
 
     /// The sheet gives this table, which is the one there is from now on.
     pub fn reads(self, sheet: &str, last: i32, instances: &[Instance]) -> Self {
-        let read = self.stated_table(last, instances);
+        let read = stated_table(last, instances);
         let line = SheetLine::Read(octets(sheet), Ok(Box::new(read.clone())));
         self.sheet(line).record(read)
     }

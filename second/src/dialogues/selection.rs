@@ -13,7 +13,7 @@ use crate::transcript::Said;
 use super::script::{dialogue, Dialogue};
 use super::words::{
     activation, all_numbers, deactivation, error, individual, interrogation, invoke_with, list,
-    listed, nine_cells, reject, result, to, SPEECH,
+    listed, nine_pairs, reject, result, to, SPEECH,
 };
 
 pub fn dialogues() -> Vec<Dialogue> {
@@ -173,7 +173,7 @@ fn msn_with_one_number() -> Dialogue {
         .asks(3, &of_cfu(individual(&Number::unknown("101"))), error(3, 6))
 }
 
-/// Of nine cells: cfb of the first number's service 3 and the second's, cfu of the second's.
+/// Of nine pairs: cfb of the first number's service 3 and the second's, cfu of the second's.
 fn three_held() -> [Instance; 3] {
     [
         instance(CFB, 0, 3, "2"),
@@ -183,11 +183,11 @@ fn three_held() -> [Instance; 3] {
 }
 
 fn on_three(name: &str) -> Dialogue {
-    dialogue(name, &nine_cells()).table(0, &three_held())
+    dialogue(name, &nine_pairs()).table(0, &three_held())
 }
 
 fn second_number() -> Served {
-    individual(&nine_cells().numbers[1])
+    individual(&nine_pairs().numbers[1])
 }
 
 fn activations() -> Vec<Dialogue> {
@@ -231,7 +231,7 @@ fn unsubscribed_service() -> Dialogue {
 }
 
 fn each_procedure() -> Dialogue {
-    let third = individual(&nine_cells().numbers[2]);
+    let third = individual(&nine_pairs().numbers[2]);
     let after = [&three_held()[..], &[instance(CFNR, 2, 1, "9")]].concat();
     on_three("each procedure by itself")
         .asks(1, &activation(CFNR, 1, to("9"), third), result(1))

@@ -10,7 +10,7 @@ use crate::request::{Request, Served, TAG_INVOKE};
 use crate::samples::{self, instance, sample_profile, wide_profile};
 use crate::table::Instance;
 use crate::table_record::{
-    cell, Cell, TableRecord, CELL_OCTETS, DIGITS, SUBADDRESS, SUBADDRESS_COUNT,
+    place, Place, TableRecord, DIGITS, PLACE_OCTETS, SUBADDRESS, SUBADDRESS_COUNT,
 };
 use crate::transcript::Said;
 
@@ -86,20 +86,25 @@ pub fn held(procedure: i32, number: i32, service: i32, address: Address) -> Inst
 }
 
 /// Instances of one procedure for these numbers and services, each to the same digits.
-pub fn instances(procedure: i32, cells: &[(i32, i32)], digits: &str) -> Vec<Instance> {
-    let cells = cells.iter();
-    cells
+pub fn instances(procedure: i32, pairs: &[(i32, i32)], digits: &str) -> Vec<Instance> {
+    let pairs = pairs.iter();
+    pairs
         .map(|(number, service)| instance(procedure, *number, *service, digits))
         .collect()
 }
 
 /// Every number with each of these services.
-pub fn grid(procedure: i32, numbers: &[i32], services: &[i32], digits: &str) -> Vec<Instance> {
-    let cells: Vec<(i32, i32)> = numbers
+pub fn every_pair(
+    procedure: i32,
+    numbers: &[i32],
+    services: &[i32],
+    digits: &str,
+) -> Vec<Instance> {
+    let pairs: Vec<(i32, i32)> = numbers
         .iter()
         .flat_map(|number| services.iter().map(|service| (*number, *service)))
         .collect();
-    instances(procedure, &cells, digits)
+    instances(procedure, &pairs, digits)
 }
 
 pub fn activation(procedure: i32, service: i32, address: Address, served: Served) -> Request {
@@ -184,9 +189,9 @@ pub fn open_access() -> Profile {
     }
 }
 
-/// MSN with the "all numbers" option, three numbers, services 1, 3 and 32: nine cells for each
+/// MSN with the "all numbers" option, three numbers, services 1, 3 and 32: nine pairs for each
 /// procedure, one more than it may have instances. Counted.
-pub fn nine_cells() -> Profile {
+pub fn nine_pairs() -> Profile {
     Profile {
         numbers: vec![
             Number::unknown("501"),
@@ -216,20 +221,21 @@ pub fn scribbled_access(profile: &Profile) -> Vec<u8> {
     record
 }
 
-/// An instance of this service to 24680 with rubbish past both counts.
-pub fn scribbled_cell(service: i32) -> Cell {
-    let mut cell = cell(service, &to("24680"));
-    cell[DIGITS + 5..SUBADDRESS_COUNT].fill(0xEE);
-    cell[SUBADDRESS..].fill(0x3A);
-    cell
+/// The place of an instance to 24680, with zeros past both counts.
+pub fn clean(procedure: i32, number: i32, service: i32) -> Place {
+    place(procedure, number, service, &to("24680"))
 }
 
-/// No instance, but rubbish in the address.
-pub fn rubbish_cell() -> Cell {
-    let mut cell = [0xDD; CELL_OCTETS];
-    cell[0] = 0;
-    cell
+/// The same with rubbish past both counts.
+pub fn scribbled(procedure: i32, number: i32, service: i32) -> Place {
+    let mut place = clean(procedure, number, service);
+    place[DIGITS + 5..SUBADDRESS_COUNT].fill(0xEE);
+    place[SUBADDRESS..].fill(0x3A);
+    place
 }
+
+/// A place that no rule would let an instance be in.
+pub const RUBBISH: Place = [0xDD; PLACE_OCTETS];
 
 /// Its last handled identifier is one too many.
 pub fn bad_table() -> TableRecord {

@@ -3,14 +3,15 @@
 
 mod makings;
 mod reached;
+mod run;
 
 use crate::access_record::access_record;
 use crate::cases::Cases;
 use crate::codes::{place, PROCEDURES};
 use crate::made;
 use crate::profile::Profile;
-use crate::records_at_random::{access, table};
-use crate::refusal::COMPONENT_OUTPUT;
+use crate::records_at_random::{access, scribble, table};
+use crate::refusal::{Refusal, COMPONENT_OUTPUT};
 use crate::table::{Table, MOST_INSTANCES};
 use crate::table_record::TableRecord;
 use crate::tally::Tally;
@@ -24,11 +25,12 @@ pub fn exchange_cases(seed: u64, count: u64) -> Cases<Tally<Reached>> {
     let mut cases = Cases::to_make(seed, count, Tally::of(&KINDS));
     while cases.left > 0 {
         // Refused episodes are short, so that most cases get past the refusals.
-        match cases.random.below(12) {
+        match cases.random.below(14) {
             0..=5 => cases.refused_episode(),
             6..=9 => cases.mixed_episode(),
             10 => cases.growing_episode(),
-            _ => cases.swept_episode(),
+            11 => cases.swept_episode(),
+            _ => cases.flawed_episode(),
         }
     }
     cases
@@ -58,6 +60,17 @@ impl Cases<Tally<Reached>> {
         }
     }
 
+    /// Tables with a flaw one after the other, each with a component.
+    fn flawed_episode(&mut self) {
+        let profile = made::profile(&mut self.random);
+        let mut situation = self.good_situation(&profile);
+        for _ in 0..5 {
+            self.spoil(&mut situation, &profile, 4, &[]);
+            self.lines.bring_about(&situation);
+            self.any_component(&profile);
+        }
+    }
+
     /// Components of every making, one after the other.
     fn mixed_episode(&mut self) {
         let profile = made::profile(&mut self.random);
@@ -77,7 +90,8 @@ impl Cases<Tally<Reached>> {
         self.case(profile, making, &component);
     }
 
-    /// One procedure of a wide access, until there is no room.
+    /// One procedure of a wide access, until there is no room; at times with new rubbish in what
+    /// is held, and past it.
     fn growing_episode(&mut self) {
         let mut profile = made::profile(&mut self.random);
         while profile.numbers.len() * profile.services.len() <= MOST_INSTANCES {
@@ -92,6 +106,11 @@ impl Cases<Tally<Reached>> {
         situation.table = table(&mut self.random, &profile, &Table::fresh());
         self.lines.bring_about(&situation);
         for _ in 0..30 {
+            if self.random.once_in(4) {
+                let mut scribbled = self.lines.now().clone();
+                scribble(&mut self.random, &profile, &mut scribbled.table);
+                self.lines.bring_about(&scribbled);
+            }
             let last = i32::from(self.lines.now().table.last);
             let (making, component) = makings::growing(&mut self.random, &profile, procedure, last);
             self.case(&profile, making, &component);
@@ -122,13 +141,16 @@ impl Cases<Tally<Reached>> {
         if let Ok((arrived, next)) = &outcome {
             let past_counts = now.access != access_record(profile);
             reached.extend(past_counts.then_some(Reached::AccessRubbish));
-            let kept = *next != TableRecord::of(profile, &arrived.next);
-            reached.extend(kept.then_some(Reached::TableRubbish));
+            let run = run::by(&now.table, arrived, next);
+            reached.extend(run.into_iter().map(Reached::Run));
         }
         for kind in reached {
             self.tally.add(kind, 1);
         }
-        let (said, next) = now.said(outcome);
+        if outcome == Err(Refusal::BadRecord) {
+            self.table_refused();
+        }
+        let (said, next) = self.lines.now().said(outcome);
         self.lines.component(component, &said, &next);
     }
 }

@@ -13,6 +13,7 @@ use crate::table::{count, MOST_INSTANCES};
 use crate::transcript::Outcome;
 
 use super::makings::Making;
+use super::run::Run;
 
 #[derive(Clone, Copy, Debug, PartialEq, Eq)]
 pub enum Reached {
@@ -32,9 +33,9 @@ pub enum Reached {
     Replied(Kind),
     Output(usize),
     Made(Making),
-    /// Octets that carry no meaning stood in the access record, or in the next table.
+    /// Octets that carry no meaning stood in the access record.
     AccessRubbish,
-    TableRubbish,
+    Run(Run),
     /// The next table holds eight of a procedure.
     Eight,
 }
@@ -48,7 +49,7 @@ pub enum Kind {
     List,
 }
 
-pub const KINDS: [(Reached, &str); 65] = [
+pub const KINDS: [(Reached, &str); 71] = [
     (Reached::Refusal(1), "refusal 1"),
     (Reached::Refusal(2), "refusal 2"),
     (Reached::Refusal(3), "refusal 3"),
@@ -157,7 +158,34 @@ pub const KINDS: [(Reached, &str); 65] = [
     (Reached::Made(Making::Sized(1_025)), "made: 1,025 octets"),
     (Reached::Made(Making::Sized(1_026)), "made: 1,026 octets"),
     (Reached::AccessRubbish, "rubbish in the access record"),
-    (Reached::TableRubbish, "rubbish in the next table"),
+    (
+        Reached::Run(Run::MovedByActivation),
+        "run anew: an activation moves instances",
+    ),
+    (
+        Reached::Run(Run::MovedByDeactivation),
+        "run anew: a deactivation moves instances",
+    ),
+    (
+        Reached::Run(Run::RubbishStays),
+        "run anew: rubbish in an instance stays",
+    ),
+    (
+        Reached::Run(Run::RubbishReplaced),
+        "run anew: rubbish in an instance replaced",
+    ),
+    (
+        Reached::Run(Run::RubbishCleared),
+        "run anew: rubbish past the count cleared",
+    ),
+    (
+        Reached::Run(Run::RubbishKept),
+        "run kept: rubbish in an instance",
+    ),
+    (
+        Reached::Run(Run::RubbishKeptPastCount),
+        "run kept: rubbish past the count",
+    ),
     (Reached::Eight, "eight instances of a procedure"),
 ];
 

@@ -1,14 +1,13 @@
 //! Sheets of a good table with one fault, and so refused 9 for certain.
 
-use crate::codes::{PROCEDURES, SERVICES};
+use crate::flawed_table::{first_difference, not_the_profiles};
+use crate::full_tables::nine_of_a_procedure;
 use crate::made;
-use crate::profile::{Profile, MOST_NUMBERS};
+use crate::profile::Profile;
 use crate::random::Random;
 use crate::sheet::written;
 use crate::sheet_fields::{Field, InstanceFields, SheetFields};
-use crate::table::{Table, MOST_INSTANCES};
 
-use super::cells::instances_of;
 use super::faults::{Fault, FAULTS};
 use super::miscoded;
 
@@ -45,7 +44,9 @@ pub fn with(random: &mut Random, profile: &Profile, fault: Fault) -> Option<Vec<
             sheet.count = random.below(sheet.instances.len()) as u64;
         }
         Fault::CountTooLarge => sheet.count += random.one_of(&[1, 2, 24, 128, 256, 65_536]),
-        Fault::NineOfAProcedure => sheet = SheetFields::of(&nine(random, profile, table)?),
+        Fault::NineOfAProcedure => {
+            sheet = SheetFields::of(&nine_of_a_procedure(random, profile, &table)?);
+        }
         Fault::EqualNeighbours | Fault::Descends(_) => misorder(random, &mut sheet, fault)?,
         _ => {
             let at = random.below(sheet.instances.len());
@@ -124,39 +125,22 @@ fn leave_profile(
     one: &mut InstanceFields,
     field: Field,
 ) -> Option<()> {
-    let (place, others): (&mut u64, Vec<i32>) = match field {
-        Field::Procedure => {
-            let others = PROCEDURES
-                .into_iter()
-                .filter(|code| !profile.subscribes(*code));
-            (&mut one.procedure, others.collect())
-        }
-        Field::Index => {
-            let others = profile.numbers.len()..MOST_NUMBERS;
-            (&mut one.index, others.map(|index| index as i32).collect())
-        }
-        _ => {
-            let others = SERVICES
-                .into_iter()
-                .filter(|code| !profile.has_service(*code));
-            (&mut one.service, others.collect())
-        }
+    let value = match field {
+        Field::Procedure => &mut one.procedure,
+        Field::Index => &mut one.index,
+        _ => &mut one.service,
     };
-    *place = random.pick(&others)?.unsigned_abs().into();
+    let others = not_the_profiles(profile, field);
+    *value = random.pick(&others)?.unsigned_abs().into();
     Some(())
 }
 
 /// Neighbours made equal, or swapped where this field is the first in which they differ. Their
 /// order towards the others stays right.
 fn misorder(random: &mut Random, sheet: &mut SheetFields, fault: Fault) -> Option<()> {
-    let differ = |pair: &[InstanceFields]| {
-        let (former, latter) = (pair[0].key(), pair[1].key());
-        match fault {
-            Fault::Descends(Field::Procedure) => former.0 != latter.0,
-            Fault::Descends(Field::Index) => former.0 == latter.0 && former.1 != latter.1,
-            Fault::Descends(_) => former.0 == latter.0 && former.1 == latter.1,
-            _ => true,
-        }
+    let differ = |pair: &[InstanceFields]| match fault {
+        Fault::Descends(field) => first_difference(pair[0].key(), pair[1].key()) == Some(field),
+        _ => true,
     };
     let pairs = sheet.instances.windows(2).enumerate();
     let places: Vec<usize> = pairs
@@ -172,12 +156,4 @@ fn misorder(random: &mut Random, sheet: &mut SheetFields, fault: Fault) -> Optio
         sheet.instances.swap(at, at + 1);
     }
     Some(())
-}
-
-fn nine(random: &mut Random, profile: &Profile, mut table: Table) -> Option<Table> {
-    let procedure = random.one_of(&PROCEDURES);
-    let nine = instances_of(random, profile, procedure, MOST_INSTANCES + 1)?;
-    table.instances.retain(|held| held.procedure != procedure);
-    table.instances.extend(nine);
-    profile.subscribes(procedure).then_some(table)
 }

@@ -1,6 +1,7 @@
 //! The ways a sheet is made for a case.
 
 use crate::codes::SERVICES;
+use crate::full_tables::longest_table;
 use crate::made;
 use crate::numbers::Number;
 use crate::profile::Profile;
@@ -8,7 +9,6 @@ use crate::random::Random;
 use crate::sheet::{groups, written};
 use crate::sheet_fields::{Field, SheetFields};
 
-use super::cells::longest_table;
 use super::faults::Fault;
 use super::faulty;
 

@@ -1,7 +1,6 @@
 //! Cases of night sheets made at random from a seed, as lines with the answers of this program's
 //! sheets, and a tally of what they reached.
 
-mod cells;
 pub mod faults;
 pub mod faulty;
 mod makings;
@@ -10,15 +9,15 @@ mod reached;
 mod sheet_tally;
 
 use crate::cases::Cases;
+use crate::full_tables::longest_table;
 use crate::listing::LONGEST_LISTING;
 use crate::made;
 use crate::profile::Profile;
 use crate::records_at_random::{access, table};
-use crate::refusal::SHEET_OUTPUT;
+use crate::refusal::{Refusal, SHEET_OUTPUT};
 use crate::sheet_line::SheetLine;
 use crate::transcript::Situation;
 
-use cells::longest_table;
 use faults::Fault;
 use makings::{Made, Making};
 
@@ -28,11 +27,12 @@ pub use sheet_tally::SheetTally;
 pub fn sheet_cases(seed: u64, count: u64) -> Cases<SheetTally> {
     let mut cases = Cases::to_make(seed, count, SheetTally::empty());
     while cases.left > 0 {
-        match cases.random.below(20) {
+        match cases.random.below(26) {
             0..=5 => cases.written_episode(),
             6..=11 => cases.refused_episode(),
             12..=18 => cases.sheets_episode(),
-            _ => cases.swept_episode(),
+            19 => cases.swept_episode(),
+            _ => cases.flawed_episode(),
         }
     }
     cases
@@ -77,6 +77,17 @@ impl Cases<SheetTally> {
         self.write();
         let sheet = makings::any(&mut self.random, &profile);
         self.read_and_list(&sheet);
+    }
+
+    /// Tables with a flaw are to be written, one after the other.
+    fn flawed_episode(&mut self) {
+        let profile = made::profile(&mut self.random);
+        let mut situation = self.good_situation(&profile);
+        for _ in 0..5 {
+            self.spoil(&mut situation, &profile, 4, &[]);
+            self.lines.bring_about(&situation);
+            self.write();
+        }
     }
 
     /// Sheets of every making, and last the table they have left is written.
@@ -144,6 +155,9 @@ impl Cases<SheetTally> {
             return;
         }
         self.tally.add(self.lines.now(), line);
+        if *line == SheetLine::Write(Err(Refusal::BadRecord.number())) {
+            self.table_refused();
+        }
         if let Some(making) = making {
             self.tally.add_making(making, line);
         }

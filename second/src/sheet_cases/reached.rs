@@ -8,7 +8,7 @@ use crate::sheet::read_form;
 use crate::sheet_fields::Field;
 use crate::sheet_line::SheetLine;
 use crate::table::{count, Table, MOST_INSTANCES};
-use crate::table_record::TableRecord;
+use crate::table_rubbish::{in_an_instance, past_the_run};
 use crate::transcript::Situation;
 
 use super::makings::Making;
@@ -22,9 +22,11 @@ pub enum Reached {
     /// A sheet as long as any.
     LongestWritten,
     Made(Making),
-    /// Octets that carry no meaning stood in the access record or the table, and it was written.
+    /// Octets that carry no meaning stood in the access record, past an instance's counts or past
+    /// the run's, and the table was written.
     AccessRubbish,
-    TableRubbish,
+    InstanceRubbish,
+    RubbishPastRun,
 }
 
 #[derive(Clone, Copy, Debug, PartialEq, Eq)]
@@ -42,7 +44,7 @@ pub enum Size {
 }
 
 /// The causes of refusal 9 are counted apart.
-pub const KINDS: [(Reached, &str); 43] = [
+pub const KINDS: [(Reached, &str); 44] = [
     (Reached::Answered(Line::Write), "write: wrote"),
     (Reached::Refused(Line::Write, 1), "write: refused 1"),
     (Reached::Refused(Line::Write, 3), "write: refused 3"),
@@ -85,7 +87,11 @@ pub const KINDS: [(Reached, &str); 43] = [
     ),
     (Reached::LongestWritten, "written: sheet of 1,613 octets"),
     (Reached::AccessRubbish, "written: rubbish in the access"),
-    (Reached::TableRubbish, "written: rubbish in the table"),
+    (Reached::InstanceRubbish, "written: rubbish in an instance"),
+    (
+        Reached::RubbishPastRun,
+        "written: rubbish past the run's count",
+    ),
     (Reached::Made(Making::Good), "made: good sheet"),
     (Reached::Made(Making::Longest), "made: longest sheet"),
     (
@@ -187,9 +193,8 @@ fn rubbish(now: &Situation) -> Vec<Reached> {
     if let Ok(profile) = now.profile() {
         let past_counts = now.access != access_record(&profile);
         reached.extend(past_counts.then_some(Reached::AccessRubbish));
-        let table = now.table.read(&profile);
-        let kept = table.is_ok_and(|table| TableRecord::of(&profile, &table) != now.table);
-        reached.extend(kept.then_some(Reached::TableRubbish));
     }
+    reached.extend(in_an_instance(&now.table).then_some(Reached::InstanceRubbish));
+    reached.extend(past_the_run(&now.table).then_some(Reached::RubbishPastRun));
     reached
 }

@@ -2,8 +2,8 @@
 //! the table it gives has zeros there.
 
 use crate::dialogues::script::Dialogue;
-use crate::dialogues::words::{rubbish_cell, scribbled_access, scribbled_cell};
-use crate::table_record::{cell_place, TableRecord};
+use crate::dialogues::words::{clean, scribbled, scribbled_access, RUBBISH};
+use crate::table_record::TableRecord;
 
 use super::words::{access, sample_instance, sheet_dialogue, SAMPLE};
 
@@ -21,12 +21,12 @@ pub fn dialogues() -> Vec<Dialogue> {
     ]
 }
 
-/// The sample's instance with rubbish past both counts, and rubbish in cells without an instance.
+/// The sample's instance with rubbish past both counts, and rubbish past the run's: one place of it
+/// would be an instance.
 fn scribbled_table() -> TableRecord {
-    let mut table = TableRecord::fresh();
-    table.last = 2;
-    table.cells[cell_place(0, 0, 0)] = rubbish_cell();
-    table.cells[cell_place(1, 0, 0)] = scribbled_cell(1);
-    table.cells[cell_place(2, 3, 5)] = rubbish_cell();
+    let mut table = TableRecord::holding(2, &[scribbled(1, 0, 1)]);
+    table.places[1] = RUBBISH;
+    table.places[2] = clean(1, 0, 2);
+    table.places[23] = RUBBISH;
     table
 }

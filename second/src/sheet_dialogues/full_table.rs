@@ -9,7 +9,7 @@ use crate::table::Instance;
 use super::words::{access, sheet_dialogue};
 
 /// Number index and service of eight instances of each procedure, ascending.
-const CELLS: [(i32, i32); 8] = [
+const PAIRS: [(i32, i32); 8] = [
     (0, 1),
     (0, 42),
     (1, 2),
@@ -54,7 +54,7 @@ pub fn dialogues() -> Vec<Dialogue> {
 fn each<T>(made: impl Fn(i32, i32, i32) -> T) -> Vec<T> {
     let places = PROCEDURES
         .iter()
-        .flat_map(|procedure| CELLS.map(|(number, service)| (*procedure, number, service)));
+        .flat_map(|procedure| PAIRS.map(|(number, service)| (*procedure, number, service)));
     places
         .map(|(procedure, number, service)| made(procedure, number, service))
         .collect()

@@ -1,12 +1,13 @@
 //! Writing refused 1, 3 and 4, lowest number first; the table stays.
 
 use crate::codes::{CFB, PROCEDURES};
+use crate::dialogues::bad_runs::bad_runs;
 use crate::dialogues::script::Dialogue;
-use crate::dialogues::words::{bad_table, grid, nine_cells, to};
+use crate::dialogues::words::{bad_table, clean, every_pair, nine_pairs};
 use crate::profile::Profile;
 use crate::samples::instance;
 use crate::table_record::{
-    cell, cell_place, TableRecord, DIGITS, DIGIT_COUNT, FORM, SUBADDRESS_COUNT, TYPE,
+    TableRecord, DIGITS, DIGIT_COUNT, FORM, SERVICE, SUBADDRESS_COUNT, TYPE,
 };
 
 use super::words::{access, sample_instance, sheet_dialogue, SAMPLE};
@@ -17,6 +18,8 @@ pub fn dialogues() -> Vec<Dialogue> {
     all.push(another_profile());
     all.push(nine_instances());
     all.extend(lowest_first());
+    all.extend(run_by_run());
+    all.push(service_elsewhere());
     all
 }
 
@@ -49,9 +52,9 @@ fn bad_accesses() -> Dialogue {
         .writes(SAMPLE)
 }
 
-/// One octet of the sample's cell changed: its place, and what is put there.
+/// One octet of the sample's instance changed: where it stands, and what is put there.
 const BAD_OCTETS: [(&str, usize, u8); 8] = [
-    ("a service that the profile has elsewhere (A5)", 0, 2),
+    ("a service that the profile has not (A5)", SERVICE, 3),
     ("a number of another kind", FORM, 2),
     ("an unknown number with a type (A7)", TYPE, 1),
     ("a number without digits", DIGIT_COUNT, 0),
@@ -67,12 +70,10 @@ fn bad_tables() -> Vec<Dialogue> {
             .record(record)
             .write_refused(4)
     };
-    let octets = BAD_OCTETS.iter().map(|(name, place, octet)| {
-        let mut record = TableRecord::fresh();
-        let held = &mut record.cells[cell_place(1, 0, 0)];
-        *held = cell(1, &to("24680"));
-        held[*place] = *octet;
-        refused(name, record)
+    let octets = BAD_OCTETS.iter().map(|(name, at, octet)| {
+        let mut held = clean(1, 0, 1);
+        held[*at] = *octet;
+        refused(name, TableRecord::holding(0, &[held]))
     });
     let late = refused("last handled identifier over 32,767", bad_table());
     octets.chain([late]).collect()
@@ -111,13 +112,41 @@ fn another_profile() -> Dialogue {
         .writes(sheet)
 }
 
-/// `nine_cells` has three numbers and services 1, 3 and 32.
+/// `nine_pairs` has three numbers and services 1, 3 and 32.
 fn nine_instances() -> Dialogue {
-    let talk = sheet_dialogue("nine instances of a procedure: refused 4", &nine_cells());
+    let talk = sheet_dialogue("nine instances of a procedure: refused 4", &nine_pairs());
     PROCEDURES.iter().fold(talk, |talk, procedure| {
-        let nine = grid(*procedure, &[0, 1, 2], &[1, 3, 32], "1");
+        let nine = every_pair(*procedure, &[0, 1, 2], &[1, 3, 32], "1");
         talk.table(0, &nine).write_refused(4)
     })
+}
+
+fn run_by_run() -> Vec<Dialogue> {
+    let talks = bad_runs().into_iter().map(|(name, runs)| {
+        let talk = sheet_dialogue(format!("run bad: {name}: refused 4"), &access());
+        runs.into_iter()
+            .fold(talk, |talk, run| talk.record(run).write_refused(4))
+    });
+    talks.collect()
+}
+
+/// A table holds the service's code, wherever the profile has it.
+fn service_elsewhere() -> Dialogue {
+    let sheet = "01 00 01 01 00 05 00 00 05 02 04 06 08 00 00";
+    let talk = sheet_dialogue(
+        "a service that another profile has elsewhere (A5)",
+        &access(),
+    )
+    .table(0, &[instance(CFB, 0, 5, "24680")]);
+    [vec![1, 2, 5], vec![5], vec![1, 3, 4, 5, 42]]
+        .into_iter()
+        .fold(talk, |talk, services| {
+            let other = Profile {
+                services,
+                ..access()
+            };
+            talk.moves_to(&other).writes(sheet)
+        })
 }
 
 fn lowest_first() -> Vec<Dialogue> {

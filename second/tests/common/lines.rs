@@ -47,12 +47,55 @@ pub fn sizes_hold(lines: &Transcript, most: usize) {
     assert!(all.all(|line| line.len() <= 7_000));
 }
 
+/// The last handled identifier, the count, and places of 47 octets, at most 24.
+fn is_a_table(octets: usize) -> bool {
+    octets
+        .checked_sub(3)
+        .is_some_and(|run| run.is_multiple_of(47) && run / 47 <= 24)
+}
+
+/// Words and sizes that the format allows; octets are two digits each. What is printed of a table
+/// doesn't end with a place of zeros.
+pub fn format_holds(lines: &Transcript) {
+    let octets = |hex: &str| {
+        let digits = hex
+            .bytes()
+            .all(|one| one.is_ascii_digit() || (b'A'..=b'F').contains(&one));
+        (digits && hex.len().is_multiple_of(2)).then_some(hex.len() / 2)
+    };
+    let at_most = |hex: &str, most: usize| octets(hex).is_some_and(|octets| octets <= most);
+    for line in lines.input.lines() {
+        let (word, rest) = line.split_once(' ').unwrap_or((line, ""));
+        let good = match word {
+            "#" => true,
+            "access" => at_most(rest, 512),
+            "table" => octets(rest).is_some_and(is_a_table),
+            "output" => rest.parse::<usize>().is_ok_and(|size| size <= 2_048),
+            "component" => at_most(rest, 1_100),
+            "call" => at_most(rest, 64),
+            "write" => line == "write",
+            "read" | "list" => at_most(rest, 2_000),
+            _ => false,
+        };
+        assert!(good && line.len() <= 16_000, "{line}");
+    }
+    for line in lines.expected.lines() {
+        assert!(line.len() <= 16_000, "{line}");
+        if let Some((_, table)) = line.split_once("table ").filter(|_| !line.starts_with('#')) {
+            let last_place = table.len().checked_sub(2 * 47).filter(|at| *at >= 2 * 3);
+            let blank = last_place.is_some_and(|at| table[at..].bytes().all(|one| one == b'0'));
+            assert!(octets(table).is_some_and(is_a_table) && !blank, "{line}");
+        }
+    }
+}
+
 /// The same cases for the same seed, others for another.
 pub fn seed_decides<T: PartialEq + Debug>(make: fn(u64, u64) -> Cases<T>, count: u64) {
     let (one, again, other) = (make(9, count), make(9, count), make(10, count));
     assert_eq!(one.lines.input, again.lines.input);
     assert_eq!(one.lines.expected, again.lines.expected);
     assert_eq!(one.tally, again.tally);
+    assert_eq!(one.flaws, again.flaws);
     assert_ne!(one.lines.input, other.lines.input);
 }
 

@@ -2,13 +2,18 @@
 use Prim.Native.Nat.{ℕ}
 use mathlib.Core.Path.{_≡_}
 use Rattle.profile.specs.declared.profile.Profile.{Profile}
-use Rattle.calls.specs.Onward.{reasonNo, reasonOf, optionAfter, preferenceAfter, originalShown}
+use Rattle.calls.specs.Onward.{reasonNo, reasonOf, optionsFor, optionAfter, preferenceAfter, originalShown}
 use Rattle.calls.specs.declared.call.Call.{Call}
+use Rattle.calls.specs.declared.onward.Options.{Options}
 use Rattle.calls.specs.declared.onward.Reason.{Reason}
 
 -- what `reason_of` promises: the reason by its number
 abbrev pub ReasonOf : ℕ → Reason → Type 0
 ReasonOf event r = reasonNo r ≡ reasonOf event
+
+-- what `options_for` promises
+abbrev pub OptionsFor : Profile → Call → Options → Type 0
+OptionsFor p c r = r ≡ optionsFor p c
 
 -- what `option_after` promises
 abbrev pub OptionAfter : Profile → Call → ℕ → Type 0

@@ -1,9 +1,9 @@
 use Rattle.calls.proofs.Records.{good-call}
+use Rattle.calls.proofs.Options.{options-most}
 use Rattle.calls.proofs.Comings.{comes-profile, comes-table, comes-call, comes-by}
 use Rattle.profile.specs.declared.access.AccessRead.{AccessRead}
 use Rattle.profile.proofs.Profiles.{good-profile}
 use Rattle.profile.proofs.Records.{access-good}
-use Rattle.profile.proofs.Diversions.{option-most}
 use native.Mathlib.Omega.{arith}
 use mathlib.Core.Path.{sym, ap, _∙_}
 use borrow.Author.Tests.{not-true, not-false}
@@ -65,7 +65,7 @@ divert-by-requires c κs =
     let profile = access-good (a .access .now) (ap (λ (r : AccessRead). r .ok) (sym read) ∙ not-false _ (c .before .before .before .before .before .before .before .if1 .left)) in
     let call = good-call _ (a .call .now) (rw read at (sym (c .before .before .before .call-good .ensures) ∙ not-false _ (c .before .before .if3 .left))) in
     rw (read, c .before .call-of .ensures)
-    (option-most _ profile, omega (arith, call .number, good-profile _ profile .few))
+    (options-most _ _ _ profile, omega (arith, call .number, good-profile _ profile .few))
 
 returns-4 : tie.Need-returns-4
 returns-4 c =

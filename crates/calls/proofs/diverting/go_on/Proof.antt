@@ -8,6 +8,9 @@ use Rattle.calls.proofs.diverting.go_on.Tie as tie
 option-after-requires : tie.Need-option-after-requires
 option-after-requires c κs = search needs
 
+options-for-requires : tie.Need-options-for-requires
+options-for-requires c κs = search needs
+
 cast-redirecting : tie.Need-cast-redirecting
 cast-redirecting c = search needs
 
@@ -22,11 +25,11 @@ reason-of-requires c κs = search needs
 
 notice-of-requires : tie.Need-notice-of-requires
 notice-of-requires c κs =
-    let k = c .before .before .before .before .before in
-    omega (arith, c .before .before .before .before .option-after .ensures, option-least (k .args .p) (k .args .c), k .pre .0)
+    let k = c .before .before .before .before .before .before in
+    omega (arith, c .before .before .before .before .before .option-after .ensures, option-least (k .args .p) (k .args .c), k .pre .0)
 
-add-t15 : tie.Need-add-t15
-add-t15 c = search needs
+add-t16 : tie.Need-add-t16
+add-t16 c = search needs
 
 original-shown-requires : tie.Need-original-shown-requires
 original-shown-requires c κs = search needs
@@ -39,11 +42,12 @@ noticed-of-requires c κs = search needs
 
 returns : tie.Need-returns
 returns c =
-    let a = c .before .before .before .before .before .before .before .before .before .before .args in
-    goes-on (a .p) (a .c) (a .called) _ _ _ _ _ _
-    (c .before .before .before .before .before .before .before .before .before .option-after .ensures)
+    let a = c .before .before .before .before .before .before .before .before .before .before .before .args in
+    goes-on (a .p) (a .c) (a .called) _ _ _ _ _ _ _
+    (c .before .before .before .before .before .before .before .before .before .before .option-after .ensures)
     (c .before .before .before .before .before .reason-of .ensures)
     (c .before .before .before .before .notice-of .ensures)
+    (c .before .before .before .before .before .before .before .before .before .options-for .ensures)
     (c .before .before .original-shown .ensures)
     (c .before .preference-after .ensures)
     (c .noticed-of .ensures)
@@ -53,12 +57,13 @@ go-on-spec =
     tie.close
     (tie.spec
     option-after-requires
+    options-for-requires
     cast-redirecting
     mul-redirecting
     array-copy-out-redirecting
     reason-of-requires
     notice-of-requires
-    add-t15
+    add-t16
     original-shown-requires
     preference-after-requires
     noticed-of-requires

@@ -1,5 +1,4 @@
 use Rattle.requests.proofs.Numbers.{hears-is}
-use Rattle.exchange.proofs.QuestionNumbers.{question-told}
 use Rattle.exchange.specs.Question.{question}
 use mir.Facts.{toZ-ofZ}
 use mir.Val.{SFits}
@@ -50,31 +49,31 @@ invoked-by-requires c κs = search needs
 
 returns : tie.Need-returns
 unfolding question
-returns c = question-told (rw (sym (hears-is (c .before .before .before .hear .ensures)) ∙ c .before .enum-told .given .1) (c .rejects-null .ensures))
+returns c = (rw (sym (hears-is (c .before .before .before .hear .ensures)) ∙ c .before .enum-told .given .1) (c .rejects-null .ensures))
 
 returns-2 : tie.Need-returns-2
 unfolding question
-returns-2 c = question-told (rw (sym (hears-is (c .before .before .before .hear .ensures)) ∙ c .before .enum-told2 .given .1) (c .says-at-once .ensures))
+returns-2 c = (rw (sym (hears-is (c .before .before .before .hear .ensures)) ∙ c .before .enum-told2 .given .1) (c .says-at-once .ensures))
 
 returns-3 : tie.Need-returns-3
 unfolding question
-returns-3 c = question-told (rw (sym (hears-is (c .before .before .before .hear .ensures)) ∙ c .before .enum-told3 .given .1) (c .rejects-null2 .ensures))
+returns-3 c = (rw (sym (hears-is (c .before .before .before .hear .ensures)) ∙ c .before .enum-told3 .given .1) (c .rejects-null2 .ensures))
 
 returns-4 : tie.Need-returns-4
 unfolding question
-returns-4 c = question-told (rw (sym (hears-is (c .before .before .before .hear .ensures)) ∙ c .before .enum-told4 .given .1) (c .rejects-null3 .ensures))
+returns-4 c = (rw (sym (hears-is (c .before .before .before .hear .ensures)) ∙ c .before .enum-told4 .given .1) (c .rejects-null3 .ensures))
 
 returns-5 : tie.Need-returns-5
 unfolding question
 returns-5 c =
     let id : SFits w16 (c .before .before .identifier .given .0 .0) = search needs in
-    question-told (rw (sym (hears-is (c .before .before .before .before .hear .ensures)) ∙ c .before .before .identifier .given .1) (rw (toZ-ofZ id) at (c .says-at-once2 .ensures)))
+    (rw (sym (hears-is (c .before .before .before .before .hear .ensures)) ∙ c .before .before .identifier .given .1) (rw (toZ-ofZ id) at (c .says-at-once2 .ensures)))
 
 returns-6 : tie.Need-returns-6
 unfolding question
 returns-6 c =
     let id : SFits w16 (c .before .before .identifier2 .given .0 .0) = search needs in
-    question-told (rw (sym (hears-is (c .before .before .before .before .hear .ensures)) ∙ c .before .before .identifier2 .given .1) (rw (toZ-ofZ id) at (c .invoked-by .ensures)))
+    (rw (sym (hears-is (c .before .before .before .before .hear .ensures)) ∙ c .before .before .identifier2 .given .1) (rw (toZ-ofZ id) at (c .invoked-by .ensures)))
 
 pub question-of-spec : {M : Type 1} → statement M
 question-of-spec =

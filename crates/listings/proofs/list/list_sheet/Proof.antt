@@ -1,13 +1,8 @@
+use native.Mathlib.Omega.{arith}
 use borrow.Author.Needs.{needs}
 use borrow.Author.Tests.{not-true, not-false}
-use mathlib.Core.Path.{sym, ap, _∙_}
-use native.Mathlib.Omega.{arith}
 use Rattle.laws.proofs.Over.{wrote-length}
-use Rattle.forms.specs.Form.{form1}
-use Rattle.sheet.specs.Sheet.{sheetIn}
-use Rattle.sheet.specs.declared.form.SheetForm.{SheetForm}
-use Rattle.sheet.proofs.Formed.{formed-none}
-use Rattle.listings.proofs.Sheets.{listing-octets, lists-short, lists-none, lists-sheet}
+use Rattle.listings.proofs.Sheets.{listing-octets, listing-asks, lists-short, lists-none, lists-sheet}
 use Rattle.listings.proofs.list.list_sheet.Statement.{statement}
 use Rattle.listings.proofs.list.list_sheet.Tie as tie
 
@@ -19,28 +14,23 @@ returns c =
     let a = c .before .before .before .before .args in
     lists-short (a .s .now) (a .out .now) (omega (arith, listing-octets, c .before .if1 .taken)) _ (c .refuses .ensures)
 
-form-one-requires : tie.Need-form-one-requires
-form-one-requires c κs = search needs
-
-sheet-form-requires : tie.Need-sheet-form-requires
-sheet-form-requires c κs = search needs
+read-form-requires : tie.Need-read-form-requires
+read-form-requires c κs = search needs
 
 refuses-requires-2 : tie.Need-refuses-requires-2
 refuses-requires-2 c κs = search needs
 
 returns-2 : tie.Need-returns-2
 returns-2 c =
-    let a = c .before .before .before .before .before .before .before .before .args in
-    lists-none (a .s .now) (a .out .now) (omega (arith, listing-octets, c .before .before .before .before .before .if1 .left))
-    (formed-none (sheetIn form1 _) _ (rw (c .before .before .before .before .form-one .ensures) at (c .before .before .before .sheet-form .ensures))
-    (not-true _ (c .before .if2 .taken))) _ (c .refuses2 .ensures)
+    let a = c .before .before .before .before .before .before .before .args in
+    lists-none (a .s .now) (a .out .now) (omega (arith, listing-octets, c .before .before .before .before .if1 .left)) _
+    (c .before .before .before .read-form .ensures) (not-true _ (c .before .if2 .taken)) _ (c .refuses2 .ensures)
 
 write-listing-requires : tie.Need-write-listing-requires
-write-listing-requires c κs = (
-  omega (arith, listing-octets, c .before .before .before .before .before .if1 .left),
-  ap (λ (r : SheetForm). r .ok)
-      (sym (rw (c .before .before .before .before .form-one .ensures) at (c .before .before .before .sheet-form .ensures))) ∙ not-false _ (c .before .if2 .left),
-)
+write-listing-requires c κs =
+    let a = c .before .before .before .before .before .before .before .before .args in
+    listing-asks (a .s .now) _ (c .before .before .before .before .read-form .ensures) (not-false _ (c .before .before .if2 .left)) (a .out .now)
+    (omega (arith, listing-octets, c .before .before .before .before .before .if1 .left))
 
 same-length : tie.Need-same-length
 same-length c = wrote-length (c .before .before .write-listing .ensures)
@@ -48,10 +38,8 @@ same-length c = wrote-length (c .before .before .write-listing .ensures)
 returns-3 : tie.Need-returns-3
 returns-3 c =
     let a = c .before .before .before .before .before .before .before .before .before .before .before .args in
-    lists-sheet (a .s .now) (a .out .now) (omega (arith, listing-octets, c .before .before .before .before .before .before .before .before .if1 .left))
-    (ap (λ (r : SheetForm). r .ok)
-    (sym (rw (c .before .before .before .before .before .before .before .form-one .ensures) at
-    (c .before .before .before .before .before .before .sheet-form .ensures))) ∙ not-false _ (c .before .before .before .before .if2 .left))
+    lists-sheet (a .s .now) (a .out .now) (omega (arith, listing-octets, c .before .before .before .before .before .before .before .before .if1 .left)) _
+    (c .before .before .before .before .before .before .before .read-form .ensures) (not-false _ (c .before .before .before .before .before .if2 .left))
     (c .before .before .write-listing .ensures)
 
 pub list-sheet-spec : {M : Type 1} → statement M
@@ -60,8 +48,7 @@ list-sheet-spec =
     (tie.spec
     refuses-requires
     returns
-    form-one-requires
-    sheet-form-requires
+    read-form-requires
     refuses-requires-2
     returns-2
     write-listing-requires

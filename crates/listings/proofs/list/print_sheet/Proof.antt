@@ -1,13 +1,8 @@
+use native.Mathlib.Omega.{arith}
 use borrow.Author.Needs.{needs}
 use borrow.Author.Tests.{not-true, not-false}
-use mathlib.Core.Path.{sym, ap, _∙_}
-use native.Mathlib.Omega.{arith}
 use Rattle.laws.proofs.Over.{wrote-length}
-use Rattle.forms.specs.Form.{form1}
-use Rattle.sheet.specs.Sheet.{sheetIn}
-use Rattle.sheet.specs.declared.form.SheetForm.{SheetForm}
-use Rattle.sheet.proofs.Formed.{formed-none}
-use Rattle.listings.proofs.Sheets.{listing-octets, prints-short, prints-none, prints-sheet}
+use Rattle.listings.proofs.Sheets.{listing-octets, listing-asks, prints-short, prints-none, prints-sheet}
 use Rattle.listings.proofs.list.print_sheet.Statement.{statement}
 use Rattle.listings.proofs.list.print_sheet.Tie as tie
 
@@ -16,11 +11,8 @@ returns c =
     let a = c .before .before .before .args in
     prints-short (a .s .now) (a .out .now) (omega (arith, listing-octets, c .if1 .taken))
 
-form-one-requires : tie.Need-form-one-requires
-form-one-requires c κs = search needs
-
-sheet-form-requires : tie.Need-sheet-form-requires
-sheet-form-requires c κs = search needs
+read-form-requires : tie.Need-read-form-requires
+read-form-requires c κs = search needs
 
 slice-aggregate-put-all : tie.Need-slice-aggregate-put-all
 slice-aggregate-put-all c = search needs
@@ -33,19 +25,16 @@ same-length c = search needs
 
 returns-2 : tie.Need-returns-2
 returns-2 c =
-    let a = c .before .before .before .before .before .before .before .before .before .before .before .before .args in
-    prints-none (a .s .now) (a .out .now) (omega (arith, listing-octets, c .before .before .before .before .before .before .before .before .before .if1 .left))
-    (formed-none (sheetIn form1 _) _
-    (rw (c .before .before .before .before .before .before .before .before .form-one .ensures) at
-    (c .before .before .before .before .before .before .before .sheet-form .ensures)) (not-true _ (c .before .before .before .before .before .if2 .taken)))
+    let a = c .before .before .before .before .before .before .before .before .before .before .before .args in
+    prints-none (a .s .now) (a .out .now) (omega (arith, listing-octets, c .before .before .before .before .before .before .before .before .if1 .left)) _
+    (c .before .before .before .before .before .before .before .read-form .ensures) (not-true _ (c .before .before .before .before .before .if2 .taken))
     (c .before .before .put-all .ensures)
 
 write-listing-requires : tie.Need-write-listing-requires
-write-listing-requires c κs = (
-  omega (arith, listing-octets, c .before .before .before .before .before .if1 .left),
-  ap (λ (r : SheetForm). r .ok)
-      (sym (rw (c .before .before .before .before .form-one .ensures) at (c .before .before .before .sheet-form .ensures))) ∙ not-false _ (c .before .if2 .left),
-)
+write-listing-requires c κs =
+    let a = c .before .before .before .before .before .before .before .before .args in
+    listing-asks (a .s .now) _ (c .before .before .before .before .read-form .ensures) (not-false _ (c .before .before .if2 .left)) (a .out .now)
+    (omega (arith, listing-octets, c .before .before .before .before .before .if1 .left))
 
 same-length-2 : tie.Need-same-length-2
 same-length-2 c = wrote-length (c .before .before .write-listing .ensures)
@@ -53,10 +42,8 @@ same-length-2 c = wrote-length (c .before .before .write-listing .ensures)
 returns-3 : tie.Need-returns-3
 returns-3 c =
     let a = c .before .before .before .before .before .before .before .before .before .before .before .args in
-    prints-sheet (a .s .now) (a .out .now) (omega (arith, listing-octets, c .before .before .before .before .before .before .before .before .if1 .left))
-    (ap (λ (r : SheetForm). r .ok)
-    (sym (rw (c .before .before .before .before .before .before .before .form-one .ensures) at
-    (c .before .before .before .before .before .before .sheet-form .ensures))) ∙ not-false _ (c .before .before .before .before .if2 .left))
+    prints-sheet (a .s .now) (a .out .now) (omega (arith, listing-octets, c .before .before .before .before .before .before .before .before .if1 .left)) _
+    (c .before .before .before .before .before .before .before .read-form .ensures) (not-false _ (c .before .before .before .before .before .if2 .left))
     (c .before .before .write-listing .ensures)
 
 pub print-sheet-spec : {M : Type 1} → statement M
@@ -64,8 +51,7 @@ print-sheet-spec =
     tie.close
     (tie.spec
     returns
-    form-one-requires
-    sheet-form-requires
+    read-form-requires
     slice-aggregate-put-all
     put-all-requires
     same-length

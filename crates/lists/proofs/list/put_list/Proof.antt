@@ -1,5 +1,5 @@
 use Rattle.lists.proofs.Writers.{lengths, list-long, list-wrote}
-use Rattle.lists.specs.Entries.{listed}
+use Rattle.lists.specs.Entries.{entriesIn}
 use Rattle.lists.specs.Listed.{listOctets}
 use Rattle.laws.proofs.Over.{wrote-taken, wrote-count, puts-all, puts-none}
 use Rattle.octets.proofs.Elements.{head-most}
@@ -106,9 +106,9 @@ returns c =
     let a = c .before .before .before .before .before .before .before .before .before .args in
     let same = toZ-ofZ (c .before .before .before .before .before .before .before .before .before .fits .identifier) in
     let entries = c .before .before .before .before .before .before .write-entries .ensures in
-    let known = lengths (a .identifier) (listed (a .list)) (entries .0 .moved ∙ zero-add _) (c .before .before .before .before .head-size .ensures)
+    let known = lengths (a .identifier) (entriesIn (a .list)) (entries .0 .moved ∙ zero-add _) (c .before .before .before .before .head-size .ensures)
     (rw same at (c .before .before .before .ident-size .ensures)) (c .before .before .head-size2 .ensures) in
-    let long = list-long (a .identifier) (listed (a .list)) known (c .before .head-size3 .ensures) in
+    let long = list-long (a .identifier) (entriesIn (a .list)) known (c .before .head-size3 .ensures) in
     puts-none (omega (arith, long, c .if1 .taken))
 
 cast-put-head : tie.Need-cast-put-head
@@ -174,12 +174,12 @@ returns-2 c =
     let a = far .before .before .before .before .before .before .before .before .before .before .args in
     let same = toZ-ofZ (far .before .before .before .before .before .before .before .before .before .before .fits .identifier) in
     let entries = far .before .before .before .before .before .before .before .write-entries .ensures in
-    let known = lengths (a .identifier) (listed (a .list)) (entries .0 .moved ∙ zero-add _) (far .before .before .before .before .before .head-size .ensures)
+    let known = lengths (a .identifier) (entriesIn (a .list)) (entries .0 .moved ∙ zero-add _) (far .before .before .before .before .before .head-size .ensures)
     (rw same at (far .before .before .before .before .ident-size .ensures)) (far .before .before .before .head-size2 .ensures) in
-    let long = list-long (a .identifier) (listed (a .list)) known (far .before .before .head-size3 .ensures) in
-    let fits : 0 + length (listOctets (a .identifier) (listed (a .list))) ≤ length (a .out .now) = omega (arith, long, far .before .if1 .left) in
+    let long = list-long (a .identifier) (entriesIn (a .list)) known (far .before .before .head-size3 .ensures) in
+    let fits : 0 + length (listOctets (a .identifier) (entriesIn (a .list))) ≤ length (a .out .now) = omega (arith, long, far .before .if1 .left) in
     puts-all fits
-    (list-wrote (a .identifier) (listed (a .list)) known fits
+    (list-wrote (a .identifier) (entriesIn (a .list)) known fits
     (back .before .before .before .before .before .before .before .before .before .before .before .put-head .ensures)
     (rw same at (back .before .before .before .before .before .before .before .put-ident .ensures)) (back .before .before .before .put-head2 .ensures)
     (c .before .before .before .before .before .before .before .before .before .before .before .put-ident2 .ensures)

@@ -1,6 +1,6 @@
 use Rattle.rules.proofs.Judges.{subscribed-past}
 use Rattle.rules.specs.Judge.{isSubscribed}
-use Rattle.store.specs.Grid.{procedures}
+use Rattle.instances.specs.Instance.{procedures}
 use borrow.Author.Needs.{needs}
 use native.Mathlib.Omega.{arith}
 use lib.ListN.{length}

@@ -1,5 +1,3 @@
-use Rattle.rules.proofs.Judges.{room-fits}
-use Rattle.lists.specs.Entries.{instancesMost}
 use borrow.Author.Tests.{eq-eqb, ne-eqb, not-true, not-false}
 use mathlib.Core.Path.{sym, _∙_}
 use borrow.Author.Needs.{needs}
@@ -65,45 +63,38 @@ returns-5 c =
       sym (c .before .selected-same .ensures) ∙ c .if5 .taken,
     )
 
-count-with-requires : tie.Need-count-with-requires
-count-with-requires c κs = search needs
-
 fits-requires : tie.Need-fits-requires
 fits-requires c κs = search needs
 
 returns-6 : tie.Need-returns-6
 returns-6 c =
-    let own = c .before .before .before in
+    let own = c .before .before in
     let prefix = own .before .before in
     let kind = prefix .before .before in
     let user = kind .before .before .before in
     let given = user .before .before .before in
-    let s = given .before .before .args in
     rw (
       sym (given .before .not-provided .ensures) ∙ given .if1 .left,
       ne-eqb _ _ (user .if2 .left),
       sym (kind .before .other-kind .ensures) ∙ kind .if3 .left,
       sym (prefix .before .begins-any .ensures) ∙ prefix .if4 .left,
       sym (own .before .selected-same .ensures) ∙ own .if5 .left,
-      room-fits instancesMost (s .p) (s .w) (s .row) _ (c .before .before .count-with .ensures),
       sym (c .before .fits2 .ensures) ∙ not-true _ (c .if6 .taken),
     )
 
 returns-7 : tie.Need-returns-7
 returns-7 c =
-    let own = c .before .before .before in
+    let own = c .before .before in
     let prefix = own .before .before in
     let kind = prefix .before .before in
     let user = kind .before .before .before in
     let given = user .before .before .before in
-    let s = given .before .before .args in
     rw (
       sym (given .before .not-provided .ensures) ∙ given .if1 .left,
       ne-eqb _ _ (user .if2 .left),
       sym (kind .before .other-kind .ensures) ∙ kind .if3 .left,
       sym (prefix .before .begins-any .ensures) ∙ prefix .if4 .left,
       sym (own .before .selected-same .ensures) ∙ own .if5 .left,
-      room-fits instancesMost (s .p) (s .w) (s .row) _ (c .before .before .count-with .ensures),
       sym (c .before .fits2 .ensures) ∙ not-false _ (c .if6 .left),
     )
 
@@ -120,7 +111,6 @@ judge-activation-spec =
     returns-4
     selected-same-requires
     returns-5
-    count-with-requires
     fits-requires
     returns-6
     returns-7)

@@ -1,7 +1,7 @@
 use Rattle.rules.specs.Judge.{verdictNo}
-use Rattle.rules.proofs.Judges.{judge-fails, judge-rest, judge-interrogation}
+use Rattle.rules.proofs.Judges.{judge-fails, judge-put, judge-clear, judge-interrogation}
 use Rattle.lists.specs.Entries.{instancesMost}
-use borrow.Author.Tests.{eq-eqb, ne-eqb}
+use Rattle.instances.specs.Run.{instancesOf}
 use borrow.Author.Needs.{needs}
 use mathlib.Core.Path.{sym, ap, _∙_}
 use Rattle.rules.proofs.judge.judge_request.Statement.{statement}
@@ -16,49 +16,58 @@ enum-known-error c = search needs
 enum-told : tie.Need-enum-told
 enum-told c = search needs
 
+selection-of-requires : tie.Need-selection-of-requires
+selection-of-requires c κs = search needs
+
+count-after-requires : tie.Need-count-after-requires
+count-after-requires c κs = search needs
+
 judge-activation-requires : tie.Need-judge-activation-requires
 judge-activation-requires c κs = search needs
 
 returns : tie.Need-returns
 returns c =
-    let every = c .before .before .before .before in
+    let sel = c .before .before .before in
+    let every = sel .before .before .before in
     let s = every .before .args in
-    let passes = sym (every .judge-every .ensures) ∙ ap verdictNo (c .before .before .enum-told .given .1) in
-    rw (
-      judge-rest instancesMost (s .p) (s .operation) (s .r) (s .w) (s .row) passes,
-      eq-eqb _ _ (c .before .if1 .taken),
-    )
-    (c .judge-activation .ensures)
+    let passes = sym (every .judge-every .ensures) ∙ ap verdictNo (sel .before .enum-told .given .1) in
+    c .judge-activation .ensures
+    ∙ judge-put instancesMost (s .p) (s .operation) (s .r) (instancesOf (s .run)) (sel .selection-of .result) passes
+    (sel .selection-of .ensures) (c .before .count-after .result) (c .before .before .if1 .taken) (c .before .count-after .ensures)
+
+chosen-count-requires : tie.Need-chosen-count-requires
+chosen-count-requires c κs = search needs
 
 judge-deactivation-requires : tie.Need-judge-deactivation-requires
 judge-deactivation-requires c κs = search needs
 
 returns-2 : tie.Need-returns-2
 returns-2 c =
-    let every = c .before .before .before .before .before in
+    let off = c .before .before in
+    let sel = off .before .before in
+    let every = sel .before .before .before in
     let s = every .before .args in
-    let passes = sym (every .judge-every .ensures) ∙ ap verdictNo (c .before .before .before .enum-told .given .1) in
-    rw (
-      judge-rest instancesMost (s .p) (s .operation) (s .r) (s .w) (s .row) passes,
-      ne-eqb _ _ (c .before .before .if1 .left),
-      eq-eqb _ _ (c .before .if2 .taken),
-    )
-    (c .judge-deactivation .ensures)
+    let passes = sym (every .judge-every .ensures) ∙ ap verdictNo (sel .before .enum-told .given .1) in
+    c .judge-deactivation .ensures
+    ∙ judge-clear instancesMost (s .p) (s .operation) (s .r) (instancesOf (s .run)) (sel .selection-of .result) passes
+    (sel .selection-of .ensures) (c .before .chosen-count .result) (off .before .if1 .left) (off .if2 .taken)
+    (c .before .chosen-count .ensures)
 
 returns-3 : tie.Need-returns-3
 returns-3 c =
     let every = c .before .before .before in
     let s = every .before .args in
     let fails = sym (every .judge-every .ensures) ∙ ap verdictNo (c .before .error .given .1) in
-    sym (judge-fails instancesMost (s .p) (s .operation) (s .r) (s .w) (s .row) _ fails)
+    sym (judge-fails instancesMost (s .p) (s .operation) (s .r) (instancesOf (s .run)) _ fails)
 
 returns-4 : tie.Need-returns-4
 returns-4 c =
-    let every = c .before .before .before .before in
+    let sel = c .before .before in
+    let every = sel .before .before .before in
     let s = every .before .args in
-    let passes = sym (every .judge-every .ensures) ∙ ap verdictNo (c .before .before .enum-told .given .1) in
-    sym (judge-interrogation instancesMost (s .p) (s .operation) (s .r) (s .w) (s .row) (c .before .if1 .left) (c .if2 .left)
-    ∙ passes)
+    let passes = sym (every .judge-every .ensures) ∙ ap verdictNo (sel .before .enum-told .given .1) in
+    sym (judge-interrogation instancesMost (s .p) (s .operation) (s .r) (instancesOf (s .run))
+    (c .before .if1 .left) (c .if2 .left) ∙ passes)
 
 pub judge-request-spec : {M : Type 1} → statement M
 judge-request-spec =
@@ -67,8 +76,11 @@ judge-request-spec =
     judge-every-requires
     enum-known-error
     enum-told
+    selection-of-requires
+    count-after-requires
     judge-activation-requires
     returns
+    chosen-count-requires
     judge-deactivation-requires
     returns-2
     returns-3

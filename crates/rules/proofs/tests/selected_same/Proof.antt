@@ -11,29 +11,23 @@ use Rattle.rules.proofs.tests.selected_same.Statement.{statement}
 use Rattle.rules.proofs.tests.selected_same.Tie as tie
 
 abbrev Inv-loop : tie.InvT-loop
-Inv-loop p asked count numbers number k₀ k =
-    (k ≤ numbersMost) × (length numbers ≡ numbersMost) × Compared p asked count numbers number k
+Inv-loop p asked to count numbers k₀ k =
+    (k ≤ numbersMost) × (length numbers ≡ numbersMost) × Compared p asked count numbers to k
 
 abbrev μ-loop : tie.MeasureT-loop
-μ-loop p asked count numbers number k₀ k = numbersMost - k
-
-number-asked-requires : tie.Need-number-asked-requires Inv-loop μ-loop
-number-asked-requires c κs = search needs
+μ-loop p asked to count numbers k₀ k = numbersMost - k
 
 cast-count : tie.Need-cast-count Inv-loop μ-loop
 cast-count c = search needs
 
 loop-holds : tie.Need-loop-holds Inv-loop μ-loop
-loop-holds c = (omega arith, search (unmapped, needs), λ r asks e. refl)
+loop-holds c = (omega arith, search (unmapped, needs), refl)
 
 returns : tie.Need-returns Inv-loop μ-loop
 returns c =
     let l = c .before .before in
-    let a = l .before .before .before .before .before in
-    let s = a .before .args in
-    sym
-    (compared-none (s .p) (a .number-asked .result) (s .p .numbercount) (s .p .numbers) (s .r .to .address .number)
-    (l .loop .k) (omega arith) (l .loop .inv .2) (s .r) (a .number-asked .ensures) refl)
+    let s = l .before .before .before .args in
+    compared-none (s .p) (s .asked) (s .p .numbercount) (s .p .numbers) (s .to) (l .loop .k) (omega arith) (l .loop .inv .2)
 
 is-asked-requires : tie.Need-is-asked-requires Inv-loop μ-loop
 is-asked-requires c κs = search needs
@@ -49,14 +43,12 @@ same-requires c κs = search needs
 
 returns-2 : tie.Need-returns-2 Inv-loop μ-loop
 returns-2 c =
-    let l = c .before .before .before .before .before .before .before in
-    let a = l .before .before .before .before .before in
-    let s = a .before .args in
-    sym
-    (compared-here (s .p) (a .number-asked .result) (s .p .numbercount) (s .p .numbers) (s .r .to .address .number)
-    (l .loop .k) (omega arith) (omega arith) (omega arith)
-    (sym (c .before .before .before .before .is-asked .ensures) ∙ c .before .before .before .if2 .taken)
-    (sym (c .before .same .ensures) ∙ c .if3 .taken) (l .loop .inv .2) (s .r) (a .number-asked .ensures) refl)
+    let asks = c .before .before .before in
+    let l = asks .before .before .before .before in
+    let s = l .before .before .before .args in
+    compared-here (s .p) (s .asked) (s .p .numbercount) (s .p .numbers) (s .to) (l .loop .k) (omega arith) (omega arith)
+    (sym (asks .before .is-asked .ensures) ∙ asks .if2 .taken)
+    (sym (c .before .same .ensures) ∙ c .if3 .taken) (l .loop .inv .2)
 
 add-k : tie.Need-add-k Inv-loop μ-loop
 add-k c = search needs
@@ -67,29 +59,23 @@ loop-less c = search needs
 loop-again : tie.Need-loop-again Inv-loop μ-loop
 loop-again c =
     let l = c .before .before .before .before in
-    let a = l .before .before .before .before .before in
-    let s = a .before .args in (
+    let s = l .before .before .before .args in (
       omega arith,
       l .loop .inv .1,
       ⊎-elim
           (λ w.
-          compared-other (s .p) (a .number-asked .result) (s .p .numbercount) (s .p .numbers) (s .r .to .address .number)
-          (l .loop .k) (omega arith) (omega arith) (omega arith) (sym (c .before .is-asked .ensures) ∙ w .0 .taken)
-          (sym (w .2 .ensures) ∙ w .3 .left) (l .loop .inv .2))
+          compared-other (s .p) (s .asked) (s .p .numbercount) (s .p .numbers) (s .to) (l .loop .k) (omega arith) (omega arith)
+          (sym (c .before .is-asked .ensures) ∙ w .0 .taken) (sym (w .2 .ensures) ∙ w .3 .left) (l .loop .inv .2))
           (λ w.
-          compared-skip (s .p) (a .number-asked .result) (s .p .numbercount) (s .p .numbers) (s .r .to .address .number)
-          (l .loop .k) (omega arith) (omega arith) (omega arith) (sym (c .before .is-asked .ensures) ∙ w .left)
-          (l .loop .inv .2)) (c .if2 .came),
+          compared-skip (s .p) (s .asked) (s .p .numbercount) (s .p .numbers) (s .to) (l .loop .k) (omega arith) (omega arith)
+          (sym (c .before .is-asked .ensures) ∙ w .left) (l .loop .inv .2)) (c .if2 .came),
     )
 
 returns-3 : tie.Need-returns-3 Inv-loop μ-loop
 returns-3 c =
     let l = c .before in
-    let a = l .before .before .before .before .before in
-    let s = a .before .args in
-    sym
-    (compared-none (s .p) (a .number-asked .result) (s .p .numbercount) (s .p .numbers) (s .r .to .address .number)
-    (l .loop .k) (omega arith) (l .loop .inv .2) (s .r) (a .number-asked .ensures) refl)
+    let s = l .before .before .before .args in
+    compared-none (s .p) (s .asked) (s .p .numbercount) (s .p .numbers) (s .to) (l .loop .k) (omega arith) (l .loop .inv .2)
 
 pub selected-same-spec : {M : Type 1} → statement M
 selected-same-spec =
@@ -97,7 +83,6 @@ selected-same-spec =
     (tie.spec
     Inv-loop
     μ-loop
-    number-asked-requires
     cast-count
     loop-holds
     returns

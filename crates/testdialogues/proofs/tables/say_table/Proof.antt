@@ -4,10 +4,10 @@ use Rattle.testdialogues.proofs.tables.say_table.Statement.{statement}
 use Rattle.testdialogues.proofs.tables.say_table.Tie as tie
 
 abbrev Inv-loop : tie.InvT-loop
-Inv-loop last grid place₀ place = place ≤ 72
+Inv-loop last run n i₀ i = (i ≤ n) × (n ≤ 24)
 
 abbrev μ-loop : tie.MeasureT-loop
-μ-loop last grid place₀ place = 72 - place
+μ-loop last run n i₀ i = n - i
 
 slice-aggregate-text : tie.Need-slice-aggregate-text Inv-loop μ-loop
 slice-aggregate-text c = search needs
@@ -27,29 +27,32 @@ cast-octet-2 c = search needs
 octet-requires-2 : tie.Need-octet-requires-2 Inv-loop μ-loop
 octet-requires-2 c κs = search needs
 
+octet-requires-3 : tie.Need-octet-requires-3 Inv-loop μ-loop
+octet-requires-3 c κs = search needs
+
+places-said-requires : tie.Need-places-said-requires Inv-loop μ-loop
+places-said-requires c κs = search needs
+
 loop-holds : tie.Need-loop-holds Inv-loop μ-loop
 loop-holds c = search needs
 
-mul-row : tie.Need-mul-row Inv-loop μ-loop
-mul-row c = search needs
+mul-octets-of : tie.Need-mul-octets-of Inv-loop μ-loop
+mul-octets-of c = search needs
 
-element-copy-out-row : tie.Need-element-copy-out-row Inv-loop μ-loop
-element-copy-out-row c = search needs
+element-copy-out-octets-of : tie.Need-element-copy-out-octets-of Inv-loop μ-loop
+element-copy-out-octets-of c = search needs
 
-mul-cell : tie.Need-mul-cell Inv-loop μ-loop
-mul-cell c = search needs
+octets-of-requires : tie.Need-octets-of-requires Inv-loop μ-loop
+octets-of-requires c κs = search needs
 
-element-copy-out-cell : tie.Need-element-copy-out-cell Inv-loop μ-loop
-element-copy-out-cell c = search needs
+slice-aggregate-octets : tie.Need-slice-aggregate-octets Inv-loop μ-loop
+slice-aggregate-octets c = search needs
 
-cast-say-cell : tie.Need-cast-say-cell Inv-loop μ-loop
-cast-say-cell c = search needs
+octets-requires : tie.Need-octets-requires Inv-loop μ-loop
+octets-requires c κs = search needs
 
-say-cell-requires : tie.Need-say-cell-requires Inv-loop μ-loop
-say-cell-requires c κs = search needs
-
-add-place : tie.Need-add-place Inv-loop μ-loop
-add-place c = search needs
+add-i : tie.Need-add-i Inv-loop μ-loop
+add-i c = search needs
 
 loop-less : tie.Need-loop-less Inv-loop μ-loop
 loop-less c = search needs
@@ -72,14 +75,15 @@ say-table-spec =
     octet-requires
     cast-octet-2
     octet-requires-2
+    octet-requires-3
+    places-said-requires
     loop-holds
-    mul-row
-    element-copy-out-row
-    mul-cell
-    element-copy-out-cell
-    cast-say-cell
-    say-cell-requires
-    add-place
+    mul-octets-of
+    element-copy-out-octets-of
+    octets-of-requires
+    slice-aggregate-octets
+    octets-requires
+    add-i
     loop-less
     loop-again
     returns)

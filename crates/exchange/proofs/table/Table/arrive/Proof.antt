@@ -1,17 +1,14 @@
-use Rattle.exchange.proofs.QuestionNumbers.{question-is}
-use Rattle.laws.proofs.Parts.{unmapped}
-use Rattle.profile.proofs.Records.{access-good}
-use Rattle.profile.specs.declared.access.AccessRead.{AccessRead}
-use Rattle.exchange.proofs.Arrivals.{done-short, done-long, done-profile, done-table, done-answers, refused-arrives, step-fits, answered-arrives}
+use Rattle.exchange.proofs.Arrivals.{done-short, done-long, done-profile, done-table, refused-arrives}
+use Rattle.exchange.proofs.Arrivals.{says-arrives, fails-arrives, lists-arrives, changes-arrives}
+use Rattle.exchange.proofs.Tables.{table-over, table-run}
 use Rattle.refusals.specs.declared.refusal.Refusal.the-variants.{ShortOutput, LongComponent, BadProfile, BadTable}
-use Rattle.exchange.proofs.Questions.{question-procedure}
-use Rattle.exchange.proofs.Steps.{step-of}
-use Rattle.exchange.specs.Step.{step}
-use Rattle.exchange.specs.inner.Step.{Stepping}
-use Rattle.exchange.specs.Arrive.{outputLeast}
-use Prim.Native.Nat.{_≤_, _<_}
+use Rattle.lists.specs.Entries.{instancesMost}
+use Rattle.profile.specs.declared.access.AccessRead.{AccessRead}
 use lib.ListN.{length}
-use mathlib.Core.Path.{_≡_, refl, sym, ap, _∙_}
+use mathlib.Core.Path.{sym, ap, _∙_}
+use mir.Facts.{toZ-ofZ}
+use mir.Syntax.{w16}
+use mir.Val.{SFits}
 use native.Mathlib.Omega.{arith}
 use borrow.Author.Tests.{not-true, not-false}
 use borrow.Author.Needs.{needs}
@@ -46,56 +43,50 @@ refuses-requires-3 c κs = search needs
 
 returns-3 : tie.Need-returns-3
 returns-3 c =
-    let a = c .before .before .before .before .before .before .before .before .before .before .args in
+    let g = c .before .before .before in
+    let a = g .before .before .before .before .before .before .before .args in
     refused-arrives (a .access .now) (a .self) (a .component .now) (a .out .now) BadProfile _
-    (done-profile (a .access .now) (a .self) (a .component .now) (length (a .out .now)) (omega (arith, c .before .before .before .before .before .if1 .left))
-    (omega (arith, c .before .before .before .before .if2 .left))
-    (ap (λ (r : AccessRead). r .ok) (sym (c .before .before .before .read-access .ensures)) ∙ not-true _ (c .before .if3 .taken)))
+    (done-profile (a .access .now) (a .self) (a .component .now) (length (a .out .now)) (omega (arith, g .before .before .if1 .left)) (omega (arith, g .before .if2 .left))
+    (ap (λ (r : AccessRead). r .ok) (sym (g .read-access .ensures)) ∙ not-true _ (c .before .if3 .taken)))
     (c .refuses3 .ensures)
-
-good-requires : tie.Need-good-requires
-good-requires c κs = search needs
 
 refuses-requires-4 : tie.Need-refuses-requires-4
 refuses-requires-4 c κs = search needs
 
 returns-4 : tie.Need-returns-4
 returns-4 c =
-    let a = c .before .before .before .before .before .before .before .before .before .before .before .before .before .args in
-    let read = c .before .before .before .before .before .before .read-access .ensures in
+    let g = c .before .before .before .before .before .before in
+    let a = g .before .before .before .before .before .before .before .args in
     refused-arrives (a .access .now) (a .self) (a .component .now) (a .out .now) BadTable _
-    (done-table (a .access .now) (a .self) (a .component .now) (length (a .out .now))
-    (omega (arith, c .before .before .before .before .before .before .before .before .if1 .left))
-    (omega (arith, c .before .before .before .before .before .before .before .if2 .left))
-    (ap (λ (r : AccessRead). r .ok) (sym read) ∙ not-false _ (c .before .before .before .before .if3 .left))
-    (rw read at (sym (c .before .before .good2 .ensures) ∙ not-true _ (c .before .if4 .taken))))
+    (done-table (a .access .now) (a .self) (a .component .now) (length (a .out .now)) (omega (arith, g .before .before .if1 .left)) (omega (arith, g .before .if2 .left))
+    (ap (λ (r : AccessRead). r .ok) (sym (g .read-access .ensures)) ∙ not-false _ (c .before .before .before .before .if3 .left))
+    (table-over instancesMost _ (a .self) (c .before .if4 .taken)))
     (c .refuses4 .ensures)
+
+good-requires : tie.Need-good-requires
+good-requires c κs = search needs
+
+refuses-requires-5 : tie.Need-refuses-requires-5
+refuses-requires-5 c κs = search needs
+
+returns-5 : tie.Need-returns-5
+returns-5 c =
+    let g = c .before .before .before .before .before .before .before .before in
+    let a = g .before .before .before .before .before .before .before .args in
+    refused-arrives (a .access .now) (a .self) (a .component .now) (a .out .now) BadTable _
+    (done-table (a .access .now) (a .self) (a .component .now) (length (a .out .now)) (omega (arith, g .before .before .if1 .left)) (omega (arith, g .before .if2 .left))
+    (ap (λ (r : AccessRead). r .ok) (sym (g .read-access .ensures)) ∙ not-false _ (c .before .before .before .before .before .before .if3 .left))
+    (rw (g .read-access .ensures) at
+    (table-run instancesMost _ (a .self) (c .before .before .before .if4 .left)
+    ∙ sym (c .before .before .good2 .ensures)
+    ∙ not-true _ (c .before .if5 .taken))))
+    (c .refuses5 .ensures)
 
 question-of-requires : tie.Need-question-of-requires
 question-of-requires c κs = search needs
 
-cast-procedure : tie.Need-cast-procedure
-cast-procedure c = search needs
-
-mul-row : tie.Need-mul-row
-mul-row c = search needs
-
-element-copy-out-row : tie.Need-element-copy-out-row
-element-copy-out-row c =
-    let small : c .before .question-of .result .request .procedure < 3 = rw (question-is (c .before .question-of .ensures)) (question-procedure _ _ _) in
-    search needs
-
-step-of-requires : tie.Need-step-of-requires
-step-of-requires c κs = search needs
-
-mul-after : tie.Need-mul-after
-mul-after c = search needs
-
-element-set-from-after : tie.Need-element-set-from-after
-element-set-from-after c =
-    let small : c .before .before .before .before .question-of .result .request .procedure < 3 = rw (question-is (c .before .before .before .before .question-of .ensures))
-    (question-procedure _ _ _) in
-    search needs
+no-entries-requires : tie.Need-no-entries-requires
+no-entries-requires c κs = search needs
 
 put-answer-requires : tie.Need-put-answer-requires
 put-answer-requires c κs = search needs
@@ -103,39 +94,111 @@ put-answer-requires c κs = search needs
 same-length : tie.Need-same-length
 same-length c = search needs
 
-returns-5 : tie.Need-returns-5
-returns-5 c =
-    let a = c .before .before .before .before .before .before .before .before .before .before .before .before .before .before .before .before .before .before .before .before .before .before .args in
-    let read = c .before .before .before .before .before .before .before .before .before .before .before .before .before .before .before .read-access .ensures in
-    let ok = ap (λ (r : AccessRead). r .ok) (sym read) ∙ not-false _ (c .before .before .before .before .before .before .before .before .before .before .before .before .before .if3 .left) in
-    let good = rw read at (sym (c .before .before .before .before .before .before .before .before .before .before .before .good2 .ensures) ∙ not-false _
-    (c .before .before .before .before .before .before .before .before .before .before .if4 .left)) in
-    let room : outputLeast ≤ length (a .out .now) =
-    omega (
-      arith,
-      c .before .before .before .before .before .before .before .before .before .before .before .before .before .before .before .before
-          .before .if1 .left,
-    ) in
-    let q = c .before .before .before .before .before .before .before .before .before .question-of .result in
-    let small : q .request .procedure < 3 = rw (question-is (c .before .before .before .before .before .before .before .before .before .question-of .ensures)) (question-procedure _ _ _) in
-    let start = c .before .before .before .before .before .before .before .before .before .before .before .before .before .before .before .before .before .before .before .before .before .before in
-    let rows : length (start .args .self .grid .rows) ≡ 3 = search (unmapped, needs, start .good) in
-    let steps : Stepping (a .self) (q .request .procedure)
-    (step (c .before .before .before .before .before .before .before .before .before .before .before .before .before .before .before .read-access .result .profile) (a .self)
-    (a .component .now)) (c .before .before .before .before .before .before .step-of .result) =
-    rw (step-of _ (a .self) (a .component .now) _ (question-is (c .before .before .before .before .before .before .before .before .before .question-of .ensures)))
-    (c .before .before .before .before .before .before .step-of .ensures (a .self) refl refl (omega (arith, rows))) in
-    answered-arrives (a .access .now) (a .self) (a .component .now) (a .out .now) _ _ _ _ _
-    (done-answers (a .access .now) (a .self) (a .component .now) (length (a .out .now)) room
-    (omega (
-      arith,
-      c .before .before .before .before .before .before .before .before .before .before .before .before .before .before .before
-          .before .if2 .left,
-    )) ok good)
-    (step-fits _ (a .self) (access-good (a .access .now) ok) good (a .component .now))
-    (rw read at steps)
-    room
-    (c .before .before .put-answer .ensures)
+returns-6 : tie.Need-returns-6
+returns-6 c =
+    let k = c .before .before .before .before .before .before .before in
+    let g = k .before .before .before .before .before .before .before .before in
+    let a = g .before .before .before .before .before .before .before .args in
+    says-arrives (a .access .now) (a .self) (a .component .now) (a .out .now) (g .read-access .result) (g .read-access .ensures)
+    (omega (arith, g .before .before .if1 .left)) (omega (arith, g .before .if2 .left)) (not-false _ (k .before .before .before .before .before .before .if3 .left))
+    (k .before .before .before .if4 .left) (sym (k .before .before .good2 .ensures) ∙ not-false _ (k .before .if5 .left))
+    (k .question-of .result) (k .question-of .ensures) _ _ _
+    (not-true _ (c .before .before .before .before .before .if6 .taken)) (c .before .before .before .before .no-entries .ensures) (c .before .before .put-answer .ensures)
+
+last-after-requires : tie.Need-last-after-requires
+last-after-requires c κs = search needs
+
+judge-request-requires : tie.Need-judge-request-requires
+judge-request-requires c κs = search needs
+
+enum-known-error : tie.Need-enum-known-error
+enum-known-error c = search needs
+
+no-entries-requires-2 : tie.Need-no-entries-requires-2
+no-entries-requires-2 c κs = search needs
+
+put-answer-requires-2 : tie.Need-put-answer-requires-2
+put-answer-requires-2 c κs = search needs
+
+enum-told : tie.Need-enum-told
+enum-told c = search needs
+
+selection-of-requires : tie.Need-selection-of-requires
+selection-of-requires c κs = search needs
+
+entries-requires : tie.Need-entries-requires
+entries-requires c κs = search needs
+
+put-answer-requires-3 : tie.Need-put-answer-requires-3
+put-answer-requires-3 c κs = search needs
+
+same-length-2 : tie.Need-same-length-2
+same-length-2 c = search needs
+
+returns-7 : tie.Need-returns-7
+returns-7 c =
+    let j = c .before .before .before .before .before .before .before .before .before .before in
+    let k = j .before .before .before .before .before in
+    let g = k .before .before .before .before .before .before .before .before in
+    let a = g .before .before .before .before .before .before .before .args in
+    let id : SFits w16 (k .question-of .result .identifier) = search needs in
+    rw (toZ-ofZ id)
+    (lists-arrives (a .access .now) (a .self) (a .component .now) (a .out .now) (g .read-access .result) (g .read-access .ensures)
+    (omega (arith, g .before .before .if1 .left)) (omega (arith, g .before .if2 .left)) (not-false _ (k .before .before .before .before .before .before .if3 .left))
+    (k .before .before .before .if4 .left) (sym (k .before .before .good2 .ensures) ∙ not-false _ (k .before .if5 .left))
+    (k .question-of .result) (k .question-of .ensures) _ _ _
+    (not-false _ (j .before .before .before .if6 .left)) _ (rw (toZ-ofZ id) at (j .last-after .ensures))
+    _ (c .before .before .before .before .before .before .before .before .before .judge-request .ensures) (c .before .before .before .before .before .before .before .enum-told .given .1)
+    (c .before .before .before .before .before .before .if7 .taken)
+    (rw (c .before .before .before .before .before .selection-of .ensures) at (c .before .before .before .before .entries .ensures)) (rw (toZ-ofZ id) at (c .before .before .put-answer3 .ensures)))
+
+apply-request-requires : tie.Need-apply-request-requires
+apply-request-requires c κs = search needs
+
+no-entries-requires-3 : tie.Need-no-entries-requires-3
+no-entries-requires-3 c κs = search needs
+
+put-answer-requires-4 : tie.Need-put-answer-requires-4
+put-answer-requires-4 c κs = search needs
+
+same-length-3 : tie.Need-same-length-3
+same-length-3 c = search needs
+
+returns-8 : tie.Need-returns-8
+returns-8 c =
+    let j = c .before .before .before .before .before .before .before .before .before in
+    let k = j .before .before .before .before .before in
+    let g = k .before .before .before .before .before .before .before .before in
+    let a = g .before .before .before .before .before .before .before .args in
+    let id : SFits w16 (k .question-of .result .identifier) = search needs in
+    rw (toZ-ofZ id)
+    (fails-arrives (a .access .now) (a .self) (a .component .now) (a .out .now) (g .read-access .result) (g .read-access .ensures)
+    (omega (arith, g .before .before .if1 .left)) (omega (arith, g .before .if2 .left)) (not-false _ (k .before .before .before .before .before .before .if3 .left))
+    (k .before .before .before .if4 .left) (sym (k .before .before .good2 .ensures) ∙ not-false _ (k .before .if5 .left))
+    (k .question-of .result) (k .question-of .ensures) _ _ _
+    (not-false _ (j .before .before .before .if6 .left)) _ (rw (toZ-ofZ id) at (j .last-after .ensures))
+    _ (c .before .before .before .before .before .before .before .before .judge-request .ensures) _ (c .before .before .before .before .before .before .error .given .1)
+    (c .before .before .before .before .no-entries2 .ensures) (rw (toZ-ofZ id) at (c .before .before .put-answer2 .ensures)))
+
+same-length-4 : tie.Need-same-length-4
+same-length-4 c = search needs
+
+returns-9 : tie.Need-returns-9
+returns-9 c =
+    let j = c .before .before .before .before .before .before .before .before .before .before in
+    let k = j .before .before .before .before .before in
+    let g = k .before .before .before .before .before .before .before .before in
+    let a = g .before .before .before .before .before .before .before .args in
+    let id : SFits w16 (k .question-of .result .identifier) = search needs in
+    rw (toZ-ofZ id)
+    (changes-arrives (a .access .now) (a .self) (a .component .now) (a .out .now) (g .read-access .result) (g .read-access .ensures)
+    (omega (arith, g .before .before .if1 .left)) (omega (arith, g .before .if2 .left)) (not-false _ (k .before .before .before .before .before .before .if3 .left))
+    (k .before .before .before .if4 .left) (sym (k .before .before .good2 .ensures) ∙ not-false _ (k .before .if5 .left))
+    (k .question-of .result) (k .question-of .ensures) _ _ _
+    (not-false _ (j .before .before .before .if6 .left)) _ (rw (toZ-ofZ id) at (j .last-after .ensures))
+    _ (c .before .before .before .before .before .before .before .before .before .judge-request .ensures) (c .before .before .before .before .before .before .before .enum-told .given .1)
+    (c .before .before .before .before .before .before .if7 .left) _ (c .before .before .before .before .before .apply-request .ensures)
+    (c .before .before .before .before .no-entries3 .ensures) (rw (toZ-ofZ id) at (c .before .before .put-answer4 .ensures)))
 
 pub arrive-spec : {M : Type 1} → statement M
 arrive-spec =
@@ -148,16 +211,31 @@ arrive-spec =
     read-access-requires
     refuses-requires-3
     returns-3
-    good-requires
     refuses-requires-4
     returns-4
+    good-requires
+    refuses-requires-5
+    returns-5
     question-of-requires
-    cast-procedure
-    mul-row
-    element-copy-out-row
-    step-of-requires
-    mul-after
-    element-set-from-after
+    no-entries-requires
     put-answer-requires
     same-length
-    returns-5)
+    returns-6
+    last-after-requires
+    judge-request-requires
+    enum-known-error
+    no-entries-requires-2
+    put-answer-requires-2
+    enum-told
+    selection-of-requires
+    entries-requires
+    put-answer-requires-3
+    same-length-2
+    returns-7
+    apply-request-requires
+    no-entries-requires-3
+    put-answer-requires-4
+    same-length-3
+    returns-8
+    same-length-4
+    returns-9)

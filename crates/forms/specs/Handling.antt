@@ -1,0 +1,24 @@
+-- What is told and written where night sheets are handled (document 01, "Night sheet", "Local refusals").
+use Prim.Native.Nat.{ℕ}
+use mathlib.Core.List.{List, []}
+use Rattle.refusals.specs.Refusal.{refusalNo, Told, refuses, tells}
+use Rattle.refusals.specs.declared.refusal.Refusal.{Refusal}
+use Rattle.forms.specs.declared.record.Handling.{Handling}
+use Rattle.forms.specs.declared.record.Handling.the-variants.{Refuses, Done}
+
+-- what is told: the refusal, or that it is done
+abbrev pub handlingTold : Handling → Told (Unit {0})
+handlingTold (Refuses refusal) = refuses (refusalNo refusal)
+handlingTold Done = tells tt
+
+-- what is told, and the octets at the start of the lent output
+pub record Made : Type 0 where
+  pub told : Told (Unit {0})
+  pub octets : List ℕ
+
+-- "A local refusal .. writes nothing"
+abbrev pub notMade : Refusal → Made
+notMade refusal = record { told = refuses (refusalNo refusal); octets = [] }
+
+abbrev pub made : List ℕ → Made
+made octets = record { told = tells tt; octets = octets }

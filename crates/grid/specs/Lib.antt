@@ -1,0 +1,9 @@
+pub mod Row
+pub mod Grid
+pub mod Selection
+pub mod Judge
+pub mod Table
+pub mod Step
+pub mod Arrive
+pub mod Calls
+pub mod Sheets

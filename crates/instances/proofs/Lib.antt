@@ -1,0 +1,12 @@
+pub mod Runs
+pub mod Choices
+pub mod Counts
+pub mod Orders
+pub mod Placings
+pub mod Puts
+pub mod Fits
+pub mod Keys
+pub mod Goods
+pub mod Finds
+pub mod Listings
+pub mod Listeds

@@ -1,0 +1,4 @@
+pub mod Instance
+pub mod Places
+pub mod Run
+pub mod inner

@@ -1,0 +1,145 @@
+// Instances, and which of them a selection chooses (document 01, "Profile and table").
+use numbers::Address;
+use numbers::address_good;
+use numbers::blank_address;
+use profile::SERVICES;
+ghost use mathlib.Core.Path.{_≡_};
+ghost use lib.ListN.{take};
+ghost use Rattle.instances.specs.Instance.{key, named, selected, concerns, chosen, isAt, among, instanceFits, BlankInstance};
+
+// cfu 0, cfb 1, cfnr 2.
+pub(crate) const PROCEDURES: usize = 3;
+
+// A selection of every number, and of every service.
+const EVERYNUMBER: u8 = 255;
+
+const EVERYSERVICE: u8 = 0;
+
+// An instance: its number by the place in the profile, its service by the code.
+#[repr(C)]
+pub struct Instance {
+    pub procedure: u8,
+    pub number: u8,
+    pub service: u8,
+    pub address: Address,
+}
+
+// Instances of a procedure: of one number or, where that is 255, of all; of one service or, where that is 0, of all.
+#[repr(C)]
+pub struct Selection {
+    pub procedure: u8,
+    pub number: u8,
+    pub service: u8,
+}
+
+// What stands where there is no instance.
+pub fn blank_instance() -> Instance
+    ensures { λ r. ⌜ BlankInstance r ⌝ }
+{
+    let address = blank_address();
+    Instance {
+        procedure: 0,
+        number: 0,
+        service: 0,
+        address,
+    }
+}
+
+// Whether `is` was asked for, or all were.
+pub(crate) fn is_named(every: u8, asked: u8, is: u8) -> bool
+    ensures { λ r. ⌜ r ≡ named every asked is ⌝ }
+{
+    if asked == every {
+        return true;
+    }
+    asked == is
+}
+
+pub(crate) fn is_selected(sel: Selection, number: u8, service: u8) -> bool
+    ensures { λ r. ⌜ r ≡ selected sel number service ⌝ }
+{
+    if !is_named(EVERYNUMBER, sel.number, number) {
+        return false;
+    }
+    is_named(EVERYSERVICE, sel.service, service)
+}
+
+pub(crate) fn is_concerned(sel: Selection, procedure: u8) -> bool
+    ensures { λ r. ⌜ r ≡ concerns sel procedure ⌝ }
+{
+    procedure == sel.procedure
+}
+
+pub(crate) fn is_chosen(sel: Selection, x: Instance) -> bool
+    ensures { λ r. ⌜ r ≡ chosen sel x ⌝ }
+{
+    if !is_concerned(sel, x.procedure) {
+        return false;
+    }
+    is_selected(sel, x.number, x.service)
+}
+
+pub(crate) fn is_at(procedure: u8, number: u8, service: u8, x: Instance) -> bool
+    ensures { λ r. ⌜ r ≡ isAt procedure number service x ⌝ }
+{
+    if x.procedure != procedure {
+        return false;
+    }
+    if x.number != number {
+        return false;
+    }
+    x.service == service
+}
+
+// One number for procedure, number and service.
+pub(crate) fn key_of(procedure: u8, number: u8, service: u8) -> usize
+    ensures { λ r. ⌜ r ≡ key procedure number service ⌝ }
+{
+    (procedure as usize * 256 + number as usize) * 256 + service as usize
+}
+
+// Whether a code stands among the first `count` of the codes.
+fn is_among(code: u8, codes: [u8; SERVICES], count: u8) -> bool
+    ensures { λ r. ⌜ r ≡ among code (take count codes) ⌝ }
+{
+    let many = count as usize;
+    let mut k: usize = 0;
+    while k < SERVICES {
+        if many <= k {
+            return false;
+        }
+        if codes[k] == code {
+            return true;
+        }
+        k += 1;
+    }
+    false
+}
+
+// Whether an instance breaks no rule of a profile with these subscribed flags, so many numbers, and these services.
+pub(crate) fn instance_good(
+    subscribed: [u8; PROCEDURES],
+    numbers: u8,
+    services: [u8; SERVICES],
+    count: u8,
+    x: Instance,
+) -> bool
+    ensures { λ r. ⌜ r ≡ instanceFits subscribed numbers (take count services) x ⌝ }
+{
+    let procedure = x.procedure as usize;
+    if PROCEDURES <= procedure {
+        return false;
+    }
+    if subscribed[procedure] != 1 {
+        return false;
+    }
+    let number = x.number;
+    if numbers <= number {
+        return false;
+    }
+    if !is_among(x.service, services, count) {
+        return false;
+    }
+    let address = x.address;
+    address_good(address)
+}

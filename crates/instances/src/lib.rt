@@ -1,0 +1,12 @@
+// What a table or a picture holds: instances, one after the other (document 01, "Profile and table").
+mod instance;
+mod places;
+mod run;
+
+pub use instance::Instance;
+pub use instance::Selection;
+pub use instance::blank_instance;
+pub use run::Found;
+pub use run::ROOM;
+pub use run::Run;
+pub use run::fresh_run;

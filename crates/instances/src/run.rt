@@ -1,0 +1,312 @@
+// A run of instances, ascending by procedure, number and service (document 01, "Profile and table", "Replies").
+use crate::instance::Instance;
+use crate::instance::PROCEDURES;
+use crate::instance::Selection;
+use crate::instance::blank_instance;
+use crate::instance::instance_good;
+use crate::instance::is_at;
+use crate::instance::is_chosen;
+use crate::instance::is_concerned;
+use crate::instance::key_of;
+use crate::places::places_of;
+use crate::places::stored;
+use lists::Entries;
+use lists::Entry;
+use lists::INSTANCESMOST;
+use lists::no_entries;
+use numbers::Address;
+use numbers::Number;
+use numbers::blank_address;
+use numbers::blank_number;
+use profile::NUMBERS;
+use profile::Profile;
+ghost use mathlib.Core.Path.{_≡_};
+ghost use Rattle.instances.specs.Run.{servedNumber, FreshRun, FindsAddress, ChosenCount, Clear, Ordered, RunGood, Put, CountAfter, EntriesOf};
+
+// The most instances: 8 for each procedure. A profile has no more places.
+pub const ROOM: usize = PROCEDURES * INSTANCESMOST;
+
+// `count` instances. Places past the count carry no meaning.
+#[repr(C)]
+pub struct Run {
+    pub count: u8,
+    pub run: [Instance; ROOM],
+}
+
+// The address of an instance; or `ok` is false.
+pub struct Found {
+    pub ok: bool,
+    pub address: Address,
+}
+
+// A run that holds nothing.
+pub fn fresh_run() -> Run
+    ensures { λ r. ⌜ FreshRun r ⌝ }
+{
+    let none = blank_instance();
+    Run {
+        count: 0,
+        run: [none; ROOM],
+    }
+}
+
+// The profile's own number.
+fn served_number(numbers: [Number; NUMBERS], number: u8) -> Number
+    ensures { λ r. ⌜ r ≡ servedNumber numbers number ⌝ }
+{
+    let k = number as usize;
+    if k < NUMBERS {
+        return numbers[k];
+    }
+    blank_number()
+}
+
+impl Run {
+    // The address of the instance of a procedure, number and service.
+    pub fn find(self, procedure: u8, number: u8, service: u8) -> Found
+        ensures { λ r. ⌜ FindsAddress procedure number service self r ⌝ }
+    {
+        let n = stored(self.count, ROOM);
+        let mut i: usize = 0;
+        while i < n {
+            let x = self.run[i];
+            if is_at(procedure, number, service, x) {
+                let address = x.address;
+                return Found { ok: true, address };
+            }
+            i += 1;
+        }
+        let address = blank_address();
+        Found { ok: false, address }
+    }
+
+    // How many selected instances there are.
+    pub fn chosen_count(self, sel: Selection) -> usize
+        ensures { λ r. ⌜ ChosenCount sel self r ⌝ }
+    {
+        let n = stored(self.count, ROOM);
+        let mut k: usize = 0;
+        let mut i: usize = 0;
+        while i < n {
+            let x = self.run[i];
+            if is_chosen(sel, x) {
+                k += 1;
+            }
+            i += 1;
+        }
+        k
+    }
+
+    // The run without the selected instances.
+    pub fn clear(self, sel: Selection) -> Run
+        ensures { λ r. ⌜ Clear sel self r ⌝ }
+    {
+        let mut next = fresh_run();
+        let n = stored(self.count, ROOM);
+        let mut k: usize = 0;
+        let mut i: usize = 0;
+        while i < n {
+            let x = self.run[i];
+            if !is_chosen(sel, x) {
+                next.run[k] = x;
+                k += 1;
+            }
+            i += 1;
+        }
+        next.count = k as u8;
+        next
+    }
+
+    // Whether a run breaks no rule of the profile: its instances ascend, each is good, and there are at most 8 of each procedure.
+    pub fn good(self, p: Profile) -> bool
+        ensures { λ r. ⌜ RunGood p self r ⌝ }
+    {
+        let n = self.count as usize;
+        if ROOM < n {
+            return false;
+        }
+        let subscribed = p.subscribed;
+        let services = p.services;
+        let numbers = p.numbercount;
+        let count = p.servicecount;
+        let mut cfu: usize = 0;
+        let mut cfb: usize = 0;
+        let mut cfnr: usize = 0;
+        let mut below: usize = 0;
+        let mut i: usize = 0;
+        while i < n {
+            let x = self.run[i];
+            let procedure = x.procedure;
+            let key = key_of(procedure, x.number, x.service);
+            if key <= below {
+                return false;
+            }
+            if !instance_good(subscribed, numbers, services, count, x) {
+                return false;
+            }
+            if procedure == 0 {
+                cfu += 1;
+            } else if procedure == 1 {
+                cfb += 1;
+            } else {
+                cfnr += 1;
+            }
+            below = key;
+            i += 1;
+        }
+        if INSTANCESMOST < cfu {
+            return false;
+        }
+        if INSTANCESMOST < cfb {
+            return false;
+        }
+        cfnr <= INSTANCESMOST
+    }
+
+    // Whether the instances ascend, and there are at most so many of each procedure.
+    pub fn ordered(self, most: u8) -> bool
+        ensures { λ r. ⌜ Ordered most self r ⌝ }
+    {
+        let n = stored(self.count, ROOM);
+        let most = most as usize;
+        let mut cfu: usize = 0;
+        let mut cfb: usize = 0;
+        let mut cfnr: usize = 0;
+        let mut under: usize = 0;
+        let mut i: usize = 0;
+        while i < n {
+            let x = self.run[i];
+            let procedure = x.procedure;
+            let key = key_of(procedure, x.number, x.service);
+            if key <= under {
+                return false;
+            }
+            if procedure == 0 {
+                cfu += 1;
+            } else if procedure == 1 {
+                cfb += 1;
+            } else if procedure == 2 {
+                cfnr += 1;
+            }
+            under = key;
+            i += 1;
+        }
+        if most < cfu {
+            return false;
+        }
+        if most < cfb {
+            return false;
+        }
+        cfnr <= most
+    }
+
+    // The selected numbers and services of the profile get the address.
+    pub fn put(self, p: Profile, sel: Selection, address: Address) -> Run
+        ensures { λ r. ⌜ Put p sel address self r ⌝ }
+    {
+        let made = places_of(p, sel);
+        let many = stored(made.count, ROOM);
+        let n = stored(self.count, ROOM);
+        let procedure = sel.procedure;
+        let mut next = fresh_run();
+        let mut k: usize = 0;
+        let mut m: usize = 0;
+        let mut i: usize = 0;
+        while k < ROOM {
+            if i < n {
+                let x = self.run[i];
+                if is_chosen(sel, x) {
+                    i += 1;
+                } else if m < many {
+                    let w = made.places[m];
+                    if key_of(x.procedure, x.number, x.service)
+                        < key_of(procedure, w.number, w.service)
+                    {
+                        next.run[k] = x;
+                        i += 1;
+                    } else {
+                        next.run[k] = Instance {
+                            procedure,
+                            number: w.number,
+                            service: w.service,
+                            address,
+                        };
+                        m += 1;
+                    }
+                    k += 1;
+                } else {
+                    next.run[k] = x;
+                    k += 1;
+                    i += 1;
+                }
+            } else if m < many {
+                let w = made.places[m];
+                next.run[k] = Instance {
+                    procedure,
+                    number: w.number,
+                    service: w.service,
+                    address,
+                };
+                k += 1;
+                m += 1;
+            } else {
+                next.count = k as u8;
+                return next;
+            }
+        }
+        next.count = k as u8;
+        next
+    }
+
+    // How many instances of the procedure there are after an activation.
+    pub fn count_after(self, p: Profile, sel: Selection) -> usize
+        ensures { λ r. ⌜ CountAfter p sel self r ⌝ }
+    {
+        let made = places_of(p, sel);
+        let n = stored(self.count, ROOM);
+        let mut k: usize = 0;
+        let mut i: usize = 0;
+        while i < n {
+            let x = self.run[i];
+            if is_concerned(sel, x.procedure) {
+                if !is_chosen(sel, x) {
+                    k += 1;
+                }
+            }
+            i += 1;
+        }
+        k + made.count as usize
+    }
+
+    // The selected instances, in order.
+    pub fn entries(self, p: Profile, sel: Selection) -> Entries
+        ensures { λ r. ⌜ EntriesOf p sel self r ⌝ }
+    {
+        let mut list = no_entries();
+        let numbers = p.numbers;
+        let n = stored(self.count, ROOM);
+        let mut k: usize = 0;
+        let mut i: usize = 0;
+        while k < INSTANCESMOST {
+            if n <= i {
+                list.count = k as u8;
+                return list;
+            }
+            let x = self.run[i];
+            if is_chosen(sel, x) {
+                let served = served_number(numbers, x.number);
+                let address = x.address;
+                list.entries[k] = Entry {
+                    served,
+                    service: x.service,
+                    procedure: x.procedure,
+                    address,
+                };
+                k += 1;
+            }
+            i += 1;
+        }
+        list.count = k as u8;
+        list
+    }
+}

@@ -1,3 +1,0 @@
-pub mod Instances
-pub mod Record
-pub mod inner

@@ -1,0 +1,3 @@
+-- What only private functions promise.
+pub mod Refused
+pub mod Write
