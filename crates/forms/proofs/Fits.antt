@@ -22,7 +22,7 @@ use Rattle.numbers.specs.declared.address.Address.{Address}
 use Rattle.numbers.proofs.Goods.{digits-fair, good-number, good-address}
 use Rattle.numbers.proofs.Readers as readers
 use Rattle.instances.specs.Instance.{procedures, keyOf}
-use Rattle.instances.specs.Places.{room}
+use Rattle.instances.specs.Places.{runMost}
 use Rattle.instances.specs.Run.{ascending, countOf, fewOfEach}
 use Rattle.instances.specs.declared.instance.Instance.{Instance}
 use Rattle.instances.proofs.Keys.{up-of, up-ascending}
@@ -185,7 +185,7 @@ pub record Short (f : Form) : Type 0 where
   pub last : f .lastmost ≤ 32767
   pub procedures : f .procedures ≡ procedures
   pub numbers : f .numbers ≤ 128
-  pub few : f .procedures * f .perprocedure ≤ room
+  pub few : f .procedures * f .perprocedure ≤ runMost
 
 pub form1-short : Short form1
 form1-short = record { code = omega arith; last = omega arith; procedures = refl; numbers = omega arith; few = omega arith }

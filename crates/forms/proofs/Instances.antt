@@ -16,7 +16,7 @@ use Rattle.numbers.specs.Number.{most, padded, fair, numberOf}
 use Rattle.numbers.specs.Address.{subOf}
 use Rattle.numbers.proofs.Goods.{fair-some, parts-good}
 use Rattle.instances.specs.Instance.{blankInstance}
-use Rattle.instances.specs.Places.{room}
+use Rattle.instances.specs.Places.{runMost}
 use Rattle.instances.specs.Run.{packed}
 use Rattle.instances.specs.declared.instance.Instance.{Instance}
 use Rattle.instances.proofs.Runs.{packed-done}
@@ -128,16 +128,16 @@ module _ (f : Form) (s : List ℕ) where
 pub record Going (f : Form) (s : List ℕ) (at count i here : ℕ) (array : List Instance) : Type 0 where
   pub read : List Instance
   pub few : i ≤ count
-  pub filled : (rest : List Instance) → Filled room blankInstance (read ++ rest) rest i array
+  pub filled : (rest : List Instance) → Filled runMost blankInstance (read ++ rest) rest i array
   pub decides : instancesFrom f count s at ≡ ahead read (instancesFrom f (count - i) s here)
 
 module _ (f : Form) (s : List ℕ) (at count : ℕ) where
   -- it begins at `at`, with none
-  pub going-first : Going f s at count 0 at (replicate room blankInstance)
+  pub going-first : Going f s at count 0 at (replicate runMost blankInstance)
   going-first = record {
     read = [];
     few = omega arith;
-    filled = λ rest. filled-none room blankInstance rest;
+    filled = λ rest. filled-none runMost blankInstance rest;
     decides = rw sub-zero (ahead-none (instancesFrom f count s at));
   }
 
@@ -151,7 +151,7 @@ module _ (f : Form) (s : List ℕ) (at count : ℕ) where
     going-all h =
         let same : count ≡ i = omega (arith, so .few) in
         let none : count - i ≡ 0 = omega arith in
-        let full = filled-done room blankInstance (so .read) i array (rw (append-nil (so .read)) at (so .filled [])) in
+        let full = filled-done runMost blankInstance (so .read) i array (rw (append-nil (so .read)) at (so .filled [])) in
         rw (so .decides, none, instances-end f s here, append-nil (so .read), same, packed-done (so .read) i array full)
 
     module _ (more : i < count) where
@@ -169,13 +169,13 @@ module _ (f : Form) (s : List ℕ) (at count : ℕ) where
 
       -- one stands there: it goes on after it
       pub going-next :
-          (k : Instance) (next : ℕ) → count ≤ room → instanceFrom f s here ≡ got k next →
+          (k : Instance) (next : ℕ) → count ≤ runMost → instanceFrom f s here ≡ got k next →
           Going f s at count (i + 1) next (set array i k)
       going-next k next fits found = record {
         read = so .read ++ (k ∷ []);
         few = omega arith;
         filled = λ rest.
-            filled-next room blankInstance ((so .read ++ (k ∷ [])) ++ rest) k rest i array (omega arith)
+            filled-next runMost blankInstance ((so .read ++ (k ∷ [])) ++ rest) k rest i array (omega arith)
             (rw (append-assoc (so .read) (k ∷ []) rest) (so .filled (k ∷ rest)));
         decides = going-step ∙ rw (found, ahead-one (so .read) k (instancesFrom f (count - (i + 1)) s next));
       }

@@ -14,7 +14,7 @@ use Rattle.laws.proofs.Gots.{Something, found-then, found-is}
 use Rattle.laws.proofs.Picks.{pick-ind, by-bool}
 use Rattle.laws.proofs.Tests.{both-hold}
 use Rattle.laws.proofs.Eaches.{Each}
-use Rattle.instances.specs.Places.{room}
+use Rattle.instances.specs.Places.{runMost}
 use Rattle.instances.specs.Run.{instancesOf, packed, Ordered}
 use Rattle.instances.specs.declared.instance.Instance.{Instance}
 use Rattle.instances.specs.declared.run.Run.{Run}
@@ -129,7 +129,7 @@ module _ (f : Form) (s : List ℕ) where
       counted = found-is (λ ks. length ks ≡ o .count) found (instances-count s f (o .count) a)
 
       -- more than a run has room for are too many of a procedure
-      too-many : Fitting f → room < o .count → inOrder f is ≡ false
+      too-many : Fitting f → runMost < o .count → inOrder f is ≡ false
       too-many fitting h =
           by-bool (inOrder f is ≡ false) (inOrder f is)
           (λ order.
@@ -138,7 +138,7 @@ module _ (f : Form) (s : List ℕ) where
           (λ e. e)
 
       -- in a run, as its `ordered` answers of it
-      module _ (run : Run) (held : run ≡ packed is) (short : o .count ≤ room) (t : Bool) (ordered : Ordered (f .perprocedure) run t) where
+      module _ (run : Run) (held : run ≡ packed is) (short : o .count ≤ runMost) (t : Bool) (ordered : Ordered (f .perprocedure) run t) where
         order-told : t ≡ inOrder f is
         unfolding inOrder
         order-told =
@@ -153,7 +153,7 @@ module _ (f : Form) (s : List ℕ) where
             _≡_ {A = FormRead} record { ok = true; last = o .last; run = run } (formRead (sheetIn f s))
         sheet-read e h = rw (in-order e (sym order-told ∙ h), held)
 
-    pub sheet-many : Fitting f → room < o .count → sheetIn f s ≡ wrong
+    pub sheet-many : Fitting f → runMost < o .count → sheetIn f s ≡ wrong
     sheet-many fitting h = each (instancesFrom f (o .count) s a) refl
       where
         each : (g : Got (List Instance)) → instancesFrom f (o .count) s a ≡ g → sheetIn f s ≡ wrong
@@ -186,7 +186,7 @@ sheet-allowed f s =
 
 -- a run has room for what is allowed, and holds it all
 module _ (f : Form) (short : Short f) (sheet : Sheet) (so : Allowed f sheet) where
-  pub allowed-room : length (sheet .instances) ≤ room
+  pub allowed-room : length (sheet .instances) ≤ runMost
   allowed-room = omega (arith, few-instances f (sheet .instances) (short .procedures) (so .each) (so .order), short .few)
 
   pub allowed-packed : instancesOf (packed (sheet .instances)) ≡ sheet .instances

@@ -10,7 +10,7 @@ use instances::fresh_run;
 ghost use mathlib.Core.Path.{_≡_};
 ghost use Prim.Native.Nat.{_≤_};
 ghost use Rattle.laws.specs.Got.{wrong};
-ghost use Rattle.instances.specs.Places.{room};
+ghost use Rattle.instances.specs.Places.{runMost};
 ghost use Rattle.forms.specs.Sheet.{instancesFrom, sheetIn};
 ghost use Rattle.forms.specs.Formed.{formRead, ReadForm};
 ghost use Rattle.forms.specs.inner.Reading.{instancesRead, openingIn, openingRead, Fitting};
@@ -90,7 +90,7 @@ fn no_instances() -> InstancesRead
 
 // `count` instances from `at` on, one after the other.
 fn instances_from(f: Form, s: &[u8], at: usize, count: usize) -> InstancesRead
-    requires { ⌜ count ≤ room ⌝ }
+    requires { ⌜ count ≤ runMost ⌝ }
     ensures { λ r. ⌜ r ≡ instancesRead (instancesFrom f count (now (s .entry)) at) ⌝ }
 {
     let mut run = fresh_run();

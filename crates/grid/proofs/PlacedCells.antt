@@ -17,7 +17,7 @@ use Rattle.profile.proofs.Profiles.{good-profile}
 use Rattle.instances.specs.declared.instance.Instance.{Instance}
 use Rattle.grid.specs.Grid.{Grid, gridProcedures, noGrid, rowAt}
 use Rattle.grid.specs.Row.{Row, active, cellAt, cellOf, noCell, numberOfPlace, outside, places, serviceOfPlace}
-use Rattle.grid.specs.Sheets.{gridAllIn, gridInProfile, placeOfInstance, placed}
+use Rattle.grid.specs.Sheets.{gridAllIn, gridInProfile, placeOfInstance, gridPlaced}
 use Rattle.grid.proofs.Cells.{not-active}
 use Rattle.grid.proofs.Shapes.{GridShaped, none-row}
 
@@ -91,22 +91,22 @@ module _ (p : Profile) (grid : Grid) (shaped : GridShaped grid) (i : Instance) (
   abbrev gridChanged : Row
   gridChanged = record { cells = set (row .cells) (placeOfInstance p i) (cellOf (i .service) (i .address)) }
 
-  row-here : rowAt (placed p grid i) (i .procedure) ≡ gridChanged
-  unfolding placed
+  row-here : rowAt (gridPlaced p grid i) (i .procedure) ≡ gridChanged
+  unfolding gridPlaced
   row-here = getD-set-same (grid .rows) (i .procedure) gridChanged (record { cells = [] }) (omega (arith, inside, shaped .rows))
 
-  row-else : (k : ℕ) → (k ≡ i .procedure → ⊥) → rowAt (placed p grid i) k ≡ rowAt grid k
-  unfolding placed
+  row-else : (k : ℕ) → (k ≡ i .procedure → ⊥) → rowAt (gridPlaced p grid i) k ≡ rowAt grid k
+  unfolding gridPlaced
   row-else k other = getD-set-other (grid .rows) (i .procedure) k gridChanged (record { cells = [] }) other
 
-  pub placed-shaped : GridShaped (placed p grid i)
-  unfolding placed
+  pub placed-shaped : GridShaped (gridPlaced p grid i)
+  unfolding gridPlaced
   placed-shaped = record {
     rows = length-set (grid .rows) (i .procedure) gridChanged ∙ shaped .rows;
     cells = λ k h. by-bool _ (eqb k (i .procedure))
         (λ e.
         let here = eqb-true k (i .procedure) e in
-        ap (λ (n : ℕ). length (rowAt (placed p grid i) n .cells)) here
+        ap (λ (n : ℕ). length (rowAt (gridPlaced p grid i) n .cells)) here
         ∙ ap (λ (r : Row). length (r .cells)) row-here
         ∙ length-set (row .cells) (placeOfInstance p i) (cellOf (i .service) (i .address))
         ∙ shaped .cells (i .procedure) inside)
@@ -114,19 +114,19 @@ module _ (p : Profile) (grid : Grid) (shaped : GridShaped grid) (i : Instance) (
   }
 
   -- its cell, and the others
-  pub cell-here : cellAt (rowAt (placed p grid i) (i .procedure)) (placeOfInstance p i) ≡ cellOf (i .service) (i .address)
+  pub cell-here : cellAt (rowAt (gridPlaced p grid i) (i .procedure)) (placeOfInstance p i) ≡ cellOf (i .service) (i .address)
   cell-here =
       ap (λ (r : Row). cellAt r (placeOfInstance p i)) row-here
       ∙ getD-set-same (row .cells) (placeOfInstance p i) (cellOf (i .service) (i .address)) outside
       (omega (arith, room, shaped .cells (i .procedure) inside))
 
   pub cell-else :
-      (k j : ℕ) → (k ≡ i .procedure → j ≡ placeOfInstance p i → ⊥) → cellAt (rowAt (placed p grid i) k) j ≡ cellAt (rowAt grid k) j
+      (k j : ℕ) → (k ≡ i .procedure → j ≡ placeOfInstance p i → ⊥) → cellAt (rowAt (gridPlaced p grid i) k) j ≡ cellAt (rowAt grid k) j
   cell-else k j other =
       by-bool _ (eqb k (i .procedure))
       (λ e.
       let here = eqb-true k (i .procedure) e in
-      ap (λ (n : ℕ). cellAt (rowAt (placed p grid i) n) j) here
+      ap (λ (n : ℕ). cellAt (rowAt (gridPlaced p grid i) n) j) here
       ∙ ap (λ (r : Row). cellAt r j) row-here
       ∙ getD-set-other (row .cells) (placeOfInstance p i) j (cellOf (i .service) (i .address)) outside (other here)
       ∙ ap (λ (n : ℕ). cellAt (rowAt grid n) j) (sym here))

@@ -26,7 +26,7 @@ use Rattle.forms.proofs.Readers.{service-few}
 use Rattle.instances.proofs.Keys.{key-earlier}
 use Rattle.grid.specs.Grid.{Grid, gridProcedures, noGrid, rowAt}
 use Rattle.grid.specs.Row.{active, numberOfPlace, places}
-use Rattle.grid.specs.Sheets.{allPlaced, gridAllIn, gridInstances, placeInstances, placeOfInstance, placed}
+use Rattle.grid.specs.Sheets.{allPlaced, gridAllIn, gridInstances, placeInstances, placeOfInstance, gridPlaced}
 use Rattle.grid.proofs.Cells.{active-same}
 use Rattle.grid.proofs.PlacedCells.{Fitting, all-parts, cell-else, cell-here, few-numbers, few-services, fitting, none-there, place-inside}
 use Rattle.grid.proofs.PlacedCells.{place-number, placed-shaped}
@@ -103,7 +103,7 @@ module _ (p : Profile) (profile : profileGood p ≡ true) (grid : Grid) (shaped 
   m = placeOfInstance p i
 
   abbrev more : Grid
-  more = placed p grid i
+  more = gridPlaced p grid i
 
   inside : k < gridProcedures
   inside = fits .procedure
@@ -175,7 +175,7 @@ module _ (p : Profile) (profile : profileGood p ≡ true) where
       let fits = lined .0 in
       let its-room = place-inside p profile i fits in
       let up : Behind grid (rank p i) = λ k j h lt there. omega (arith, behind k j h lt there, lined .2) in
-      lined-placed (placed p grid i) (suc (rank p i)) is (placed-shaped p grid shaped i (fits .procedure) its-room)
+      lined-placed (gridPlaced p grid i) (suc (rank p i)) is (placed-shaped p grid shaped i (fits .procedure) its-room)
       (behind-more p profile grid shaped i fits (lined .1) up) (lined .3)
       ∙ ap (λ (l : List Instance). l ++ is) (one-more p profile grid shaped i fits (lined .1) up)
       ∙ append-assoc (gridInstances grid) (i ∷ []) is

@@ -37,7 +37,7 @@ use Rattle.forms.proofs.Sheets.{Allowed, sheet-allowed}
 use Rattle.grid.specs.Grid.{Grid, gridProcedures, noGrid, rowAt}
 use Rattle.grid.specs.Row.{cellAt, cellGood, cellOf, places}
 use Rattle.grid.specs.Sheets.{GridTableRead, allPlaced, gridAllIn, gridInstances, gridNotRead, gridReadSheet, gridSheetAllowed, gridTableIn}
-use Rattle.grid.specs.Sheets.{placeOfInstance, placed}
+use Rattle.grid.specs.Sheets.{placeOfInstance, gridPlaced}
 use Rattle.grid.specs.Table.{GridTable, gridTableGood}
 use Rattle.grid.proofs.Cells.{good-none}
 use Rattle.grid.proofs.Grids.{grid-rows}
@@ -90,11 +90,11 @@ module _ (p : Profile) (profile : profileGood p ≡ true) (long : length (p .ser
 
   cells-more :
       (grid : Grid) → GridShaped grid → GoodCells p grid → (i : Instance) → Fitting p i → addressGood (i .address) ≡ true →
-      GoodCells p (placed p grid i)
+      GoodCells p (gridPlaced p grid i)
   cells-more grid shaped cells i fits good k j h lt =
       let inside = fits .procedure in
       let room = place-inside p profile i fits in
-      let kept : (k ≡ i .procedure → j ≡ placeOfInstance p i → ⊥) → cellGood p k j (cellAt (rowAt (placed p grid i) k) j) ≡ true =
+      let kept : (k ≡ i .procedure → j ≡ placeOfInstance p i → ⊥) → cellGood p k j (cellAt (rowAt (gridPlaced p grid i) k) j) ≡ true =
       λ other. ap (cellGood p k j) (cell-else p grid shaped i inside room k j other) ∙ cells k j h lt in
       by-bool _ (eqb k (i .procedure))
       (λ e.
@@ -113,7 +113,7 @@ module _ (p : Profile) (profile : profileGood p ≡ true) (long : length (p .ser
   cells-all (i ∷ is) grid shaped cells each all =
       let parts = all-parts p i is all in
       let fits = fitting p i (each .0 .procedure) (parts .0) in
-      cells-all is (placed p grid i) (placed-shaped p grid shaped i (fits .procedure) (place-inside p profile i fits))
+      cells-all is (gridPlaced p grid i) (placed-shaped p grid shaped i (fits .procedure) (place-inside p profile i fits))
       (cells-more grid shaped cells i fits (each .0 .address .good)) (each .1) (parts .1)
 
 -- ---- a sheet that is accepted

@@ -29,7 +29,7 @@ use Rattle.forms.proofs.Fits.{form1-short, tidy-twice, tidyInstance}
 use Rattle.forms.proofs.Trips.{sheet-back}
 use Rattle.grid.specs.Grid.{Grid, gridProcedures, noGrid, rowAt}
 use Rattle.grid.specs.Row.{Cell, Row, active, cellAt, held, places}
-use Rattle.grid.specs.Sheets.{GridTableRead, allPlaced, gridInstance, gridInstances, gridReadSheet, placeInstances, placeOfInstance, placed}
+use Rattle.grid.specs.Sheets.{GridTableRead, allPlaced, gridInstance, gridInstances, gridReadSheet, placeInstances, placeOfInstance, gridPlaced}
 use Rattle.grid.specs.Table.{GridTable, gridTableGood}
 use Rattle.grid.proofs.Cells.{active-some, held-none, held-same, held-some, is-active}
 use Rattle.grid.proofs.PlacedCells.{cell-else, cell-here, none-there, placed-shaped}
@@ -50,7 +50,7 @@ module _ (p : Profile) where
   placed-both : (grid : Grid) (xs ys : List Instance) → allPlaced p grid (xs ++ ys) ≡ allPlaced p (allPlaced p grid xs) ys
   unfolding allPlaced
   placed-both grid [] ys = refl
-  placed-both grid (x ∷ xs) ys = placed-both (placed p grid x) xs ys
+  placed-both grid (x ∷ xs) ys = placed-both (gridPlaced p grid x) xs ys
 
   -- a walk over what places give, place by place
   placed-gathered :
@@ -115,7 +115,7 @@ module _ (p : Profile) (t : GridTable) (good : gridTableGood instancesMost p t �
       one = tidyInstance (gridInstance (t .grid) k j)
 
       abbrev more : Grid
-      more = placed p grid one
+      more = gridPlaced p grid one
 
       its : placeOfInstance p one ≡ j
       its = one-place p t good profile long k j h lt there

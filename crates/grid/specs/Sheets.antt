@@ -88,15 +88,15 @@ gridAllIn p (i ∷ is) = pick (gridInProfile p i) (gridAllIn p is) false
 abbrev pub placeOfInstance : Profile → Instance → ℕ
 placeOfInstance p i = servicesMost * i .number + placeOf (i .service) (subscribedServices p)
 
-unfoldable pub placed : Profile → Grid → Instance → Grid
-placed p grid i = record {
+unfoldable pub gridPlaced : Profile → Grid → Instance → Grid
+gridPlaced p grid i = record {
   rows = set (grid .rows) (i .procedure)
       (record { cells = set (rowAt grid (i .procedure) .cells) (placeOfInstance p i) (cellOf (i .service) (i .address)) });
 }
 
 unfoldable pub allPlaced : Profile → Grid → List Instance → Grid
 allPlaced p grid [] = grid
-allPlaced p grid (i ∷ is) = allPlaced p (placed p grid i) is
+allPlaced p grid (i ∷ is) = allPlaced p (gridPlaced p grid i) is
 
 -- whether it is a sheet, and a table of the profile can hold it; and the table that it holds
 abbrev pub gridSheetAllowed : Profile → Got Sheet → Bool

@@ -20,7 +20,7 @@ use Rattle.profile.specs.declared.profile.Profile.{Profile}
 use Rattle.profile.proofs.Profiles.{rising-first, GoodProfile}
 use Rattle.lists.specs.Entries.{instancesMost}
 use Rattle.instances.specs.Instance.{key, keyOf, chosen, spared, among, instanceGood}
-use Rattle.instances.specs.Places.{room, placeFor, placesFrom, picks, placesOf}
+use Rattle.instances.specs.Places.{runMost, placeFor, placesFrom, picks, placesOf}
 use Rattle.instances.specs.Run.{instancesOf, packed, deactivated, instanceAt, activated, ascending, eachGood, isOf, countOf, fewOfEach, instancesGood, runGood}
 use Rattle.instances.specs.declared.instance.Instance.{Instance}
 use Rattle.instances.specs.declared.instance.Selection.{Selection}
@@ -117,7 +117,7 @@ pub list-good : (p : Profile) (most : ℕ) (l : List Instance) → GoodList p mo
 list-good p most l so = rw (up-ascending 0 l (so .ascends), goods-all (instanceGood p) l (so .each), few-is most l (so .few))
 
 -- good instances find room
-pub good-short : (p : Profile) (l : List Instance) → GoodList p instancesMost l → length l ≤ room
+pub good-short : (p : Profile) (l : List Instance) → GoodList p instancesMost l → length l ≤ runMost
 good-short p l so =
     let procedures = each-so (λ x. instanceGood p x ≡ true) (λ x. x .procedure < 3)
     (λ x h. fits-of (p .subscribed) (p .numbercount) (subscribedServices p) x h .procedure) l (so .each) in
@@ -127,14 +127,14 @@ good-short p l so =
 pub run-good : (p : Profile) (most : ℕ) (run : Run) → runGood most p run ≡ true → GoodList p most (instancesOf run)
 unfolding runGood
 run-good p most run h =
-    good-list p most (instancesOf run) (both-hold (leb (run .count) room) (instancesGood most p (instancesOf run)) h .1)
+    good-list p most (instancesOf run) (both-hold (leb (run .count) runMost) (instancesGood most p (instancesOf run)) h .1)
 
 pub good-run : (p : Profile) (l : List Instance) → GoodList p instancesMost l → runGood instancesMost p (packed l) ≡ true
 unfolding runGood
 good-run p l so =
     let few = good-short p l so in
-    let whole : take room l ≡ l = take-all room l few in
-    rw (packed-all l few, list-good p instancesMost l so, whole, le-leb (length l) room few)
+    let whole : take runMost l ≡ l = take-all runMost l few in
+    rw (packed-all l few, list-good p instancesMost l so, whole, le-leb (length l) runMost few)
 
 -- ---- a deactivation
 

@@ -10,7 +10,7 @@ use Rattle.laws.specs.Tests.{all}
 use Rattle.laws.proofs.Picks.{pick-ind, pick-last}
 use Rattle.profile.specs.declared.profile.Profile.{Profile}
 use Rattle.instances.specs.Instance.{keyOf, instanceGood}
-use Rattle.instances.specs.Places.{room}
+use Rattle.instances.specs.Places.{runMost}
 use Rattle.instances.specs.Run.{instancesOf, ascending, eachGood, fewOfEach, runGood}
 use Rattle.instances.specs.declared.instance.Instance.{Instance}
 use Rattle.instances.specs.declared.run.Run.{Run}
@@ -64,12 +64,12 @@ all-parts true true c = pick-last c
 all-parts true false c = refl
 all-parts false b c = refl
 
-module _ (p : Profile) (run : Run) (most : ℕ) (few : run .count ≤ room) where
+module _ (p : Profile) (run : Run) (most : ℕ) (few : run .count ≤ runMost) where
   run-parts : runGood most p run ≡ pick (sound (instanceGood p) 0 (instancesOf run)) (fewOfEach most (instancesOf run)) false
   unfolding runGood
   run-parts =
       let l = instancesOf run in
-      rw (le-leb (run .count) room few)
+      rw (le-leb (run .count) runMost few)
       (pick-last _ ∙ all-parts (ascending 0 l) (eachGood (instanceGood p) l) (fewOfEach most l))
 
   pub not-good : sound (instanceGood p) 0 (instancesOf run) ≡ false → runGood most p run ≡ false
@@ -78,6 +78,6 @@ module _ (p : Profile) (run : Run) (most : ℕ) (few : run .count ≤ room) wher
   pub is-good : sound (instanceGood p) 0 (instancesOf run) ≡ true → runGood most p run ≡ fewOfEach most (instancesOf run)
   is-good h = run-parts ∙ rw h
 
-pub too-long : (p : Profile) (run : Run) (most : ℕ) → leb (run .count) room ≡ false → runGood most p run ≡ false
+pub too-long : (p : Profile) (run : Run) (most : ℕ) → leb (run .count) runMost ≡ false → runGood most p run ≡ false
 unfolding runGood
 too-long p run most h = rw h

@@ -12,7 +12,7 @@ use Rattle.laws.proofs.Filled.{Full}
 use Rattle.numbers.specs.declared.address.Address.{Address}
 use Rattle.profile.specs.declared.profile.Profile.{Profile}
 use Rattle.instances.specs.Instance.{blankInstance, keyOf, chosen, spared}
-use Rattle.instances.specs.Places.{room, placesOf}
+use Rattle.instances.specs.Places.{runMost, placesOf}
 use Rattle.instances.specs.inner.Places.{placed, placesIn}
 use Rattle.instances.specs.Run.{instancesOf, packed, deactivated, instanceAt, merged, activatedAt, activated}
 use Rattle.instances.specs.declared.instance.Instance.{Instance}
@@ -71,8 +71,8 @@ module _ (sel : Selection) (address : Address) (ws : List Place) (is : List Inst
 pub put-answer :
     (p : Profile) (sel : Selection) (address : Address) (run : Run) (w : Places) (k : ℕ) (array : List Instance) →
     w ≡ placed (placesOf p sel) →
-    (Full room blankInstance (activatedAt sel address (placesIn w) (instancesOf run)) k array) ⊎
-    (Full room blankInstance (take room (activatedAt sel address (placesIn w) (instancesOf run))) k array) →
+    (Full runMost blankInstance (activatedAt sel address (placesIn w) (instancesOf run)) k array) ⊎
+    (Full runMost blankInstance (take runMost (activatedAt sel address (placesIn w) (instancesOf run))) k array) →
     _≡_ {A = Run} record { count = k; run = array } (packed (activated p sel address (instancesOf run)))
 put-answer p sel address run w k array e so =
     let whole = activatedAt sel address (placesIn w) (instancesOf run) in

@@ -9,7 +9,7 @@ use lib.Seq.{take-all, take-append-seam}
 use Rattle.laws.proofs.Lefts.{left-cons, left-none}
 use Rattle.laws.proofs.Filled.{Full}
 use Rattle.instances.specs.Instance.{instanceOf, blankInstance}
-use Rattle.instances.specs.Places.{room}
+use Rattle.instances.specs.Places.{runMost}
 use Rattle.instances.specs.Run.{instancesOf, packed}
 use Rattle.instances.specs.declared.instance.Instance.{Instance}
 use Rattle.instances.specs.declared.run.Run.{Run}
@@ -29,7 +29,7 @@ abbrev pub outside : Instance
 outside =
     instanceOf 0 0 0 (record { number = record { form = 0; kind = 0; count = 0; digits = [] }; subcount = 0; sub = [] })
 
-module _ (run : Run) (n i : ℕ) (few : n ≡ min (run .count) room) (long : length (run .run) ≡ room) where
+module _ (run : Run) (n i : ℕ) (few : n ≡ min (run .count) runMost) (long : length (run .run) ≡ runMost) where
   pub next-is : i < n → drop i (instancesOf run) ≡ getD (run .run) i outside ∷ drop (i + 1) (instancesOf run)
   next-is h = step (run .count) (run .run) i outside (omega arith) (omega arith)
 
@@ -40,15 +40,15 @@ module _ (run : Run) (n i : ℕ) (few : n ≡ min (run .count) room) (long : len
 
 -- all of them were stored, or as many as there is room for
 pub packed-done :
-    (is : List Instance) (k : ℕ) (array : List Instance) → Full room blankInstance is k array →
+    (is : List Instance) (k : ℕ) (array : List Instance) → Full runMost blankInstance is k array →
     _≡_ {A = Run} record { count = k; run = array } (packed is)
-packed-done is k array so = rw (take-all room is (so .2), so .1, so .0)
+packed-done is k array so = rw (take-all runMost is (so .2), so .1, so .0)
 
 pub packed-full :
-    (is : List Instance) (k : ℕ) (array : List Instance) → Full room blankInstance (take room is) k array →
+    (is : List Instance) (k : ℕ) (array : List Instance) → Full runMost blankInstance (take runMost is) k array →
     _≡_ {A = Run} record { count = k; run = array } (packed is)
 packed-full is k array so = rw (so .1, so .0)
 
 -- where there is room, the record holds them all, and is their array
-pub packed-all : (is : List Instance) → length is ≤ room → instancesOf (packed is) ≡ is
-packed-all is few = rw (take-all room is few) (take-append-seam is (replicate (room - length is) blankInstance))
+pub packed-all : (is : List Instance) → length is ≤ runMost → instancesOf (packed is) ≡ is
+packed-all is few = rw (take-all runMost is few) (take-append-seam is (replicate (runMost - length is) blankInstance))

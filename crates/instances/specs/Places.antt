@@ -12,8 +12,8 @@ use Rattle.instances.specs.declared.instance.Selection.{Selection}
 use Rattle.instances.specs.declared.places.Place.{Place}
 
 -- "at most 8 for each procedure", so this many in all; a profile has no more places
-abbrev pub room : ℕ
-room = procedures * instancesMost
+abbrev pub runMost : ℕ
+runMost = procedures * instancesMost
 
 abbrev pub placeFor : ℕ → ℕ → Place
 placeFor number service = record { number = number; service = service }

@@ -20,7 +20,7 @@ use Rattle.lists.specs.Entries.{instancesMost, entriesOf}
 use Rattle.lists.specs.declared.entry.Entry.{Entry}
 use Rattle.lists.specs.declared.entries.Entries.{Entries}
 use Rattle.instances.specs.Instance.{instanceOf, blankInstance, keyOf, chosen, spared, isAt, instanceGood}
-use Rattle.instances.specs.Places.{room, placesOf}
+use Rattle.instances.specs.Places.{runMost, placesOf}
 use Rattle.instances.specs.declared.instance.Instance.{Instance}
 use Rattle.instances.specs.declared.instance.Selection.{Selection}
 use Rattle.instances.specs.declared.places.Place.{Place}
@@ -35,8 +35,8 @@ instancesOf run = take (run .count) (run .run)
 -- (`packed-all`)
 abbrev pub packed : List Instance → Run
 packed is = record {
-  count = length (take room is);
-  run = take room is ++ replicate (room - length (take room is)) blankInstance;
+  count = length (take runMost is);
+  run = take runMost is ++ replicate (runMost - length (take runMost is)) blankInstance;
 }
 
 -- ---- what a request reads
@@ -109,7 +109,7 @@ instancesGood most p is = all (ascending 0 is ∷ eachGood (instanceGood p) is �
 
 -- "At most one for each procedure, number and service, and at most 8 for each procedure"
 unfoldable pub runGood : ℕ → Profile → Run → Bool
-runGood most p run = all (leb (run .count) room ∷ instancesGood most p (instancesOf run) ∷ [])
+runGood most p run = all (leb (run .count) runMost ∷ instancesGood most p (instancesOf run) ∷ [])
 
 -- ---- what the functions of a run promise
 

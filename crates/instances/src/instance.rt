@@ -11,9 +11,9 @@ ghost use Rattle.instances.specs.Instance.{key, named, selected, concern
 pub(crate) const PROCEDURES: usize = 3;
 
 // A selection of every number, and of every service.
-const EVERYNUMBER: u8 = 255;
+pub(crate) const EVERYNUMBER: u8 = 255;
 
-const EVERYSERVICE: u8 = 0;
+pub(crate) const EVERYSERVICE: u8 = 0;
 
 // An instance: its number by the place in the profile, its service by the code.
 #[repr(C)]

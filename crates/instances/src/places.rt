@@ -1,14 +1,19 @@
 // The selected places of a profile: each number with each service.
+use crate::instance::EVERYNUMBER;
+use crate::instance::EVERYSERVICE;
 use crate::instance::Selection;
+use crate::instance::is_named;
 use crate::instance::is_selected;
 use crate::run::ROOM;
 use profile::NUMBERS;
 use profile::Profile;
 use profile::SERVICES;
 ghost use mathlib.Core.Path.{_≡_};
-ghost use Prim.Native.Nat.{min};
-ghost use Rattle.instances.specs.Places.{placesOf};
-ghost use Rattle.instances.specs.inner.Places.{placed};
+ghost use Prim.Native.Nat.{min, _≤_};
+ghost use lib.ListN.{length, take};
+ghost use Rattle.profile.specs.Profile.{numbersMost, servicesMost};
+ghost use Rattle.instances.specs.Places.{runMost, placesOf};
+ghost use Rattle.instances.specs.inner.Places.{placed, numbersNamed, servicesNamed};
 
 // A number, by its place in the profile, and a service.
 pub struct Place {
@@ -67,4 +72,42 @@ pub(crate) fn places_of(p: Profile, sel: Selection) -> Places
     }
     next.count = k as u8;
     next
+}
+
+// How many of so many numbers the selection names.
+fn numbers_named(count: u8, number: u8) -> usize
+    ensures { λ r. ⌜ (r ≡ numbersNamed number (min count numbersMost)) × (r ≤ numbersMost) ⌝ }
+{
+    let many = stored(count, NUMBERS);
+    if number == EVERYNUMBER {
+        return many;
+    }
+    if (number as usize) < many {
+        return 1;
+    }
+    0
+}
+
+// How many of the first `count` services the selection names.
+fn services_named(services: [u8; SERVICES], count: u8, service: u8) -> usize
+    ensures { λ r. ⌜ (r ≡ servicesNamed service (take count services)) × (r ≤ servicesMost) ⌝ }
+{
+    let n = stored(count, SERVICES);
+    let mut k: usize = 0;
+    let mut i: usize = 0;
+    while i < n {
+        if is_named(EVERYSERVICE, service, services[i]) {
+            k += 1;
+        }
+        i += 1;
+    }
+    k
+}
+
+// How many places are selected: each named number has each named service.
+pub(crate) fn places_count(p: Profile, sel: Selection) -> usize
+    ensures { λ r. ⌜ (r ≡ length (placesOf p sel)) × (r ≤ runMost) ⌝ }
+{
+    let services = p.services;
+    numbers_named(p.numbercount, sel.number) * services_named(services, p.servicecount, sel.service)
 }

@@ -8,6 +8,7 @@ use crate::instance::is_at;
 use crate::instance::is_chosen;
 use crate::instance::is_concerned;
 use crate::instance::key_of;
+use crate::places::places_count;
 use crate::places::places_of;
 use crate::places::stored;
 use lists::Entries;
@@ -262,9 +263,8 @@ impl Run {
     pub fn count_after(self, p: Profile, sel: Selection) -> usize
         ensures { λ r. ⌜ CountAfter p sel self r ⌝ }
     {
-        let made = places_of(p, sel);
         let n = stored(self.count, ROOM);
-        let mut k: usize = 0;
+        let mut k = places_count(p, sel);
         let mut i: usize = 0;
         while i < n {
             let x = self.run[i];
@@ -275,7 +275,7 @@ impl Run {
             }
             i += 1;
         }
-        k + made.count as usize
+        k
     }
 
     // The selected instances, in order.

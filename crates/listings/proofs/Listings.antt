@@ -6,7 +6,7 @@ use native.Mathlib.Omega.{arith}
 use lib.ListN.{length, drop, getD, length-append}
 use Rattle.laws.specs.Over.{Wrote}
 use Rattle.laws.proofs.Over.{wrote-length, then, wrote-none}
-use Rattle.instances.specs.Places.{room}
+use Rattle.instances.specs.Places.{runMost}
 use Rattle.instances.specs.Run.{instancesOf}
 use Rattle.instances.specs.declared.instance.Instance.{Instance}
 use Rattle.instances.specs.declared.run.Run.{Run}
@@ -82,21 +82,21 @@ module _ (is : List Instance) (xs : List ℕ) (at : ℕ) where
 
 -- ---- the instances of a run
 
-module _ (run : Run) (long : length (run .run) ≡ room) (xs : List ℕ) (at : ℕ) where
+module _ (run : Run) (long : length (run .run) ≡ runMost) (xs : List ℕ) (at : ℕ) where
   abbrev is : List Instance
   is = instancesOf run
 
   module _ (i : ℕ) {p : ℕ} {ys : List ℕ} (so : Going is xs at i p ys) where
     -- no more are counted, or it is at the end of the array
-    pub run-all : min (run .count) room ≤ i → Wrote xs at (instanceLines is) p ys
-    run-all h = going-all is xs at so (none-left run (min (run .count) room) i refl long h)
+    pub run-all : min (run .count) runMost ≤ i → Wrote xs at (instanceLines is) p ys
+    run-all h = going-all is xs at so (none-left run (min (run .count) runMost) i refl long h)
 
-    module _ (few : i < run .count) (less : i < room) where
+    module _ (few : i < run .count) (less : i < runMost) where
       abbrev k : Instance
       k = getD (run .run) i outside
 
       more : drop i is ≡ k ∷ drop (i + 1) is
-      more = next-is run (min (run .count) room) i refl long (omega arith)
+      more = next-is run (min (run .count) runMost) i refl long (omega arith)
 
       pub run-room :
           at + length (instanceLines is) ≤ length xs → Counted (k .address) × (p + length (instanceLine k) ≤ length ys)

@@ -16,7 +16,7 @@ use Rattle.laws.proofs.Gots.{found-is}
 use Rattle.laws.proofs.Picks.{pick-ind}
 use Rattle.laws.proofs.Eaches.{Each}
 use Rattle.refusals.specs.declared.refusal.Refusal.the-variants.{ShortOutput, BadSheet}
-use Rattle.instances.specs.Places.{room}
+use Rattle.instances.specs.Places.{runMost}
 use Rattle.instances.specs.Run.{instancesOf, countOf}
 use Rattle.instances.specs.declared.instance.Instance.{Instance}
 use Rattle.instances.specs.declared.run.Run.{Run}
@@ -91,7 +91,7 @@ listing-fits s = each (sheetIn form1 s) refl
 
 -- ---- the listing of a run
 
-module _ (last : ℕ) (run : Run) (few : run .count ≤ room) (long : length (run .run) ≡ room) where
+module _ (last : ℕ) (run : Run) (few : run .count ≤ runMost) (long : length (run .run) ≡ runMost) where
   abbrev header : List ℕ
   header = headerLine 1 last (run .count)
 
@@ -137,9 +137,9 @@ module _ (s : List ℕ) (r : FormRead) (told : ReadForm s r) (ok : r .ok ≡ tru
   -- what its writer asks, in output that has room for the longest listing
   pub listing-asks :
       (xs : List ℕ) → listingMost form1 ≤ length xs →
-      (r .run .count ≤ room) × (length (listing form1 (sheetOf (r .last) (r .run))) ≤ length xs) × AllCounted (instancesOf (r .run))
+      (r .run .count ≤ runMost) × (length (listing form1 (sheetOf (r .last) (r .run))) ≤ length xs) × AllCounted (instancesOf (r .run))
   listing-asks xs fits = (
-    omega (arith, ap (λ (x : Run). x .count) (found .run), length-take room (found .sheet .instances)),
+    omega (arith, ap (λ (x : Run). x .count) (found .run), length-take runMost (found .sheet .instances)),
     rw same-sheet (omega (arith, allowed-fits (found .sheet) (found .allowed))),
     rw (found .instances) (all-counted (found .sheet .instances) (found .allowed .each)),
   )

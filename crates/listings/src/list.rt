@@ -11,7 +11,7 @@ ghost use mathlib.Core.Path.{_≡_};
 ghost use Prim.Native.Nat.{_≤_};
 ghost use lib.ListN.{length};
 ghost use Rattle.laws.specs.Over.{Wrote};
-ghost use Rattle.instances.specs.Places.{room};
+ghost use Rattle.instances.specs.Places.{runMost};
 ghost use Rattle.instances.specs.Run.{instancesOf};
 ghost use Rattle.forms.specs.Form.{form1};
 ghost use Rattle.forms.specs.inner.Refused.{notWritten};
@@ -23,7 +23,7 @@ const LISTINGMOST: usize = 27 + 8 * (74 + 74 + 75);
 
 // The listing of a sheet that holds this identifier and these instances, where there is room for it.
 fn write_listing(out: &mut [u8], last: u16, run: Run) -> usize
-    requires { ⌜ (run .count ≤ room) × (length (listing form1 (sheetOf last run)) ≤ length (now out)) × AllCounted (instancesOf run) ⌝ }
+    requires { ⌜ (run .count ≤ runMost) × (length (listing form1 (sheetOf last run)) ≤ length (now out)) × AllCounted (instancesOf run) ⌝ }
     ensures { λ r. ⌜ Wrote (now (out .entry)) 0 (listing form1 (sheetOf last run)) r (now (out .exit)) ⌝ }
 {
     let p = write_header(out, last, run.count as u32);

@@ -14,7 +14,7 @@ use Rattle.refusals.specs.declared.refusal.Refusal.the-variants.{ShortOutput, B
 use Rattle.profile.specs.Access.{accessRead}
 use Rattle.profile.proofs.Records.{access-good}
 use Rattle.lists.specs.Entries.{instancesMost}
-use Rattle.instances.specs.Places.{room}
+use Rattle.instances.specs.Places.{runMost}
 use Rattle.instances.specs.Run.{instancesOf}
 use Rattle.exchange.specs.Table.{lastMost, tableGood}
 use Rattle.exchange.specs.declared.table.Table.{Table}
@@ -89,7 +89,7 @@ pub record Ready (t : Table) (xs : List ℕ) : Type 0 where
 pub ready :
     (access : List ℕ) (t : Table) (xs : List ℕ) → sheetMost form1 ≤ length xs → accessRead access .ok ≡ true →
     tableGood instancesMost (accessRead access .profile) t ≡ true →
-    length (t .run .run) ≡ room →
+    length (t .run .run) ≡ runMost →
     Ready t xs
 ready access t xs enough ok good long =
     let p = accessRead access .profile in

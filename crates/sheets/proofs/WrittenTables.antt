@@ -16,7 +16,7 @@ use Rattle.profile.specs.declared.profile.Profile.{Profile}
 use Rattle.profile.proofs.Profiles.{good-profile}
 use Rattle.lists.specs.Entries.{instancesMost}
 use Rattle.instances.specs.Instance.{instanceGood}
-use Rattle.instances.specs.Places.{room}
+use Rattle.instances.specs.Places.{runMost}
 use Rattle.instances.specs.Run.{instancesOf, runGood}
 use Rattle.instances.specs.declared.instance.Instance.{Instance}
 use Rattle.instances.proofs.Orders.{too-long}
@@ -86,15 +86,15 @@ module _ (p : Profile) (t : Table) (good : tableGood instancesMost p t ≡ true)
   table-list = run-good p instancesMost (t .run) good-run
 
   -- "at most 8 for each procedure": at most 24
-  pub instances-few : length (instancesOf (t .run)) ≤ room
+  pub instances-few : length (instancesOf (t .run)) ≤ runMost
   instances-few = good-short p (instancesOf (t .run)) table-list
 
   -- what it counts is in its array
-  pub instances-count : length (t .run .run) ≡ room → length (instancesOf (t .run)) ≡ t .run .count
+  pub instances-count : length (t .run .run) ≡ runMost → length (instancesOf (t .run)) ≡ t .run .count
   instances-count long =
-      let few : t .run .count ≤ room =
-      by-bool (t .run .count ≤ room) (leb (t .run .count) room)
-      (λ e. leb-true (t .run .count) room e)
+      let few : t .run .count ≤ runMost =
+      by-bool (t .run .count ≤ runMost) (leb (t .run .count) runMost)
+      (λ e. leb-true (t .run .count) runMost e)
       (λ e. absurd (false≢true (sym (too-long p (t .run) instancesMost e) ∙ good-run))) in
       omega (arith, few, long, length-take (t .run .count) (t .run .run))
 

@@ -8,7 +8,7 @@ use native.Mathlib.Omega.{arith}
 use lib.ListN.{length, take, length-take}
 use lib.Seq.{getD-take}
 use Rattle.laws.proofs.Parts.{unmapped}
-use Rattle.instances.specs.Places.{room, placesFrom, picks}
+use Rattle.instances.specs.Places.{runMost, placesFrom, picks}
 use Rattle.laws.specs.Those.{those}
 use Rattle.instances.specs.inner.Places.{noPlace}
 use Rattle.laws.proofs.Filled.{Filled, filled-none, filled-next, filled-done}
@@ -20,7 +20,7 @@ use Rattle.instances.proofs.places.places_of.Tie as tie
 abbrev Inv-loop : tie.InvT-loop
 Inv-loop sel numbers count services next₀ k₀ a₀ b₀ next k a b =
     (numbers ≤ numbersMost) × (count ≤ servicesMost) × (length services ≡ servicesMost) × (a ≤ numbers) × (b ≤ count) × (k ≤ a * servicesMost + b) ×
-    Filled room noPlace (those (picks sel) (placesFrom (take count services) numbers 0))
+    Filled runMost noPlace (those (picks sel) (placesFrom (take count services) numbers 0))
     (those (picks sel) (placesLeft (take count services) numbers a b)) k (next .places)
 
 abbrev μ-loop : tie.MeasureT-loop

@@ -4,7 +4,7 @@ use native.Mathlib.Omega.{arith}
 use lib.ListN.{length}
 use borrow.Author.Needs.{needs}
 use Rattle.laws.proofs.Parts.{unmapped}
-use Rattle.instances.specs.Places.{room}
+use Rattle.instances.specs.Places.{runMost}
 use Rattle.instances.specs.Run.{instancesOf}
 use Rattle.listings.proofs.Listings.{Going, going-first, run-all, run-room, run-next}
 use Rattle.listings.proofs.line.write_lines.Statement.{statement}
@@ -14,7 +14,7 @@ abbrev Inv-loop : tie.InvT-loop
 Inv-loop out₀ at run n p₀ i₀ out p i = (length out ≡ length out₀) × Going (instancesOf run) out₀ at i p out
 
 abbrev μ-loop : tie.MeasureT-loop
-μ-loop out₀ at run n p₀ i₀ out p i = room - i
+μ-loop out₀ at run n p₀ i₀ out p i = runMost - i
 
 cast-n : tie.Need-cast-n Inv-loop μ-loop
 cast-n c = search needs
@@ -31,7 +31,7 @@ returns : tie.Need-returns Inv-loop μ-loop
 returns c =
     let s = c .before .before .before .before in
     let l = c .before .before .loop in
-    let long : length (s .args .t3 .run) ≡ room = search (unmapped, needs, s .good) in
+    let long : length (s .args .t3 .run) ≡ runMost = search (unmapped, needs, s .good) in
     run-all (s .args .t3) long (s .args .out .now) (s .args .at) (l .i) (l .inv .1) (omega (arith, c .if1 .taken))
 
 mul-x : tie.Need-mul-x Inv-loop μ-loop
@@ -44,7 +44,7 @@ write-line-requires : tie.Need-write-line-requires Inv-loop μ-loop
 write-line-requires c κs =
     let s = c .before .before .before .before .before .before in
     let l = c .before .before .before .before .loop in
-    let long : length (s .args .t3 .run) ≡ room = search (unmapped, needs, s .good) in
+    let long : length (s .args .t3 .run) ≡ runMost = search (unmapped, needs, s .good) in
     run-room (s .args .t3) long (s .args .out .now) (s .args .at) (l .i) (l .inv .1) (omega (arith, c .before .before .if1 .left))
     (c .before .before .before .loop-test .taken) (s .pre .1)
 
@@ -58,7 +58,7 @@ loop-again : tie.Need-loop-again Inv-loop μ-loop
 loop-again c =
     let s = c .before .before .before .before .before .before .before .before .before in
     let l = c .before .before .before .before .before .before .before .loop in
-    let long : length (s .args .t3 .run) ≡ room = search (unmapped, needs, s .good) in (
+    let long : length (s .args .t3 .run) ≡ runMost = search (unmapped, needs, s .good) in (
       search needs,
       run-next (s .args .t3) long (s .args .out .now) (s .args .at) (l .i) (l .inv .1)
           (omega (arith, c .before .before .before .before .before .if1 .left)) (c .before .before .before .before .before .before .loop-test .taken)
@@ -72,7 +72,7 @@ returns-2 : tie.Need-returns-2 Inv-loop μ-loop
 returns-2 c =
     let s = c .before .before .before in
     let l = c .before .loop in
-    let long : length (s .args .t3 .run) ≡ room = search (unmapped, needs, s .good) in
+    let long : length (s .args .t3 .run) ≡ runMost = search (unmapped, needs, s .good) in
     run-all (s .args .t3) long (s .args .out .now) (s .args .at) (l .i) (l .inv .1) (omega (arith, c .loop-test .left))
 
 pub write-lines-spec : {M : Type 1} → statement M

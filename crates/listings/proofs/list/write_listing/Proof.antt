@@ -3,7 +3,7 @@ use lib.ListN.{length}
 use borrow.Author.Needs.{needs}
 use Rattle.laws.proofs.Parts.{unmapped}
 use Rattle.laws.proofs.Over.{wrote-length}
-use Rattle.instances.specs.Places.{room}
+use Rattle.instances.specs.Places.{runMost}
 use Rattle.listings.proofs.Sheets.{header-room, lines-room, listing-wrote}
 use Rattle.listings.proofs.list.write_listing.Statement.{statement}
 use Rattle.listings.proofs.list.write_listing.Tie as tie
@@ -14,13 +14,13 @@ cast-write-header c = search needs
 write-header-requires : tie.Need-write-header-requires
 write-header-requires c κs =
     let s = c .before .before .before in
-    let long : length (s .args .run .run) ≡ room = search (unmapped, needs, s .good) in
+    let long : length (s .args .run .run) ≡ runMost = search (unmapped, needs, s .good) in
     header-room (s .args .last) (s .args .run) (s .pre .0) long (s .args .out .now) (s .pre .1)
 
 write-lines-requires : tie.Need-write-lines-requires
 write-lines-requires c κs =
     let s = c .before .before .before .before .before .before .before in
-    let long : length (s .args .run .run) ≡ room = search (unmapped, needs, s .good) in (
+    let long : length (s .args .run .run) ≡ runMost = search (unmapped, needs, s .good) in (
       s .pre .2,
       lines-room (s .args .last) (s .args .run) (s .pre .0) long (s .args .out .now) (s .pre .1) (c .before .before .before .write-header .ensures),
     )
@@ -28,7 +28,7 @@ write-lines-requires c κs =
 all-wrote : tie.Need-returns
 all-wrote c =
     let s = c .before .before .before .before .before .before .before .before .before .before in
-    let long : length (s .args .run .run) ≡ room = search (unmapped, needs, s .good) in
+    let long : length (s .args .run .run) ≡ runMost = search (unmapped, needs, s .good) in
     listing-wrote (s .args .last) (s .args .run) (s .pre .0) long (s .args .out .now) (s .pre .1)
     (c .before .before .before .before .before .before .write-header .ensures) (c .before .before .write-lines .ensures)
 

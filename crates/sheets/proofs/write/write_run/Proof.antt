@@ -1,4 +1,4 @@
-use Rattle.instances.specs.Places.{room}
+use Rattle.instances.specs.Places.{runMost}
 use Rattle.instances.specs.Run.{instancesOf}
 use Rattle.instances.proofs.Runs.{outside}
 use Rattle.sheets.specs.inner.Write.{WroteInstances}
@@ -14,10 +14,10 @@ use Rattle.sheets.proofs.write.write_run.Tie as tie
 
 abbrev Inv-loop : tie.InvT-loop
 Inv-loop out₀ at run n p₀ i₀ out p i =
-    (i ≤ room) × (length out ≡ length out₀) × WroteInstances out₀ at (take i (instancesOf run)) p out
+    (i ≤ runMost) × (length out ≡ length out₀) × WroteInstances out₀ at (take i (instancesOf run)) p out
 
 abbrev μ-loop : tie.MeasureT-loop
-μ-loop out₀ at run n p₀ i₀ out p i = room - i
+μ-loop out₀ at run n p₀ i₀ out p i = runMost - i
 
 cast-n : tie.Need-cast-n Inv-loop μ-loop
 cast-n c = search needs
@@ -42,7 +42,7 @@ element-copy-out-x : tie.Need-element-copy-out-x Inv-loop μ-loop
 element-copy-out-x c = search needs
 
 -- the next instance is one that the run counts
-here : (c : tie.Start Inv-loop μ-loop) → length (c .args .t3 .run) ≡ room
+here : (c : tie.Start Inv-loop μ-loop) → length (c .args .t3 .run) ≡ runMost
 here c = search (unmapped, needs, c .good)
 
 write-instance-requires : tie.Need-write-instance-requires Inv-loop μ-loop

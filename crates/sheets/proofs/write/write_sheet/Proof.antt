@@ -5,7 +5,7 @@ use Rattle.refusals.specs.declared.refusal.Refusal.the-variants.{ShortOutput, B
 use Rattle.profile.specs.Access.{accessRead}
 use Rattle.profile.specs.declared.access.AccessRead.{AccessRead}
 use Rattle.lists.specs.Entries.{instancesMost}
-use Rattle.instances.specs.Places.{room}
+use Rattle.instances.specs.Places.{runMost}
 use Rattle.instances.specs.Run.{instancesOf}
 use Rattle.exchange.specs.Table.{tableGood}
 use Rattle.forms.specs.Form.{form1}
@@ -81,7 +81,7 @@ fit : (c : tie.Else3) → Ready (begun c .args .table) (begun c .args .out .now)
 fit c =
     let s = begun c in
     let a = s .args in
-    let long : length (a .table .run .run) ≡ room = search (unmapped, needs, s .good) in
+    let long : length (a .table .run .run) ≡ runMost = search (unmapped, needs, s .good) in
     ready (a .access .now) (a .table) (a .out .now) (enough c) (ok c) (good c) long
 
 form-one-requires : tie.Need-form-one-requires

@@ -6,7 +6,7 @@ use native.Mathlib.Omega.{arith}
 use lib.ListN.{length, drop}
 use Rattle.laws.proofs.Parts.{unmapped}
 use Rattle.instances.specs.Instance.{chosen}
-use Rattle.instances.specs.Places.{room}
+use Rattle.instances.specs.Places.{runMost}
 use Rattle.instances.specs.Run.{instancesOf, listed}
 use Rattle.instances.proofs.Runs.{next-is, none-left}
 use Rattle.laws.proofs.Thoses.{those-take, those-skip, those-none}
@@ -15,7 +15,7 @@ use Rattle.instances.proofs.run.Run.chosen_count.Tie as tie
 
 abbrev Inv-loop : tie.InvT-loop
 Inv-loop sel self n k₀ i₀ k i =
-    (i ≤ n) × (n ≡ min (self .count) room) × (length (self .run) ≡ room) × (k ≤ i) ×
+    (i ≤ n) × (n ≡ min (self .count) runMost) × (length (self .run) ≡ runMost) × (k ≤ i) ×
     (k + length (listed sel (drop i (instancesOf self))) ≡ length (listed sel (instancesOf self)))
 
 abbrev μ-loop : tie.MeasureT-loop

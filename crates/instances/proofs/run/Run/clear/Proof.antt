@@ -6,7 +6,7 @@ use native.Mathlib.Omega.{arith}
 use lib.ListN.{length, drop}
 use Rattle.laws.proofs.Parts.{unmapped}
 use Rattle.instances.specs.Instance.{blankInstance, spared}
-use Rattle.instances.specs.Places.{room}
+use Rattle.instances.specs.Places.{runMost}
 use Rattle.instances.specs.Run.{instancesOf, deactivated}
 use Rattle.laws.proofs.Filled.{Filled, filled-none, filled-next, filled-done}
 use Rattle.instances.proofs.Runs.{next-is, none-left, packed-done}
@@ -18,8 +18,8 @@ use Rattle.instances.proofs.run.Run.clear.Tie as tie
 
 abbrev Inv-loop : tie.InvT-loop
 Inv-loop sel self next₀ n k₀ i₀ next k i =
-    (i ≤ n) × (n ≡ min (self .count) room) × (length (self .run) ≡ room) × (k ≤ i) ×
-    Filled room blankInstance (deactivated sel (instancesOf self)) (deactivated sel (drop i (instancesOf self))) k (next .run)
+    (i ≤ n) × (n ≡ min (self .count) runMost) × (length (self .run) ≡ runMost) × (k ≤ i) ×
+    Filled runMost blankInstance (deactivated sel (instancesOf self)) (deactivated sel (drop i (instancesOf self))) k (next .run)
 
 abbrev μ-loop : tie.MeasureT-loop
 μ-loop sel self next₀ n k₀ i₀ next k i = n - i

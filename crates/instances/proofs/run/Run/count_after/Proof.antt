@@ -6,7 +6,7 @@ use native.Mathlib.Omega.{arith}
 use lib.ListN.{length, drop}
 use Rattle.laws.proofs.Parts.{unmapped}
 use borrow.Author.Tests.{not-true, not-false}
-use Rattle.instances.specs.Places.{room}
+use Rattle.instances.specs.Places.{runMost}
 use Rattle.instances.specs.Run.{instancesOf, deactivated, isOf, countOf}
 use Rattle.instances.specs.Instance.{spared}
 use mathlib.Core.List.{[]}
@@ -18,22 +18,28 @@ use Rattle.instances.proofs.run.Run.count_after.Statement.{statement}
 use Rattle.instances.proofs.run.Run.count_after.Tie as tie
 
 abbrev Inv-loop : tie.InvT-loop
-Inv-loop sel self made n k₀ i₀ k i =
-    (i ≤ n) × (n ≡ min (self .count) room) × (length (self .run) ≡ room) × (k ≤ i) ×
+Inv-loop sel self n k₀ i₀ k i =
+    (i ≤ n) × (n ≡ min (self .count) runMost) × (length (self .run) ≡ runMost) × (k ≤ runMost + i) ×
     (k + countOf (sel .procedure) (deactivated sel (drop i (instancesOf self))) ≡
-    countOf (sel .procedure) (deactivated sel (instancesOf self)))
+    k₀ + countOf (sel .procedure) (deactivated sel (instancesOf self)))
 
 abbrev μ-loop : tie.MeasureT-loop
-μ-loop sel self made n k₀ i₀ k i = n - i
-
-places-of-requires : tie.Need-places-of-requires Inv-loop μ-loop
-places-of-requires c κs = search needs
+μ-loop sel self n k₀ i₀ k i = n - i
 
 stored-requires : tie.Need-stored-requires Inv-loop μ-loop
 stored-requires c κs = search needs
 
+places-count-requires : tie.Need-places-count-requires Inv-loop μ-loop
+places-count-requires c κs = search needs
+
 loop-holds : tie.Need-loop-holds Inv-loop μ-loop
-loop-holds c = (omega arith, c .stored .ensures, search (unmapped, needs), omega arith, omega arith)
+loop-holds c = (
+  omega arith,
+  c .before .stored .ensures,
+  search (unmapped, needs),
+  omega (arith, c .places-count .ensures .1),
+  omega arith,
+)
 
 mul-x : tie.Need-mul-x Inv-loop μ-loop
 mul-x c = search needs
@@ -82,19 +88,13 @@ loop-again c =
     (λ v. (omega arith, l .inv .1, l .inv .2, omega arith, omega (arith, so, v .1, after-other (a .sel) _ _ _ on (a .sel .procedure) (concerns-not (a .sel) _ (test ∙ v .0 .left))))))
     (c .if1 .came)
 
-cast-result : tie.Need-cast-result Inv-loop μ-loop
-cast-result c = search needs
-
-add-result : tie.Need-add-result Inv-loop μ-loop
-add-result c = search needs
-
 returns : tie.Need-returns Inv-loop μ-loop
 returns c =
-    let l = c .before .before .loop in
-    let a = c .before .before .before .before .before .args in
+    let l = c .before .loop in
+    let a = c .before .before .before .before .args in
     let none = those-none (spared (a .sel)) _ (none-left (a .t1) _ (l .i) (l .inv .1) (l .inv .2) (omega arith)) in
     let gone = ap (countOf (a .sel .procedure)) none ∙ ap length (those-none (isOf (a .sel .procedure)) [] refl) in
-    rw (c .before .before .before .before .places-of .ensures) (omega (arith, l .inv .4, gone))
+    rw (← c .before .before .places-count .ensures .0) (omega (arith, l .inv .4, gone))
 
 pub count-after-spec : {M : Type 1} → statement M
 count-after-spec =
@@ -102,8 +102,8 @@ count-after-spec =
     (tie.spec
     Inv-loop
     μ-loop
-    places-of-requires
     stored-requires
+    places-count-requires
     loop-holds
     mul-x
     element-copy-out-x
@@ -113,6 +113,4 @@ count-after-spec =
     add-i
     loop-less
     loop-again
-    cast-result
-    add-result
     returns)

@@ -9,7 +9,7 @@ use mathlib.Core.List.{map}
 use Rattle.lists.specs.Entry.{noEntry}
 use Rattle.lists.specs.Entries.{instancesMost}
 use Rattle.instances.specs.Instance.{chosen}
-use Rattle.instances.specs.Places.{room}
+use Rattle.instances.specs.Places.{runMost}
 use Rattle.instances.specs.Run.{instancesOf, listed, entryFor}
 use Rattle.laws.proofs.Filled.{Filled, filled-none, filled-next, filled-done, filled-full}
 use Rattle.instances.proofs.Runs.{next-is, none-left}
@@ -20,7 +20,7 @@ use Rattle.instances.proofs.run.Run.entries.Tie as tie
 
 abbrev Inv-loop : tie.InvT-loop
 Inv-loop sel self list₀ numbers n k₀ i₀ list k i =
-    (i ≤ n) × (n ≡ min (self .count) room) × (length (self .run) ≡ room) × (k ≤ instancesMost) ×
+    (i ≤ n) × (n ≡ min (self .count) runMost) × (length (self .run) ≡ runMost) × (k ≤ instancesMost) ×
     Filled instancesMost noEntry (map (entryFor numbers) (listed sel (instancesOf self)))
     (map (entryFor numbers) (listed sel (drop i (instancesOf self)))) k (list .entries)
 

@@ -4,7 +4,7 @@ use mathlib.Core.Path.{_≡_, refl, sym, ap, _∙_}
 use native.Mathlib.Omega.{arith}
 use lib.ListN.{length, drop}
 use Rattle.laws.proofs.Parts.{unmapped}
-use Rattle.instances.specs.Places.{room}
+use Rattle.instances.specs.Places.{runMost}
 use Rattle.instances.specs.Run.{instancesOf, forwardedTo, foundBy}
 use Rattle.instances.proofs.Runs.{next-is, none-left}
 use Rattle.instances.proofs.Choices.{find-here, find-on, find-none}
@@ -13,7 +13,7 @@ use Rattle.instances.proofs.run.Run.find.Tie as tie
 
 abbrev Inv-loop : tie.InvT-loop
 Inv-loop procedure number service self n i₀ i =
-    (i ≤ n) × (n ≡ min (self .count) room) × (length (self .run) ≡ room) ×
+    (i ≤ n) × (n ≡ min (self .count) runMost) × (length (self .run) ≡ runMost) ×
     (forwardedTo procedure number service (instancesOf self) ≡ forwardedTo procedure number service (drop i (instancesOf self)))
 
 abbrev μ-loop : tie.MeasureT-loop

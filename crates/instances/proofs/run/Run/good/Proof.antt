@@ -9,7 +9,7 @@ use borrow.Author.Tests.{not-true, not-false, le-leb, lt-leb}
 use Rattle.laws.proofs.Picks.{pick-last}
 use Rattle.lists.specs.Entries.{instancesMost}
 use Rattle.instances.specs.Instance.{instanceFits, instanceGood}
-use Rattle.instances.specs.Places.{room}
+use Rattle.instances.specs.Places.{runMost}
 use Rattle.instances.specs.Run.{instancesOf}
 use Rattle.instances.proofs.Runs.{next-is, none-left}
 use Rattle.instances.proofs.Orders.{sound, sound-on, sound-low, sound-bad, sound-none, not-good, is-good, too-long}
@@ -20,7 +20,7 @@ use Rattle.instances.proofs.run.Run.good.Tie as tie
 
 abbrev Inv-loop : tie.InvT-loop
 Inv-loop self n subscribed services numbers count cfu₀ cfb₀ cfnr₀ below₀ i₀ cfu cfb cfnr below i =
-    (i ≤ self .count) × (self .count ≤ room) × (length (self .run) ≡ room) × (cfu ≤ i) × (cfb ≤ i) × (cfnr ≤ i) ×
+    (i ≤ self .count) × (self .count ≤ runMost) × (length (self .run) ≡ runMost) × (cfu ≤ i) × (cfb ≤ i) × (cfnr ≤ i) ×
     (sound (instanceFits subscribed numbers (take count services)) 0 (instancesOf self) ≡
     sound (instanceFits subscribed numbers (take count services)) below (drop i (instancesOf self))) ×
     Tallied (instancesOf self) (drop i (instancesOf self)) cfu cfb cfnr

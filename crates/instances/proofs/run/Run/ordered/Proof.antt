@@ -7,7 +7,7 @@ use lib.ListN.{length, drop}
 use Rattle.laws.proofs.Parts.{unmapped}
 use borrow.Author.Tests.{le-leb, lt-leb}
 use Rattle.laws.proofs.Picks.{pick-last}
-use Rattle.instances.specs.Places.{room}
+use Rattle.instances.specs.Places.{runMost}
 use Rattle.instances.specs.Run.{instancesOf, ascending}
 use Rattle.instances.proofs.Runs.{next-is, none-left}
 use Rattle.instances.proofs.Orders.{ascends-on, ascends-low, ascends-none}
@@ -17,7 +17,7 @@ use Rattle.instances.proofs.run.Run.ordered.Tie as tie
 
 abbrev Inv-loop : tie.InvT-loop
 Inv-loop most self n most' cfu₀ cfb₀ cfnr₀ under₀ i₀ cfu cfb cfnr under i =
-    (i ≤ n) × (n ≡ min (self .count) room) × (length (self .run) ≡ room) × (cfu ≤ i) × (cfb ≤ i) × (cfnr ≤ i) ×
+    (i ≤ n) × (n ≡ min (self .count) runMost) × (length (self .run) ≡ runMost) × (cfu ≤ i) × (cfb ≤ i) × (cfnr ≤ i) ×
     (ascending 0 (instancesOf self) ≡ ascending under (drop i (instancesOf self))) ×
     Tallied (instancesOf self) (drop i (instancesOf self)) cfu cfb cfnr
 

@@ -6,7 +6,7 @@ use native.Mathlib.Omega.{arith}
 use lib.ListN.{length, drop}
 use Rattle.laws.proofs.Parts.{unmapped}
 use Rattle.instances.specs.Instance.{blankInstance}
-use Rattle.instances.specs.Places.{room}
+use Rattle.instances.specs.Places.{runMost}
 use Rattle.instances.specs.inner.Places.{placesIn}
 use Rattle.instances.specs.Run.{instancesOf, activatedAt}
 use Rattle.laws.proofs.Filled.{Filled, filled-none, filled-next, filled-done, filled-full}
@@ -18,9 +18,9 @@ use Rattle.instances.proofs.run.Run.put.Tie as tie
 
 abbrev Inv-loop : tie.InvT-loop
 Inv-loop sel address self made many n procedure next₀ k₀ m₀ i₀ next k m i =
-    (i ≤ n) × (n ≡ min (self .count) room) × (length (self .run) ≡ room) ×
-    (m ≤ many) × (many ≡ min (made .count) room) × (length (made .places) ≡ room) × (k ≤ room) ×
-    Filled room blankInstance (activatedAt sel address (placesIn made) (instancesOf self))
+    (i ≤ n) × (n ≡ min (self .count) runMost) × (length (self .run) ≡ runMost) ×
+    (m ≤ many) × (many ≡ min (made .count) runMost) × (length (made .places) ≡ runMost) × (k ≤ runMost) ×
+    Filled runMost blankInstance (activatedAt sel address (placesIn made) (instancesOf self))
     (activatedAt sel address (drop m (placesIn made)) (drop i (instancesOf self))) k (next .run)
 
 abbrev μ-loop : tie.MeasureT-loop
@@ -228,7 +228,7 @@ returns-2 c =
     let a = c .before .before .before .before .before .before .args in
     let made = c .before .before .before .before .before .places-of .result in
     let so = l .inv .7 in
-    let end : l .k ≡ room = omega arith in
+    let end : l .k ≡ runMost = omega arith in
     put-answer (a .p) (a .sel) (a .address) (a .t1) made (l .k) (l .next .run) (c .before .before .before .before .before .places-of .ensures)
     (inr (rw end (filled-full _ _ _ _ _ (rw end at so))))
 

@@ -1,0 +1,77 @@
+use borrow.Author.Needs.{needs}
+use Prim.Native.Nat.{_+_, _-_, _≤_, min}
+use mathlib.Core.Path.{_≡_, sym, ap, _∙_}
+use mathlib.Core.Logic.{⊎-elim}
+use native.Mathlib.Omega.{arith}
+use lib.ListN.{length, take, drop}
+use Rattle.laws.proofs.Thoses.{those-take, those-skip, those-none}
+use Rattle.profile.specs.Profile.{servicesMost}
+use Rattle.instances.specs.Instance.{everyService, named}
+use Rattle.instances.specs.inner.Places.{servicesNamed}
+use Rattle.instances.proofs.Runs.{step, no-step}
+use Rattle.instances.proofs.places.services_named.Statement.{statement}
+use Rattle.instances.proofs.places.services_named.Tie as tie
+
+abbrev Inv-loop : tie.InvT-loop
+Inv-loop count service services n k₀ i₀ k i =
+    (i ≤ n) × (n ≡ min count servicesMost) × (length services ≡ servicesMost) × (k ≤ i) ×
+    (k + servicesNamed service (drop i (take count services)) ≡ servicesNamed service (take count services))
+
+abbrev μ-loop : tie.MeasureT-loop
+μ-loop count service services n k₀ i₀ k i = n - i
+
+stored-requires : tie.Need-stored-requires Inv-loop μ-loop
+stored-requires c κs = search needs
+
+loop-holds : tie.Need-loop-holds Inv-loop μ-loop
+loop-holds c = (omega arith, c .stored .ensures, search needs, omega arith, omega arith)
+
+array-read-is-named : tie.Need-array-read-is-named Inv-loop μ-loop
+array-read-is-named c = search needs
+
+is-named-requires : tie.Need-is-named-requires Inv-loop μ-loop
+is-named-requires c κs = search needs
+
+add-k : tie.Need-add-k Inv-loop μ-loop
+add-k c = search needs
+
+add-i : tie.Need-add-i Inv-loop μ-loop
+add-i c = search needs
+
+loop-less : tie.Need-loop-less Inv-loop μ-loop
+loop-less c = search needs
+
+loop-again : tie.Need-loop-again Inv-loop μ-loop
+loop-again c =
+    let l = c .before .before .before .loop in
+    let a = c .before .before .before .before .before .args in
+    let f = named everyService (a .service) in
+    let on = step (a .count) (a .t1) (l .i) 0 (omega arith) (omega arith) in
+    let test = sym (c .before .is-named .ensures) in
+    ⊎-elim
+    (λ v. (omega arith, l .inv .1, l .inv .2, omega arith, omega (arith, v .1, l .inv .4, ap length (those-take f _ _ _ on (test ∙ v .0 .taken)))))
+    (λ v. (omega arith, l .inv .1, l .inv .2, omega arith, omega (arith, v .1, l .inv .4, ap length (those-skip f _ _ _ on (test ∙ v .0 .left)))))
+    (c .if1 .came)
+
+returns : tie.Need-returns Inv-loop μ-loop
+returns c =
+    let l = c .before .loop in
+    let a = c .before .before .before .args in
+    let none = no-step (a .count) (a .t1) (l .i) (omega (arith, l .inv .1, l .inv .2)) in
+    (omega (arith, l .inv .4, ap length (those-none (named everyService (a .service)) _ none)), omega arith)
+
+pub services-named-spec : {M : Type 1} → statement M
+services-named-spec =
+    tie.close
+    (tie.spec
+    Inv-loop
+    μ-loop
+    stored-requires
+    loop-holds
+    array-read-is-named
+    is-named-requires
+    add-k
+    add-i
+    loop-less
+    loop-again
+    returns)
