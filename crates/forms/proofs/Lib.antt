@@ -8,4 +8,3 @@ pub mod Octets
 pub mod Trips
 pub mod Sizes
 pub mod Accepted
-pub mod Handlings

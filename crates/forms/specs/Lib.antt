@@ -3,5 +3,4 @@ pub mod Size
 pub mod Instance
 pub mod Sheet
 pub mod Formed
-pub mod Handling
 pub mod inner

@@ -2,12 +2,9 @@
 mod field;
 mod form;
 mod read;
-mod record;
 mod sheet;
 
 pub use form::Form;
 pub use form::form_one;
-pub use record::Handling;
-pub use record::Written;
 pub use sheet::FormRead;
 pub use sheet::read_form;

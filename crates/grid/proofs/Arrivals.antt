@@ -22,7 +22,7 @@ use Rattle.profile.proofs.Profiles.{good-profile}
 use Rattle.lists.specs.Entries.{allGood, instancesMost}
 use Rattle.lists.proofs.Goods.{all-none}
 use Rattle.answers.proofs.Fits.{EntriesFit}
-use Rattle.exchange.specs.Arrive.{componentMost, outputLeast}
+use Rattle.refusals.specs.Refusal.{outputLeast, componentMost}
 use Rattle.grid.specs.Arrive.{gridAnswered, gridDone, gridRefused}
 use Rattle.grid.specs.Grid.{rowAt}
 use Rattle.grid.specs.Judge.{gridJudge}

@@ -11,7 +11,7 @@ use lib.Signed.{mag}
 use borrow.Author.Tests.{not-false}
 use Rattle.laws.specs.Pick.{pick}
 use Rattle.laws.proofs.Picks.{pick-ind}
-use Rattle.refusals.specs.Refusal.{Told, refuses, tells}
+use Rattle.refusals.specs.Refusal.{Told, refuses, tells, outputLeast, componentMost}
 use Rattle.refusals.specs.declared.refusal.Refusal.{Refusal}
 use Rattle.refusals.specs.declared.refusal.Refusal.the-variants.{BadProfile, BadTable, LongComponent, ShortOutput}
 use Rattle.refusals.proofs.Refusals.{refuses-not, tells-same}
@@ -25,7 +25,6 @@ use Rattle.answers.specs.declared.answer.Answer.{Answer}
 use Rattle.answers.specs.declared.answer.Whose.{Whose}
 use Rattle.answers.specs.declared.answer.Whose.the-variants.{Null, Own}
 use Rattle.answers.proofs.Fits.{answer-most}
-use Rattle.exchange.specs.Arrive.{componentMost, outputLeast}
 use Rattle.exchange.proofs.Nexts.{Moves, error, result}
 use Rattle.exchange.proofs.Questions.{AtOnce, reject, silence}
 use Rattle.grid.specs.Arrive.{GridDone, gridAnswered, gridDone, gridRefused}

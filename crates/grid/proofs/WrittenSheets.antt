@@ -15,7 +15,7 @@ use Rattle.profile.specs.Access.{accessRead}
 use Rattle.profile.proofs.Records.{access-good, access-services}
 use Rattle.lists.specs.Entries.{instancesMost}
 use Rattle.forms.specs.Form.{form1}
-use Rattle.forms.specs.Handling.{Made, made, notMade}
+use Rattle.refusals.specs.Handling.{Made, made, notMade}
 use Rattle.forms.specs.Sheet.{sheetOctets}
 use Rattle.forms.specs.Size.{sheetMost}
 use Rattle.grid.specs.Sheets.{gridInstances, gridReadSheet, gridWroteSheet}

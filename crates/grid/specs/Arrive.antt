@@ -6,13 +6,12 @@ use mathlib.Core.List.{List, [], _∷_}
 use lib.Dec.{ltb}
 use lib.ListN.{length}
 use Rattle.laws.specs.Tests.{first, test}
-use Rattle.refusals.specs.Refusal.{Told, refusalNo, refuses, tells}
+use Rattle.refusals.specs.Refusal.{Told, refusalNo, refuses, tells, outputLeast, componentMost}
 use Rattle.refusals.specs.declared.refusal.Refusal.{Refusal}
 use Rattle.refusals.specs.declared.refusal.Refusal.the-variants.{BadProfile, BadTable, LongComponent, ShortOutput}
 use Rattle.profile.specs.Access.{accessRead}
 use Rattle.lists.specs.Entries.{instancesMost}
 use Rattle.answers.specs.Answer.{Answered, answerOctets, answeredBy}
-use Rattle.exchange.specs.Arrive.{componentMost, outputLeast}
 use Rattle.grid.specs.Step.{GridStep, gridStep}
 use Rattle.grid.specs.Table.{GridTable, gridTableGood}
 

@@ -19,7 +19,7 @@ use Rattle.profile.specs.declared.profile.Profile.{Profile}
 use Rattle.lists.specs.Entries.{instancesMost}
 use Rattle.instances.specs.declared.instance.Instance.{Instance}
 use Rattle.forms.specs.Form.{form1}
-use Rattle.forms.specs.Handling.{Made, made, notMade}
+use Rattle.refusals.specs.Handling.{Made, made, notMade}
 use Rattle.forms.specs.Sheet.{Sheet, sheetIn, sheetOctets}
 use Rattle.forms.specs.Size.{sheetMost}
 use Rattle.grid.specs.Grid.{Grid, gridProcedures, noGrid, rowAt}

@@ -25,8 +25,8 @@ use Rattle.forms.specs.Form.{form1}
 use Rattle.forms.specs.Sheet.{Sheet, sheetIn}
 use Rattle.forms.specs.Formed.{ReadForm}
 use Rattle.forms.specs.inner.Refused.{notWritten}
-use Rattle.forms.specs.declared.record.Handling.the-variants.{Done}
-use Rattle.forms.specs.declared.record.Written.{Written}
+use Rattle.refusals.specs.declared.handling.Handling.the-variants.{Done}
+use Rattle.refusals.specs.declared.handling.Written.{Written}
 use Rattle.forms.specs.declared.sheet.FormRead.{FormRead}
 use Rattle.forms.proofs.Fits.{FieldsFit, held-small, order-of, form1-short}
 use Rattle.forms.proofs.Sheets.{Allowed, sheet-allowed, allowed-room, FormFound, form-found, form-none}

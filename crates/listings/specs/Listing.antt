@@ -18,8 +18,8 @@ use Rattle.forms.specs.Form.{form1}
 use Rattle.forms.specs.declared.form.Form.{Form}
 use Rattle.instances.specs.declared.instance.Instance.{Instance}
 use Rattle.forms.specs.Sheet.{Sheet, sheetIn}
-use Rattle.forms.specs.Handling.{handlingTold, Made, notMade, made}
-use Rattle.forms.specs.declared.record.Written.{Written}
+use Rattle.refusals.specs.Handling.{handlingTold, Made, notMade, made}
+use Rattle.refusals.specs.declared.handling.Written.{Written}
 
 -- ---- words
 

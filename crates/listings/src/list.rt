@@ -1,12 +1,12 @@
 // A night sheet is listed, or refused (document 01, "Samples", "Local refusals").
 use crate::line::write_header;
 use crate::line::write_lines;
-use forms::Handling;
-use forms::Written;
 use forms::read_form;
 use instances::Run;
 use octets::put_all;
+use refusals::Handling;
 use refusals::Refusal;
+use refusals::Written;
 ghost use mathlib.Core.Path.{_≡_};
 ghost use Prim.Native.Nat.{_≤_};
 ghost use lib.ListN.{length};

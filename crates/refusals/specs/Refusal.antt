@@ -17,6 +17,13 @@ refusalNo Exhausted = 8
 refusalNo BadSheet = 9
 refusalNo BadRequest = 10
 
+-- "lent output under 707 octets (any component)", "component over 1,024 octets"
+abbrev pub outputLeast : ℕ
+outputLeast = 707
+
+abbrev pub componentMost : ℕ
+componentMost = 1024
+
 -- what is told, by document 01's numbers: a refusal, or what is answered
 pub data Told (A : Type 0) : Type 0 where
   refuses : (number : ℕ) → Told A

@@ -21,10 +21,10 @@ use Rattle.exchange.specs.declared.table.Table.{Table}
 use Rattle.forms.specs.Form.{form1}
 use Rattle.forms.specs.Size.{sheetMost}
 use Rattle.forms.specs.Sheet.{sheetOctets}
-use Rattle.forms.specs.Handling.{Made, made, handlingTold}
-use Rattle.forms.specs.declared.record.Handling.the-variants.{Done}
-use Rattle.forms.specs.declared.record.Written.{Written}
-use Rattle.forms.proofs.Handlings.{handling-same}
+use Rattle.refusals.specs.Handling.{Made, made, handlingTold}
+use Rattle.refusals.specs.declared.handling.Handling.the-variants.{Done}
+use Rattle.refusals.specs.declared.handling.Written.{Written}
+use Rattle.refusals.proofs.Handlings.{handling-same}
 use Rattle.instances.specs.Run.{instancesOf}
 use Rattle.sheets.specs.Sheets.{wroteSheet, WritesSheet, readSheet, ReadsSheet}
 use Rattle.sheets.specs.declared.read.SheetRead.{SheetRead}

@@ -19,7 +19,7 @@ use Rattle.exchange.specs.Table.{tableOf}
 use Rattle.forms.specs.Form.{form1}
 use Rattle.forms.specs.Sheet.{Sheet, sheetIn}
 use Rattle.forms.specs.Formed.{ReadForm}
-use Rattle.forms.specs.declared.record.Handling.the-variants.{Done}
+use Rattle.refusals.specs.declared.handling.Handling.the-variants.{Done}
 use Rattle.forms.specs.declared.sheet.FormRead.{FormRead}
 use Rattle.forms.proofs.Fits.{form1-short}
 use Rattle.forms.proofs.Sheets.{allowed-packed, FormFound, form-found, form-none}

@@ -22,10 +22,10 @@ use Rattle.exchange.proofs.Tables.{table-good}
 use Rattle.forms.specs.Form.{form1}
 use Rattle.forms.specs.Size.{sheetMost}
 use Rattle.forms.specs.Sheet.{sheetOctets}
-use Rattle.forms.specs.Handling.{notMade, made}
+use Rattle.refusals.specs.Handling.{notMade, made}
 use Rattle.forms.specs.inner.Refused.{notWritten}
-use Rattle.forms.specs.declared.record.Handling.the-variants.{Done}
-use Rattle.forms.specs.declared.record.Written.{Written}
+use Rattle.refusals.specs.declared.handling.Handling.the-variants.{Done}
+use Rattle.refusals.specs.declared.handling.Written.{Written}
 use Rattle.sheets.specs.Sheets.{wroteSheet, WritesSheet}
 use Rattle.sheets.specs.inner.Write.{Space, AllWritable}
 use Rattle.sheets.proofs.WrittenTables.{instances-few, instances-count, table-writable}

@@ -20,8 +20,8 @@ use Rattle.exchange.specs.declared.table.Table.{Table}
 use Rattle.forms.specs.Form.{form1}
 use Rattle.forms.specs.Size.{sheetMost}
 use Rattle.forms.specs.Sheet.{Sheet, sheetOctets, sheetIn}
-use Rattle.forms.specs.Handling.{handlingTold, Made, notMade, made}
-use Rattle.forms.specs.declared.record.Written.{Written}
+use Rattle.refusals.specs.Handling.{handlingTold, Made, notMade, made}
+use Rattle.refusals.specs.declared.handling.Written.{Written}
 use Rattle.sheets.specs.declared.read.SheetRead.{SheetRead}
 
 -- ---- a table is written

@@ -1,9 +1,9 @@
 // A night sheet is read against a profile, as a table (document 01, "Night sheet").
 use exchange::Table;
 use exchange::fresh_table;
-use forms::Handling;
 use forms::read_form;
 use profile::read_access;
+use refusals::Handling;
 use refusals::Refusal;
 ghost use mathlib.Core.Path.{_≡_};
 ghost use Rattle.sheets.specs.Sheets.{ReadsSheet};

@@ -1,7 +1,5 @@
 // A table is written as a night sheet (document 01, "Night sheet").
 use exchange::Table;
-use forms::Handling;
-use forms::Written;
 use forms::form_one;
 use groups::put_groups;
 use instances::Instance;
@@ -10,7 +8,9 @@ use instances::Run;
 use numbers::Address;
 use numbers::MOST;
 use profile::read_access;
+use refusals::Handling;
 use refusals::Refusal;
+use refusals::Written;
 ghost use mathlib.Core.Path.{_≡_};
 ghost use mathlib.Core.Bool.{true};
 ghost use mathlib.Core.List.{[], _∷_};

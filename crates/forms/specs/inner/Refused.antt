@@ -1,7 +1,7 @@
 -- What the private functions of a refused sheet or listing answer.
 use Rattle.refusals.specs.declared.refusal.Refusal.{Refusal}
-use Rattle.forms.specs.declared.record.Handling.the-variants.{Refuses}
-use Rattle.forms.specs.declared.record.Written.{Written}
+use Rattle.refusals.specs.declared.handling.Handling.the-variants.{Refuses}
+use Rattle.refusals.specs.declared.handling.Written.{Written}
 
 -- what is answered where nothing is written
 abbrev pub notWritten : Refusal → Written

@@ -1,10 +1,10 @@
--- What is told and written where night sheets are handled (document 01, "Night sheet", "Local refusals").
+-- What is told where nothing more is answered, and what is written beside it (document 01, "Local refusals").
 use Prim.Native.Nat.{ℕ}
 use mathlib.Core.List.{List, []}
 use Rattle.refusals.specs.Refusal.{refusalNo, Told, refuses, tells}
 use Rattle.refusals.specs.declared.refusal.Refusal.{Refusal}
-use Rattle.forms.specs.declared.record.Handling.{Handling}
-use Rattle.forms.specs.declared.record.Handling.the-variants.{Refuses, Done}
+use Rattle.refusals.specs.declared.handling.Handling.{Handling}
+use Rattle.refusals.specs.declared.handling.Handling.the-variants.{Refuses, Done}
 
 -- what is told: the refusal, or that it is done
 abbrev pub handlingTold : Handling → Told (Unit {0})

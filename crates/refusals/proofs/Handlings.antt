@@ -1,11 +1,11 @@
--- What is told where night sheets are handled names it. Assumes nothing.
+-- What is told names what came of it. Assumes nothing.
 use Prim.Native.Nat.{ℕ}
 use mathlib.Core.Path.{_≡_, refl, sym, ap, _∙_}
 use Rattle.refusals.proofs.Refusals.{refusal-same, refuses-same, refuses-not}
-use Rattle.forms.specs.Handling.{handlingTold}
-use Rattle.forms.specs.declared.record.Handling.{Handling}
-use Rattle.forms.specs.declared.record.Handling.the-variants.{Refuses, Done}
-use Rattle.forms.specs.declared.record.Written.{Written}
+use Rattle.refusals.specs.Handling.{handlingTold}
+use Rattle.refusals.specs.declared.handling.Handling.{Handling}
+use Rattle.refusals.specs.declared.handling.Handling.the-variants.{Refuses, Done}
+use Rattle.refusals.specs.declared.handling.Written.{Written}
 
 -- two of which the same is told are the same
 pub handling-same : (a b : Handling) → handlingTold a ≡ handlingTold b → a ≡ b
