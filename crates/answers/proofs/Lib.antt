@@ -4,3 +4,5 @@ pub mod Lists
 pub mod Numbers
 pub mod Rest
 pub mod Fits
+pub mod Unread
+pub mod Dropped

@@ -42,7 +42,8 @@ use Rattle.answers.proofs.Fits.{EntriesFit, answer-most}
 use Rattle.exchange.specs.Table.{lastMost, tableOf, tableGood}
 use Rattle.exchange.specs.Question.{question}
 use Rattle.exchange.specs.Step.{Step, stays, lastAfter, handled, step}
-use Rattle.exchange.specs.Arrive.{outputLeast, componentMost, refused, answered, done, Arrives}
+use Rattle.refusals.specs.Refusal.{outputLeast, componentMost}
+use Rattle.exchange.specs.Arrive.{refused, answered, done, Arrives}
 use Rattle.exchange.specs.inner.Question.{questionRead}
 use Rattle.exchange.specs.inner.Refused.{arrivedRefused}
 use Rattle.exchange.specs.declared.table.Table.{Table}

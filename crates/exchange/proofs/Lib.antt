@@ -5,3 +5,4 @@ pub mod Arrivals
 pub mod Arrivings
 pub mod Nexts
 pub mod Registered
+pub mod Askings

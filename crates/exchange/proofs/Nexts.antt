@@ -13,7 +13,7 @@ use lib.ListN.{length}
 use lib.Dec.{eqb, ltb}
 use borrow.Author.Tests.{not-false}
 use Rattle.laws.proofs.Picks.{pick-ind}
-use Rattle.refusals.specs.Refusal.{refuses, tells}
+use Rattle.refusals.specs.Refusal.{refuses, tells, outputLeast, componentMost}
 use Rattle.refusals.specs.declared.refusal.Refusal.{Refusal}
 use Rattle.refusals.specs.declared.refusal.Refusal.the-variants.{ShortOutput, LongComponent, BadProfile, BadTable}
 use Rattle.refusals.proofs.Refusals.{tells-same, refuses-not}
@@ -37,7 +37,7 @@ use Rattle.answers.proofs.Fits.{answer-most}
 use Rattle.exchange.specs.Table.{lastMost, tableOf, tableGood}
 use Rattle.exchange.specs.Question.{asks, question}
 use Rattle.exchange.specs.Step.{Step, lastAfter, handled, step}
-use Rattle.exchange.specs.Arrive.{outputLeast, componentMost, Done, refused, answered, done}
+use Rattle.exchange.specs.Arrive.{Done, refused, answered, done}
 use Rattle.exchange.specs.declared.table.Table.{Table}
 use Rattle.exchange.proofs.Questions.{Known, activates, deactivates, interrogates, RequestAsked, AtOnce, silence, reject, question-asks}
 use Rattle.exchange.proofs.Tables.{table-good, good-table}

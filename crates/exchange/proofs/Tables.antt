@@ -1,19 +1,16 @@
 -- What it means that a table breaks no rule. Assumes nothing.
 use Prim.Native.Nat.{ℕ, _<_, _≤_}
-use mathlib.Core.Path.{_≡_, refl, ap, _∙_}
+use mathlib.Core.Path.{_≡_, _∙_}
 use mathlib.Core.Bool.{true, false}
-use mathlib.Core.List.{[]}
 use native.Mathlib.Omega.{arith}
-use lib.ListN.{length}
 use lib.Dec.{leb}
 use borrow.Author.Tests.{le-leb, lt-leb, leb-true}
 use Rattle.laws.proofs.Picks.{pick-last}
 use Rattle.laws.proofs.Tests.{both-hold}
-use Rattle.laws.proofs.Thoses.{those-none}
 use Rattle.profile.specs.declared.profile.Profile.{Profile}
 use Rattle.lists.specs.Entries.{instancesMost}
-use Rattle.instances.specs.Run.{isOf, countOf, runGood}
-use Rattle.instances.proofs.Goods.{good-run}
+use Rattle.instances.specs.Run.{runGood}
+use Rattle.instances.proofs.Goods.{empty-good}
 use Rattle.exchange.specs.Table.{lastMost, freshTable, tableGood}
 use Rattle.exchange.specs.declared.table.Table.{Table}
 
@@ -41,7 +38,4 @@ module _ (most : ℕ) (p : Profile) (t : Table) where
 
 -- the fresh table breaks no rule of any profile
 pub fresh-good : (p : Profile) → tableGood instancesMost p freshTable ≡ true
-fresh-good p =
-    let none : (q : ℕ) → countOf q [] ≤ instancesMost = λ q. omega (arith, ap length (those-none (isOf q) [] refl)) in
-    good-table instancesMost p freshTable (omega arith)
-    (good-run p [] (record { ascends = tt; each = tt; few = (none 0, none 1, none 2) }))
+fresh-good p = good-table instancesMost p freshTable (omega arith) (empty-good p)

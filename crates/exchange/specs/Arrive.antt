@@ -7,7 +7,7 @@ use lib.ListN.{length}
 use lib.Dec.{ltb}
 use Rattle.laws.specs.Tests.{test, first}
 use Rattle.laws.specs.Over.{over}
-use Rattle.refusals.specs.Refusal.{refusalNo, Told, refuses, tells}
+use Rattle.refusals.specs.Refusal.{refusalNo, Told, refuses, tells, outputLeast, componentMost}
 use Rattle.refusals.specs.declared.refusal.Refusal.{Refusal}
 use Rattle.refusals.specs.declared.refusal.Refusal.the-variants.{ShortOutput, LongComponent, BadProfile, BadTable}
 use Rattle.profile.specs.Access.{accessRead}
@@ -24,13 +24,6 @@ use Rattle.exchange.specs.declared.arrive.Arrived.{Arrived}
 abbrev pub arrivingTold : Arriving → Told Answered
 arrivingTold (Refuses refusal) = refuses (refusalNo refusal)
 arrivingTold (Answers a) = tells (answeredBy a)
-
--- "lent output under 707 octets", "component over 1,024 octets"
-abbrev pub outputLeast : ℕ
-outputLeast = 707
-
-abbrev pub componentMost : ℕ
-componentMost = 1024
 
 -- what the exchange does with an arriving component
 pub record Done : Type 0 where

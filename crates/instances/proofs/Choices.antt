@@ -1,15 +1,15 @@
 -- Which instances a selection chooses, which one stands at a place, and codes among others. Assumes nothing.
 use Prim.Native.Nat.{ℕ}
-use mathlib.Core.Path.{_≡_, refl}
+use mathlib.Core.Path.{_≡_, refl, sym, ap, _∙_}
 use mathlib.Core.Bool.{Bool, true, false, not}
 use mathlib.Core.List.{List, [], _∷_}
 use mathlib.Core.Option.{none, some}
 use lib.Dec.{eqb}
 use borrow.Author.Tests.{eq-eqb, ne-eqb, eqb-true, eqb-false}
 use Rattle.laws.specs.Pick.{pick}
-use Rattle.laws.proofs.Picks.{pick-then, pick-last}
-use Rattle.instances.specs.Instance.{named, selected, concerns, chosen, isAt, among}
-use Rattle.instances.specs.Run.{forwardedTo}
+use Rattle.laws.proofs.Picks.{pick-then, pick-last, not-passed}
+use Rattle.instances.specs.Instance.{everyNumber, everyService, named, selected, concerns, chosen, spared, isAt, among}
+use Rattle.instances.specs.Run.{forwardedTo, isOf}
 use Rattle.instances.specs.declared.instance.Instance.{Instance}
 use Rattle.instances.specs.declared.instance.Selection.{Selection}
 
@@ -99,3 +99,17 @@ module _ (every asked is : ℕ) where
   pub named-one : (asked ≡ every → ⊥) → named every asked is ≡ eqb asked is
   unfolding named
   named-one h = rw (ne-eqb asked every h, pick-last (eqb asked is))
+
+-- ---- every instance of a procedure
+
+module _ (sel : Selection) (numbers : sel .number ≡ everyNumber) (services : sel .service ≡ everyService) where
+  -- a selection of all numbers and all services chooses by the procedure
+  pub chosen-every : (x : Instance) → chosen sel x ≡ isOf (sel .procedure) x
+  unfolding chosen concerns selected
+  chosen-every x =
+      rw (named-every everyNumber (sel .number) (x .number) numbers, named-every everyService (sel .service) (x .service) services)
+      (pick-last (isOf (sel .procedure) x))
+
+  -- and spares those of other procedures alone
+  pub spared-other : (x : Instance) → spared sel x ≡ true → isOf (sel .procedure) x ≡ false
+  spared-other x h = not-passed (isOf (sel .procedure) x) (ap not (sym (chosen-every x)) ∙ h)

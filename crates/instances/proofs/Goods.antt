@@ -8,7 +8,7 @@ use lib.ListN.{length, take, getD, length-take}
 use lib.Seq.{take-all}
 use lib.Dec.{leb, eqb}
 use borrow.Author.Tests.{le-leb, leb-true, eqb-true, eqb-false}
-use Rattle.laws.proofs.Picks.{by-bool}
+use Rattle.laws.proofs.Picks.{pick-last, by-bool}
 use Rattle.laws.proofs.Tests.{all-at, both-hold}
 use Rattle.laws.proofs.Thoses.{those-none, those-fewer}
 use Rattle.laws.proofs.Eaches.{Each, each-so, each-append, each-those, each-map, Up, up-low, up-those, up-map}
@@ -129,12 +129,23 @@ unfolding runGood
 run-good p most run h =
     good-list p most (instancesOf run) (both-hold (leb (run .count) runMost) (instancesGood most p (instancesOf run)) h .1)
 
+-- of a run that counts no more than there is room for, the instances decide
+pub run-by : (p : Profile) (most : ℕ) (run : Run) → run .count ≤ runMost → runGood most p run ≡ instancesGood most p (instancesOf run)
+unfolding runGood
+run-by p most run few = rw (le-leb (run .count) runMost few) (pick-last (instancesGood most p (instancesOf run)))
+
 pub good-run : (p : Profile) (l : List Instance) → GoodList p instancesMost l → runGood instancesMost p (packed l) ≡ true
 unfolding runGood
 good-run p l so =
     let few = good-short p l so in
     let whole : take runMost l ≡ l = take-all runMost l few in
     rw (packed-all l few, list-good p instancesMost l so, whole, le-leb (length l) runMost few)
+
+-- nothing breaks no rule
+pub empty-good : (p : Profile) → runGood instancesMost p (packed []) ≡ true
+empty-good p =
+    let none : (q : ℕ) → countOf q [] ≤ instancesMost = λ q. omega (arith, ap length (those-none (isOf q) [] refl)) in
+    good-run p [] (record { ascends = tt; each = tt; few = (none 0, none 1, none 2) })
 
 -- ---- a deactivation
 

@@ -3,6 +3,7 @@ pub mod Choices
 pub mod Counts
 pub mod Orders
 pub mod Placings
+pub mod Merged
 pub mod Puts
 pub mod Fits
 pub mod Keys

@@ -1,12 +1,11 @@
 -- An activation, met one instance or place at a time. Assumes nothing.
 use Prim.Native.Nat.{_<_, _≤_}
-use mathlib.Core.Path.{_≡_, refl, ap, _∙_}
+use mathlib.Core.Path.{_≡_, ap, _∙_}
 use mathlib.Core.Bool.{true, false}
 use mathlib.Core.List.{List, [], _∷_, map}
 use mathlib.Core.Logic.{_⊎_, ⊎-elim}
 use Prim.Native.Nat.{ℕ}
 use lib.ListN.{take}
-use borrow.Author.Tests.{lt-ltb, le-ltb}
 use Rattle.laws.proofs.Thoses.{those-take, those-skip, those-none}
 use Rattle.laws.proofs.Filled.{Full}
 use Rattle.numbers.specs.declared.address.Address.{Address}
@@ -23,11 +22,7 @@ use Rattle.instances.specs.declared.run.Run.{Run}
 use Rattle.instances.proofs.Runs.{packed-done, packed-full}
 use Rattle.instances.proofs.Choices.{kept-test, gone-test}
 use Rattle.instances.proofs.Placings.{placed-back}
-
-merged-nil : (xs : List Instance) → merged xs [] ≡ xs
-unfolding merged
-merged-nil [] = refl
-merged-nil (x ∷ xs) = refl
+use Rattle.instances.proofs.Merged.{merged-nil, merge-rest, merge-lower, merge-last, merge-higher}
 
 module _ (sel : Selection) (address : Address) (ws : List Place) (is : List Instance) where
   abbrev here : Place → Instance
@@ -43,17 +38,14 @@ module _ (sel : Selection) (address : Address) (ws : List Place) (is : List Inst
       takes = those-take (spared sel) is js x e (kept-test _ stays)
 
       pub put-rest : ws ≡ [] → activatedAt sel address ws is ≡ x ∷ activatedAt sel address ws js
-      unfolding merged
-      put-rest none = rw (takes, none)
+      put-rest none = merge-rest (map here ws) (deactivated sel is) x (deactivated sel js) takes (ap (map here) none)
 
       module _ (w : Place) (vs : List Place) (more : ws ≡ w ∷ vs) where
         pub put-kept : keyOf x < keyOf (here w) → activatedAt sel address ws is ≡ x ∷ activatedAt sel address ws js
-        unfolding merged
-        put-kept h = rw (takes, more, lt-ltb (keyOf x) (keyOf (here w)) h)
+        put-kept h = merge-lower (map here ws) (deactivated sel is) x (deactivated sel js) takes (here w) (map here vs) (ap (map here) more) h
 
         pub put-made : keyOf (here w) ≤ keyOf x → activatedAt sel address ws is ≡ here w ∷ activatedAt sel address vs is
-        unfolding merged
-        put-made h = rw (takes, more, le-ltb (keyOf x) (keyOf (here w)) h)
+        put-made h = merge-higher (map here ws) (deactivated sel is) (here w) (map here vs) (ap (map here) more) x (deactivated sel js) takes h
 
   module _ (none : is ≡ []) where
     gone : deactivated sel is ≡ []
@@ -62,7 +54,7 @@ module _ (sel : Selection) (address : Address) (ws : List Place) (is : List Inst
     pub put-last :
         (w : Place) (vs : List Place) → ws ≡ w ∷ vs →
         activatedAt sel address ws is ≡ here w ∷ activatedAt sel address vs is
-    put-last w vs more = rw (gone, more, merged-nil (here w ∷ map here vs), merged-nil (map here vs))
+    put-last w vs more = merge-last (map here ws) (deactivated sel is) (here w) (map here vs) (ap (map here) more) gone
 
     pub put-none : ws ≡ [] → activatedAt sel address ws is ≡ []
     put-none empty = rw (gone, empty) (merged-nil [])

@@ -93,6 +93,10 @@ instanceFits subscribed numbercount services x =
 abbrev pub instanceGood : Profile → Instance → Bool
 instanceGood p x = instanceFits (p .subscribed) (p .numbercount) (subscribedServices p) x
 
+-- what `key_of` promises
+abbrev pub KeyOf : ℕ → ℕ → ℕ → ℕ → Type 0
+KeyOf procedure number service r = r ≡ key procedure number service
+
 -- what `blank_instance` promises
 abbrev pub BlankInstance : Instance → Type 0
 BlankInstance r = r ≡ blankInstance

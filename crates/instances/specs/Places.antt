@@ -1,5 +1,6 @@
 -- The places of a profile: each number with each service (document 01, "Profile and table").
-use Prim.Native.Nat.{ℕ, zero, suc, _*_}
+use Prim.Native.Nat.{ℕ, zero, suc, _*_, min}
+use mathlib.Core.Path.{_≡_}
 use mathlib.Core.Bool.{Bool}
 use mathlib.Core.List.{List, [], _++_, map}
 use lib.ListN.{length}
@@ -29,3 +30,7 @@ picks sel w = selected sel (w .number) (w .service)
 
 unfoldable pub placesOf : Profile → Selection → List Place
 placesOf p sel = those (picks sel) (placesFrom (subscribedServices p) (length (servedNumbers p)) 0)
+
+-- what `stored` promises: a count that says more than there is room for means all that there is
+abbrev pub Stored : ℕ → ℕ → ℕ → Type 0
+Stored count size r = r ≡ min count size

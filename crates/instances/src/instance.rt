@@ -5,7 +5,7 @@ use numbers::blank_address;
 use profile::SERVICES;
 ghost use mathlib.Core.Path.{_≡_};
 ghost use lib.ListN.{take};
-ghost use Rattle.instances.specs.Instance.{key, named, selected, concerns, chosen, isAt, among, instanceFits, BlankInstance};
+ghost use Rattle.instances.specs.Instance.{named, selected, concerns, chosen, isAt, among, instanceFits, KeyOf, BlankInstance};
 
 // cfu 0, cfb 1, cfnr 2.
 pub(crate) const PROCEDURES: usize = 3;
@@ -92,8 +92,8 @@ pub(crate) fn is_at(procedure: u8, number: u8, service: u8, x: Instance) -> bool
 }
 
 // One number for procedure, number and service.
-pub(crate) fn key_of(procedure: u8, number: u8, service: u8) -> usize
-    ensures { λ r. ⌜ r ≡ key procedure number service ⌝ }
+pub fn key_of(procedure: u8, number: u8, service: u8) -> usize
+    ensures { λ r. ⌜ KeyOf procedure number service r ⌝ }
 {
     (procedure as usize * 256 + number as usize) * 256 + service as usize
 }

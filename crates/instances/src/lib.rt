@@ -6,6 +6,8 @@ mod run;
 pub use instance::Instance;
 pub use instance::Selection;
 pub use instance::blank_instance;
+pub use instance::key_of;
+pub use places::stored;
 pub use run::Found;
 pub use run::ROOM;
 pub use run::Run;

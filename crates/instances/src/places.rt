@@ -12,7 +12,7 @@ ghost use mathlib.Core.Path.{_≡_};
 ghost use Prim.Native.Nat.{min, _≤_};
 ghost use lib.ListN.{length, take};
 ghost use Rattle.profile.specs.Profile.{numbersMost, servicesMost};
-ghost use Rattle.instances.specs.Places.{runMost, placesOf};
+ghost use Rattle.instances.specs.Places.{runMost, placesOf, Stored};
 ghost use Rattle.instances.specs.inner.Places.{placed, numbersNamed, servicesNamed};
 
 // A number, by its place in the profile, and a service.
@@ -28,8 +28,8 @@ pub(crate) struct Places {
 }
 
 // How many there are in an array of `size` of which so many are counted.
-pub(crate) fn stored(count: u8, size: usize) -> usize
-    ensures { λ r. ⌜ r ≡ min count size ⌝ }
+pub fn stored(count: u8, size: usize) -> usize
+    ensures { λ r. ⌜ Stored count size r ⌝ }
 {
     let n = count as usize;
     if n <= size {

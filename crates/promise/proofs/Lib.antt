@@ -18,3 +18,5 @@ pub mod OnlySkip
 pub mod OnlyInstances
 pub mod OnlyTesttext
 pub mod OnlyValues
+pub mod OnlyEnd
+pub mod AnswerBack

@@ -6,7 +6,8 @@ use Rattle.laws.proofs.Picks.{both}
 use Rattle.numbers.specs.declared.address.Address.{Address}
 use Rattle.profile.specs.declared.profile.Profile.{Profile}
 use Rattle.lists.specs.declared.entries.Entries.{Entries}
-use Rattle.instances.specs.Instance.{BlankInstance}
+use Rattle.instances.specs.Instance.{KeyOf, BlankInstance}
+use Rattle.instances.specs.Places.{Stored}
 use Rattle.instances.specs.Run.{FreshRun, FindsAddress, ChosenCount, Clear, Ordered, RunGood, Put, CountAfter, EntriesOf}
 use Rattle.instances.specs.declared.instance.Instance.{Instance}
 use Rattle.instances.specs.declared.instance.Selection.{Selection}
@@ -50,3 +51,10 @@ only-count-after p sel run = both
 pub only-entries :
     (p : Profile) (sel : Selection) (run : Run) {a b : Entries} → EntriesOf p sel run a → EntriesOf p sel run b → a ≡ b
 only-entries p sel run = both
+
+pub only-key-of :
+    (procedure number service : ℕ) {a b : ℕ} → KeyOf procedure number service a → KeyOf procedure number service b → a ≡ b
+only-key-of procedure number service = both
+
+pub only-stored : (count size : ℕ) {a b : ℕ} → Stored count size a → Stored count size b → a ≡ b
+only-stored count size = both

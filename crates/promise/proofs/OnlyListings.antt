@@ -3,8 +3,8 @@ use Prim.Native.Nat.{ℕ}
 use mathlib.Core.List.{List}
 use mathlib.Core.Path.{_≡_}
 use Rattle.laws.proofs.Picks.{both}
-use Rattle.forms.specs.declared.record.Written.{Written}
-use Rattle.forms.proofs.Handlings.{handling-same, written-same}
+use Rattle.refusals.specs.declared.handling.Written.{Written}
+use Rattle.refusals.proofs.Handlings.{handling-same, written-same}
 use Rattle.listings.specs.Listing.{ListsSheet, PrintsSheet}
 
 pub only-list-sheet :

@@ -12,7 +12,7 @@ use Rattle.requests.specs.declared.heard.Heard.{Heard}
 use Rattle.requests.specs.declared.heard.Operation.{Operation}
 use Rattle.requests.specs.declared.request.RequestRead.{RequestRead}
 use Rattle.requests.specs.declared.request.Request.{Request}
-use Rattle.requests.specs.Sending.{PutRequest}
+use Rattle.requests.specs.Sending.{IsSendable, PutRequest}
 
 pub only-hear : (s : List ℕ) {a b : Heard} → Hears s a → Hears s b → a ≡ b
 only-hear s a b = both (hears-is a) (hears-is b)
@@ -35,3 +35,7 @@ only-put-request xs identifier operation r a b = (both (a .counted) (b .counted)
 
 pub only-blank-request : {a b : Request} → BlankRequest a → BlankRequest b → a ≡ b
 only-blank-request = both
+
+pub only-is-sendable :
+    (operation : ℕ) (r : Request) {a b : Bool} → IsSendable operation r a → IsSendable operation r b → a ≡ b
+only-is-sendable operation r = both

@@ -4,9 +4,9 @@ use mathlib.Core.List.{List}
 use mathlib.Core.Path.{_≡_, ap, _∙_}
 use Rattle.laws.proofs.Picks.{both}
 use Rattle.exchange.specs.declared.table.Table.{Table}
-use Rattle.forms.specs.declared.record.Handling.{Handling}
-use Rattle.forms.specs.declared.record.Written.{Written}
-use Rattle.forms.proofs.Handlings.{handling-same, written-same}
+use Rattle.refusals.specs.declared.handling.Handling.{Handling}
+use Rattle.refusals.specs.declared.handling.Written.{Written}
+use Rattle.refusals.proofs.Handlings.{handling-same, written-same}
 use Rattle.sheets.specs.Sheets.{WritesSheet, ReadsSheet}
 use Rattle.sheets.specs.declared.read.SheetRead.{SheetRead}
 

@@ -7,7 +7,7 @@ use lib.IntN.{ℤ, pos, negsuc}
 use lib.ListN.{length, replicate}
 use Rattle.laws.specs.Got.{got}
 use Rattle.laws.specs.Places.{gathered}
-use Rattle.refusals.specs.Refusal.{Told, refuses, tells}
+use Rattle.refusals.specs.Refusal.{Told, refuses, tells, outputLeast}
 use Rattle.values.specs.Ident.{identAt, identOctets}
 use Rattle.groups.specs.Groups.{groupsAt, groups}
 use Rattle.values.specs.declared.ident.Ident.{Ident}
@@ -25,7 +25,7 @@ use Rattle.answers.specs.declared.reply.Reply.the-variants as reply
 use Rattle.instances.specs.Instance.{instanceOf}
 use Rattle.instances.specs.Run.{packed}
 use Rattle.exchange.specs.Table.{tableOf, freshTable}
-use Rattle.exchange.specs.Arrive.{outputLeast, done}
+use Rattle.exchange.specs.Arrive.{done}
 use Rattle.exchange.specs.declared.table.Table.{Table}
 use Rattle.forms.specs.Form.{form1}
 use Rattle.forms.specs.Size.{sheetMost}

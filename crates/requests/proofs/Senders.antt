@@ -1,6 +1,6 @@
 -- What the writer of requests leaves, from what each of its steps leaves. Assumes nothing.
 use Prim.Native.Nat.{ℕ, _+_, _≤_, _<_}
-use mathlib.Core.Path.{_≡_, _∙_}
+use mathlib.Core.Path.{_≡_, sym, ap, _∙_}
 use mathlib.Core.Bool.{true, false}
 use mathlib.Core.List.{List, _++_}
 use native.Mathlib.Nat.{zero-add}
@@ -8,7 +8,8 @@ use native.Mathlib.Omega.{arith}
 use lib.IntN.{ℤ, pos}
 use lib.ListN.{length}
 use Rattle.laws.specs.Over.{Wrote}
-use Rattle.laws.proofs.Over.{then, puts-then, room-after, room-true, room-false}
+use Rattle.laws.proofs.Picks.{pick-ind}
+use Rattle.laws.proofs.Over.{length-over, then, puts-then, room-after, room-true, room-false}
 use Rattle.octets.specs.Element.{element, PutHead}
 use Rattle.values.specs.Enumerated.{enumeratedOctets, PutEnumerated}
 use Rattle.values.specs.Ident.{identOctets, PutIdent}
@@ -88,3 +89,21 @@ module _ (xs : List ℕ) (identifier : ℤ) (operation : ℕ) (r : Request) wher
   is-sent good fits w =
       let all = room-true xs 0 (requestOctets identifier operation r) (omega arith) in
       record { counted = rw (good, all) (w .moved ∙ zero-add _); holds = rw (good, all) (w .holds) }
+
+-- ---- what its promise tells
+
+module _ (xs : List ℕ) (identifier : ℤ) (operation : ℕ) (r : Request) (n : ℕ) (ys : List ℕ) (put : PutRequest xs identifier operation r n ys) where
+  -- a request that may be sent is written whole where there is room for it
+  pub sent-whole :
+      sendable operation r ≡ true → length (requestOctets identifier operation r) ≤ length xs →
+      Wrote xs 0 (requestOctets identifier operation r) n ys
+  unfolding isSent
+  sent-whole good fits =
+      let all = room-true xs 0 (requestOctets identifier operation r) (omega arith) in
+      record { moved = put .counted ∙ rw (good, all) (sym (zero-add _)); holds = put .holds ∙ rw (good, all) }
+
+  -- the output keeps its length, whether it is written or not
+  pub put-length : length ys ≡ length xs
+  put-length =
+      pick-ind (λ zs. ys ≡ zs → length ys ≡ length xs) (isSent xs identifier operation r)
+      (λ _ h. ap length h ∙ length-over xs 0 (requestOctets identifier operation r)) (λ _ h. ap length h) (put .holds)

@@ -21,4 +21,5 @@ pub use request::Request;
 pub use request::RequestRead;
 pub use request::Served;
 pub use request::blank_request;
+pub use sent::is_sendable;
 pub use sent::put_request;

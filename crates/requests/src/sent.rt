@@ -21,8 +21,8 @@ ghost use mathlib.Core.Path.{_≡_};
 ghost use Prim.Native.Nat.{_+_, _≤_};
 ghost use lib.ListN.{length};
 ghost use Rattle.laws.specs.Over.{Wrote};
-ghost use Rattle.requests.specs.Sent.{servedGood, toGood, partsGood, sendable, servedOctets, toOctets, contentsOctets};
-ghost use Rattle.requests.specs.Sending.{PutRequest};
+ghost use Rattle.requests.specs.Sent.{servedGood, toGood, partsGood, servedOctets, toOctets, contentsOctets};
+ghost use Rattle.requests.specs.Sending.{IsSendable, PutRequest};
 
 fn served_good(served: Served) -> bool
     ensures { λ r. ⌜ r ≡ servedGood served ⌝ }
@@ -76,8 +76,8 @@ fn parts_good(operation: u8, r: Request) -> bool
 }
 
 // Whether the end may send the request.
-fn is_sendable(operation: u8, r: Request) -> bool
-    ensures { λ b. ⌜ b ≡ sendable operation r ⌝ }
+pub fn is_sendable(operation: u8, r: Request) -> bool
+    ensures { λ b. ⌜ IsSendable operation r b ⌝ }
 {
     if r.procedure < PROCEDURES {
         return parts_good(operation, r);

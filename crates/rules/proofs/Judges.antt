@@ -10,7 +10,7 @@ use lib.ListN.{length, getD, List·getD-eq-default}
 use lib.Dec.{ltb, eqb}
 use borrow.Author.Tests.{eq-eqb, ne-eqb, eqb-true, eqb-false, leb-true, ltb-true}
 use Rattle.laws.specs.Pick.{pick}
-use Rattle.laws.specs.Tests.{Test}
+use Rattle.laws.specs.Tests.{any, Test}
 use Rattle.laws.proofs.Picks.{pick-ind, pick-then, pick-map, pick-first, not-passed}
 use Rattle.numbers.specs.Number.{other, digitsOf}
 use Rattle.numbers.specs.Address.{addressGood}
@@ -330,6 +330,13 @@ module _ (p : Profile) (operation : ℕ) (r : Request) (run : Run) where
       (operation ≡ activation → ⊥) → (operation ≡ deactivation → ⊥) → applied p operation r run ≡ run
   unfolding applied
   applied-other activates deactivates = rw (ne-eqb _ _ activates, ne-eqb _ _ deactivates)
+
+  -- what holds of the record of the changed instances and of the record as it was holds of what it becomes
+  pub applied-ind :
+      (P : Run → Type 0) → P (packed (changed p operation r (instancesOf run))) → P run → P (applied p operation r run)
+  unfolding applied
+  applied-ind P changes stays =
+      pick-ind P (any (eqb operation activation ∷ eqb operation deactivation ∷ [])) (λ _. changes) (λ _. stays)
 
   -- as the code makes it, by a selection that is the request's
   module _ (next : Run) (sel : Selection) (same : sel ≡ selectionOf p r) where

@@ -161,6 +161,11 @@ pub ident-other :
 unfolding identAt
 ident-other depth s at end {tag} h other = rw (h, ne-eqb tag identTag other)
 
+-- and where no element stands there is none
+pub ident-bad : (depth : ℕ) (s : List ℕ) (at end : ℕ) → headAt depth s at end ≡ head.Bad → identAt depth s at end ≡ Unreadable
+unfolding identAt
+ident-bad depth s at end h = rw h
+
 -- ---- the range of what is read
 
 -- an identifier that was read has 16 bits

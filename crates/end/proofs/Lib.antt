@@ -1,0 +1,15 @@
+pub mod Ends
+pub mod Sendings
+pub mod Movings
+pub mod Shows
+pub mod Sorted
+pub mod Replaced
+pub mod Pictures
+pub mod Learnings
+pub mod Tolds
+pub mod Steps
+pub mod Dropped
+pub mod Marks
+pub mod Others
+pub mod Goods
+pub mod Waitings

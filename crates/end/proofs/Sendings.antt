@@ -1,0 +1,100 @@
+-- The end sends, or refuses: each refusal by its test. Assumes nothing.
+use Prim.Native.Nat.{ℕ, suc, _<_, _≤_}
+use mathlib.Core.Path.{_≡_, sym, _∙_}
+use mathlib.Core.Bool.{true, false}
+use mathlib.Core.List.{List}
+use native.Mathlib.Nat.{zero-add}
+use native.Mathlib.Omega.{arith}
+use lib.IntN.{pos}
+use lib.ListN.{length}
+use borrow.Author.Tests.{lt-ltb, le-ltb, eq-eqb, ne-eqb}
+use Rattle.laws.proofs.Over.{over-nil}
+use Rattle.refusals.specs.Refusal.{tells, outputLeast}
+use Rattle.refusals.specs.declared.refusal.Refusal.{Refusal}
+use Rattle.refusals.specs.declared.refusal.Refusal.the-variants.{ShortOutput, BadProfile, BadTable, Outstanding, Exhausted, BadRequest}
+use Rattle.refusals.specs.declared.handling.Handling.the-variants.{Done}
+use Rattle.profile.specs.Access.{accessRead}
+use Rattle.requests.specs.Sent.{sendable, requestOctets}
+use Rattle.requests.specs.Sending.{PutRequest}
+use Rattle.requests.specs.declared.request.Request.{Request}
+use Rattle.requests.proofs.Sizes.{request-most}
+use Rattle.requests.proofs.Senders.{sent-whole}
+use Rattle.lists.specs.Entries.{instancesMost}
+use Rattle.end.specs.End.{usedMost, endGood}
+use Rattle.end.specs.Sending.{sent, Sends, notSent, sends, SendsBy}
+use Rattle.end.specs.inner.Refused.{sendRefused}
+use Rattle.end.specs.declared.end.End.{End}
+use Rattle.end.specs.declared.send.Sent.{Sent}
+
+-- what is not refused
+abbrev pub sendsOf : ℕ → Request → End → Sends
+sendsOf operation r e = record {
+  end = sent operation r e;
+  told = tells tt;
+  octets = requestOctets (pos (suc (e .used))) operation r;
+}
+
+module _ (access : List ℕ) (operation : ℕ) (r : Request) (e : End) (size : ℕ) where
+  pub sends-short : size < outputLeast → sends access operation r e size ≡ notSent e ShortOutput
+  unfolding sends
+  sends-short short = rw (lt-ltb size outputLeast short)
+
+  module _ (room : outputLeast ≤ size) where
+    pub sends-profile : accessRead access .ok ≡ false → sends access operation r e size ≡ notSent e BadProfile
+    unfolding sends
+    sends-profile bad = rw (le-ltb size outputLeast room, bad)
+
+    module _ (ok : accessRead access .ok ≡ true) where
+      pub sends-end :
+          endGood instancesMost (accessRead access .profile) e ≡ false → sends access operation r e size ≡ notSent e BadTable
+      unfolding sends
+      sends-end bad = rw (le-ltb size outputLeast room, ok, bad)
+
+      module _ (good : endGood instancesMost (accessRead access .profile) e ≡ true) where
+        pub sends-waiting : e .outstanding ≡ 1 → sends access operation r e size ≡ notSent e Outstanding
+        unfolding sends
+        sends-waiting h = rw (le-ltb size outputLeast room, ok, good, eq-eqb (e .outstanding) 1 h)
+
+        module _ (free : e .outstanding ≡ 1 → ⊥) where
+          pub sends-last : e .used ≡ usedMost → sends access operation r e size ≡ notSent e Exhausted
+          unfolding sends
+          sends-last h = rw (le-ltb size outputLeast room, ok, good, ne-eqb (e .outstanding) 1 free, eq-eqb (e .used) usedMost h)
+
+          module _ (more : e .used ≡ usedMost → ⊥) where
+            pub sends-unfit : sendable operation r ≡ false → sends access operation r e size ≡ notSent e BadRequest
+            unfolding sends
+            sends-unfit bad =
+                rw (le-ltb size outputLeast room, ok, good, ne-eqb (e .outstanding) 1 free, ne-eqb (e .used) usedMost more, bad)
+
+            pub sends-all : sendable operation r ≡ true → sends access operation r e size ≡ sendsOf operation r e
+            unfolding sends
+            sends-all fit =
+                rw (le-ltb size outputLeast room, ok, good, ne-eqb (e .outstanding) 1 free, ne-eqb (e .used) usedMost more, fit)
+
+-- what is refused writes nothing
+pub refused-sends :
+    (d : Sends) (e : End) (xs : List ℕ) (refusal : Refusal) (q : Sent) →
+    d ≡ notSent e refusal → q ≡ sendRefused e refusal → SendsBy d xs q xs
+refused-sends d e xs refusal q is made = record {
+  end = rw (is, made);
+  told = rw (is, made);
+  count = rw (is, made);
+  lent = rw is (sym (over-nil xs 0));
+}
+
+-- what is not refused is written whole: a request has at most 95 octets
+pub all-sends :
+    (d : Sends) (operation : ℕ) (r : Request) (e next : End) (xs : List ℕ) (n : ℕ) (ys : List ℕ) →
+    d ≡ sendsOf operation r e → e .used < usedMost → outputLeast ≤ length xs → sendable operation r ≡ true →
+    PutRequest xs (pos (suc (e .used))) operation r n ys → next ≡ sent operation r e →
+    SendsBy d xs (record { end = next; outcome = Done; count = n }) ys
+all-sends d operation r e next xs n ys is below room fit put made =
+    let identifier = pos (suc (e .used)) in
+    let few = request-most identifier operation r (omega arith) fit in
+    let whole = sent-whole xs identifier operation r n ys put fit (omega (arith, room, few)) in
+    record {
+      end = rw (is, made);
+      told = rw is;
+      count = rw is (whole .moved ∙ zero-add _);
+      lent = rw is (whole .holds);
+    }

@@ -1,0 +1,94 @@
+use Rattle.end.proofs.Shows.{entry-none, out-count, out-refused, out-doubt, count-most, entry-there}
+use Rattle.end.specs.Shown.{shownTold}
+use native.Mathlib.Omega.{arith}
+use mathlib.Core.Path.{sym, ap, _∙_}
+use borrow.Author.Needs.{needs}
+use Rattle.end.proofs.end.End.entry.Statement.{statement}
+use Rattle.end.proofs.end.End.entry.Tie as tie
+use Rattle.end.proofs.end.End.entry.Reads as reads
+use Rattle.end.proofs.end.End.entry.Lts as lts
+use Rattle.end.proofs.end.End.shown.Reads as shown-reads
+use Rattle.end.proofs.list.every_of.Reads as every-of-reads
+use Rattle.instances.proofs.run.Run.entries.Reads as entries-reads
+use Rattle.lists.proofs.no_entries.Reads as no-entries-reads
+use Rattle.profile.proofs.read_access.Reads as read-access-reads
+
+-- src/show.rt:65:13
+shown-requires : tie.Need-shown-requires
+shown-requires c κs = search needs
+
+-- src/show.rt:66:20
+no-entries-requires : tie.Need-no-entries-requires
+no-entries-requires c κs = search needs
+
+-- src/show.rt:67:21
+element-copy-out-blank : tie.Need-element-copy-out-blank
+element-copy-out-blank c = search needs
+
+-- src/show.rt:69:28
+enum-known-shown : tie.Need-enum-known-shown
+enum-known-shown c = search needs
+
+-- src/show.rt:71:21
+returns : tie.Need-returns
+returns c = let a = c .before .before .before .before .before .before .before .before .args in let is = sym (ap shownTold (c .before .before .shown2 .given .1)) ∙ c .before .before .before .before .before .before .shown .ensures in rw (c .before .before .before .before .before .no-entries .ensures) (entry-none (a .access .now) (a .self) (a .procedure) (a .i) _ is (omega (arith, out-count (a .access .now) (a .self) (a .procedure) _ is, c .if1 .taken)))
+
+-- src/show.rt:77:21
+read-access-requires : tie.Need-read-access-requires
+read-access-requires c κs = search needs
+
+-- src/show.rt:80:21
+every-of-requires : tie.Need-every-of-requires
+every-of-requires c κs = search needs
+
+-- src/show.rt:81:28
+entries-requires : tie.Need-entries-requires
+entries-requires c κs = search needs
+
+-- src/show.rt:82:29
+mul-entry : tie.Need-mul-entry
+mul-entry c = let a = c .before .before .before .before .before .before .before .before .before .before .before .before .before .args in let is = sym (ap shownTold (c .before .before .before .before .before .before .before .shown2 .given .1)) ∙ c .before .before .before .before .before .before .before .before .before .before .before .shown .ensures in omega (arith, count-most (a .access .now) (a .self) (a .procedure) _ is, c .before .before .before .before .before .if1 .left)
+
+-- src/show.rt:82:29
+element-copy-out-entry : tie.Need-element-copy-out-entry
+element-copy-out-entry c = let a = c .before .before .before .before .before .before .before .before .before .before .before .before .before .args in let is = sym (ap shownTold (c .before .before .before .before .before .before .before .shown2 .given .1)) ∙ c .before .before .before .before .before .before .before .before .before .before .before .shown .ensures in omega (arith, count-most (a .access .now) (a .self) (a .procedure) _ is, c .before .before .before .before .before .if1 .left)
+
+-- src/show.rt:89:30
+enum-known-shown-2 : tie.Need-enum-known-shown-2
+enum-known-shown-2 c = search needs
+
+-- src/show.rt:95:24
+enum-told : tie.Need-enum-told
+enum-told c = search needs
+
+-- src/show.rt:62:5
+returns-2 : tie.Need-returns-2
+returns-2 c = let a = c .before .before .before .before .before .before .before .before .before .before .before .before .before .before .args in let is = sym (ap shownTold (c .before .before .before .before .before .before .before .before .shown2 .given .1)) ∙ c .before .before .before .before .before .before .before .before .before .before .before .before .shown .ensures in entry-there (a .access .now) (a .self) (a .procedure) _ is (a .i) (omega (arith, c .before .before .before .before .before .before .if1 .left)) _ _ (rw (c .before .before .every-of .ensures, c .before .before .before .before .before .read-access .ensures) at (c .before .entries .ensures))
+
+-- src/show.rt:62:5
+returns-3 : tie.Need-returns-3
+returns-3 c = let a = c .before .before .before .before .before .before .before .args in let is = sym (ap shownTold (c .before .shown3 .given .1)) ∙ c .before .before .before .before .before .shown .ensures in rw (c .before .before .before .before .no-entries .ensures) (entry-none (a .access .now) (a .self) (a .procedure) (a .i) _ is (out-refused (a .access .now) (a .self) (a .procedure) _ (a .i) is))
+
+-- src/show.rt:62:5
+returns-4 : tie.Need-returns-4
+returns-4 c = let a = c .before .before .before .before .before .before .args in let is = sym (ap shownTold (c .enum-told .given .1)) ∙ c .before .before .before .before .shown .ensures in rw (c .before .before .before .no-entries .ensures) (entry-none (a .access .now) (a .self) (a .procedure) (a .i) _ is (out-doubt (a .access .now) (a .self) (a .procedure) (a .i) is))
+
+pub entry-spec : {M : Type 1} → statement M
+entry-spec =
+    tie.close
+    (tie.spec
+    shown-requires
+    no-entries-requires
+    element-copy-out-blank
+    enum-known-shown
+    returns
+    read-access-requires
+    every-of-requires
+    entries-requires
+    mul-entry
+    element-copy-out-entry
+    enum-known-shown-2
+    enum-told
+    returns-2
+    returns-3
+    returns-4)

@@ -1,0 +1,88 @@
+// What the end makes of a list's entries (document 01, "The customer end").
+use instances::Instance;
+use instances::Run;
+use instances::Selection;
+use instances::fresh_run;
+use instances::key_of;
+use instances::stored;
+use lists::Entries;
+use lists::Entry;
+use lists::INSTANCESMOST;
+use profile::Profile;
+use profile::number_place;
+ghost use mathlib.Core.Path.{_≡_};
+ghost use Prim.Native.Nat.{_≤_};
+ghost use Rattle.instances.specs.Places.{runMost};
+ghost use Rattle.lists.specs.Entries.{instancesMost, entriesIn};
+ghost use Rattle.instances.specs.Run.{instancesOf, packed};
+ghost use Rattle.end.specs.Listed.{instanceFor, instancesFrom, listGood, everyOf};
+
+// What stands for every number and for every service in a selection.
+const EVERYNUMBER: u8 = 255;
+
+const EVERYSERVICE: u8 = 0;
+
+// Every instance of a procedure.
+pub(crate) fn every_of(procedure: u8) -> Selection
+    ensures { λ r. ⌜ r ≡ everyOf procedure ⌝ }
+{
+    Selection {
+        procedure,
+        number: EVERYNUMBER,
+        service: EVERYSERVICE,
+    }
+}
+
+// An entry's instance; a number that the profile has not has the place after its last.
+fn instance_for(p: Profile, x: Entry) -> Instance
+    ensures { λ r. ⌜ r ≡ instanceFor p x ⌝ }
+{
+    let served = x.served;
+    let address = x.address;
+    Instance {
+        procedure: x.procedure,
+        number: number_place(p, served) as u8,
+        service: x.service,
+        address,
+    }
+}
+
+// The instances of a list, ascending. They are put in their places from the last entry to the first: a list that ascends already is
+// only copied.
+pub(crate) fn run_from(p: Profile, list: Entries) -> Run
+    ensures { λ r. ⌜ r ≡ packed (instancesFrom p (entriesIn list)) ⌝ }
+{
+    let mut next = fresh_run();
+    let n = stored(list.count, INSTANCESMOST);
+    let mut i = n;
+    while 0 < i {
+        i -= 1;
+        let entry = list.entries[i];
+        let x = instance_for(p, entry);
+        let key = key_of(x.procedure, x.number, x.service);
+        let mut j = i;
+        while j + 1 < n {
+            let y = next.run[j + 1];
+            if key <= key_of(y.procedure, y.number, y.service) {
+                break;
+            }
+            next.run[j] = y;
+            j += 1;
+        }
+        next.run[j] = x;
+    }
+    next.count = n as u8;
+    next
+}
+
+// Whether a list's instances are all of the procedure, and obey the rules of a table.
+pub(crate) fn list_good(p: Profile, procedure: u8, run: Run) -> bool
+    requires { ⌜ run .count ≤ runMost ⌝ }
+    ensures { λ r. ⌜ r ≡ listGood instancesMost p procedure (instancesOf run) ⌝ }
+{
+    let sel = every_of(procedure);
+    if run.chosen_count(sel) != run.count as usize {
+        return false;
+    }
+    run.good(p)
+}

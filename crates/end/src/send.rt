@@ -1,0 +1,163 @@
+// The end sends a request, one at a time (document 01, "The customer end", "Local refusals").
+use crate::end::DOUBT;
+use crate::end::End;
+use crate::end::PROCEDURES;
+use crate::end::USEDMOST;
+use numbers::blank_number;
+use profile::read_access;
+use refusals::Handling;
+use refusals::Refusal;
+use requests::ACTIVATION;
+use requests::DEACTIVATION;
+use requests::INTERROGATION;
+use requests::Request;
+use requests::Served;
+use requests::blank_request;
+use requests::is_sendable;
+use requests::put_request;
+ghost use mathlib.Core.Path.{_≡_};
+ghost use Prim.Native.Nat.{_<_};
+ghost use lib.ListN.{length};
+ghost use Rattle.end.specs.End.{usedMost, markAt, marked};
+ghost use Rattle.end.specs.Sending.{interrogationOf, marksSent, sent, sends, SendsBy, Activates, Deactivates, Interrogates};
+ghost use Rattle.end.specs.inner.Refused.{sendRefused};
+
+// The least output.
+const OUTPUTLEAST: usize = 707;
+
+// The next end, a refusal or none, and how many octets the component has.
+pub struct Sent {
+    pub end: End,
+    pub outcome: Handling,
+    pub count: usize,
+}
+
+// The interrogation of a procedure: all services, all numbers.
+fn interrogation_of(procedure: u8) -> Request
+    ensures { λ r. ⌜ r ≡ interrogationOf procedure ⌝ }
+{
+    let blank = blank_request();
+    let to = blank.to;
+    let number = blank_number();
+    Request {
+        procedure,
+        service: 0,
+        served: Served { all: 1, number },
+        to,
+    }
+}
+
+pub(crate) fn mark_at(marks: [u8; PROCEDURES], procedure: u8) -> u8
+    ensures { λ r. ⌜ r ≡ markAt procedure marks ⌝ }
+{
+    let k = procedure as usize;
+    if k < PROCEDURES {
+        return marks[k];
+    }
+    DOUBT
+}
+
+pub(crate) fn marked(marks: [u8; PROCEDURES], procedure: u8, mark: u8) -> [u8; PROCEDURES]
+    ensures { λ r. ⌜ r ≡ marked procedure mark marks ⌝ }
+{
+    let mut next = marks;
+    let k = procedure as usize;
+    if k < PROCEDURES {
+        next[k] = mark;
+    }
+    next
+}
+
+fn marks_sent(marks: [u8; PROCEDURES], operation: u8, procedure: u8) -> [u8; PROCEDURES]
+    ensures { λ r. ⌜ r ≡ marksSent operation procedure marks ⌝ }
+{
+    if operation == INTERROGATION {
+        return marks;
+    }
+    marked(marks, procedure, DOUBT)
+}
+
+// The end that waits for the answer.
+fn waiting(e: End, operation: u8, r: Request) -> End
+    requires { ⌜ e .used < usedMost ⌝ }
+    ensures { λ next. ⌜ next ≡ sent operation r e ⌝ }
+{
+    let marks = e.marks;
+    let picture = e.picture;
+    End {
+        used: e.used + 1,
+        outstanding: 1,
+        operation,
+        before: mark_at(marks, r.procedure),
+        request: r,
+        marks: marks_sent(marks, operation, r.procedure),
+        picture,
+    }
+}
+
+fn refuses(end: End, refusal: Refusal) -> Sent
+    ensures { λ r. ⌜ r ≡ sendRefused end refusal ⌝ }
+{
+    Sent {
+        end,
+        outcome: Handling::Refuses { refusal },
+        count: 0,
+    }
+}
+
+fn send(e: End, access: &[u8], operation: u8, r: Request, out: &mut [u8]) -> Sent
+    ensures { λ done. ⌜ SendsBy (sends (now (access .entry)) operation r e (length (now (out .entry)))) (now (out .entry)) done (now (out .exit)) ⌝ }
+{
+    if out.len() < OUTPUTLEAST {
+        return refuses(e, Refusal::ShortOutput);
+    }
+    let read = read_access(access);
+    if !read.ok {
+        return refuses(e, Refusal::BadProfile);
+    }
+    let p = read.profile;
+    if !e.good(p) {
+        return refuses(e, Refusal::BadTable);
+    }
+    if e.outstanding == 1 {
+        return refuses(e, Refusal::Outstanding);
+    }
+    if e.used == USEDMOST {
+        return refuses(e, Refusal::Exhausted);
+    }
+    if !is_sendable(operation, r) {
+        return refuses(e, Refusal::BadRequest);
+    }
+    let identifier = e.used + 1;
+    let count = put_request(out, identifier as i16, operation, r);
+    let end = waiting(e, operation, r);
+    Sent {
+        end,
+        outcome: Handling::Done,
+        count,
+    }
+}
+
+impl End {
+    // Sends an activation; its component is written at the start of the output.
+    pub fn activate(self, access: &[u8], request: Request, out: &mut [u8]) -> Sent
+        ensures { λ r. ⌜ Activates (now (access .entry)) request self (now (out .entry)) r (now (out .exit)) ⌝ }
+    {
+        send(self, access, ACTIVATION, request, out)
+    }
+
+    // Sends a deactivation; the request's forwarded-to address carries no meaning.
+    pub fn deactivate(self, access: &[u8], request: Request, out: &mut [u8]) -> Sent
+        ensures { λ r. ⌜ Deactivates (now (access .entry)) request self (now (out .entry)) r (now (out .exit)) ⌝ }
+    {
+        send(self, access, DEACTIVATION, request, out)
+    }
+
+    // Sends the interrogation of a procedure, of all services and all numbers.
+    pub fn interrogate(self, access: &[u8], procedure: u8, out: &mut [u8]) -> Sent
+        ensures { λ r. ⌜ Interrogates (now (access .entry)) procedure self (now (out .entry)) r (now (out .exit)) ⌝ }
+    {
+        let request = interrogation_of(procedure);
+        send(self, access, INTERROGATION, request, out)
+    }
+}
