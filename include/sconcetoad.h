@@ -71,7 +71,8 @@ struct sconcetoad_entries {
     struct sconcetoad_entry entries[SCONCETOAD_ENTRIES];
 };
 
-/* What a reply lists: `lists` is 1 where it is a list, and then `list` holds its entries. */
+/* What a reply lists. Look at `lists` first: it is 1 where the reply is a list, and then `list` holds its entries; else `list` says nothing, and
+   must not be taken for an empty one. */
 struct sconcetoad_told {
     uint8_t lists;
     struct sconcetoad_entries list;
@@ -216,6 +217,92 @@ struct sconcetoad_sheet_taken sconcetoad_read_sheet(const uint8_t *access, size_
    SCONCETOAD_SHORT_OUTPUT, where the output has fewer octets than SCONCETOAD_LISTING, and SCONCETOAD_BAD_SHEET; the lowest that applies is
    told, and then nothing is written. The sheet and the octets of `out` after the listing are not altered. */
 struct sconcetoad_sheet_written sconcetoad_list_sheet(const uint8_t *sheet, size_t sheet_length, uint8_t *out, size_t out_length);
+
+/* The customer end: the last used identifier, 0 to 32,767; whether the request with that identifier is `outstanding` (1), and then its
+   operation (7, 8 or 11), its procedure's mark from before sending, and the request itself; a mark for each procedure, cfu, cfb, cfnr; and
+   the picture of the table's instances. An end is made by sconcetoad_fresh_end and handed from call to call. */
+struct sconcetoad_end {
+    uint16_t used;
+    uint8_t outstanding;
+    uint8_t operation;
+    uint8_t before;
+    struct sconcetoad_request request;
+    uint8_t marks[3];
+    struct sconcetoad_run picture;
+};
+
+/* The marks of a procedure. What stands in the picture of a procedure in doubt says nothing about the table. */
+enum {
+    SCONCETOAD_DOUBT = 0,
+    SCONCETOAD_KNOWN = 1
+};
+
+/* The local refusals of an end that sends, beside those above. */
+enum {
+    SCONCETOAD_OUTSTANDING = 7, /* a request is outstanding */
+    SCONCETOAD_EXHAUSTED = 8,   /* identifier 32,767 is used */
+    SCONCETOAD_BAD_REQUEST = 10 /* a code, number or subaddress that no end may send; or a procedure that is none */
+};
+
+/* An end that has sent nothing: all known, empty. */
+struct sconcetoad_end sconcetoad_fresh_end(void);
+
+/* How many octets the component has that was written, 0 for a refusal; and the next end. */
+struct sconcetoad_sending {
+    uint8_t refusal;
+    size_t count;
+    struct sconcetoad_end end;
+};
+
+/* Each sends a request: its component is written at the start of `out`, and the end that waits for the answer is handed back. The refusals are
+   SCONCETOAD_SHORT_OUTPUT, SCONCETOAD_BAD_PROFILE, SCONCETOAD_BAD_TABLE (the end breaks a rule), SCONCETOAD_OUTSTANDING, SCONCETOAD_EXHAUSTED
+   and SCONCETOAD_BAD_REQUEST; the lowest that applies is told, and then nothing is written and the same end is handed back. The access record
+   and the octets of `out` after the component are not altered. A deactivation's request has no forwarded-to address: `to` is not looked
+   at. An interrogation is always of all services and all numbers. */
+struct sconcetoad_sending sconcetoad_activate(struct sconcetoad_end end, const uint8_t *access, size_t access_length,
+                                              struct sconcetoad_request request, uint8_t *out, size_t out_length);
+struct sconcetoad_sending sconcetoad_deactivate(struct sconcetoad_end end, const uint8_t *access, size_t access_length,
+                                                struct sconcetoad_request request, uint8_t *out, size_t out_length);
+struct sconcetoad_sending sconcetoad_interrogate(struct sconcetoad_end end, const uint8_t *access, size_t access_length,
+                                                 uint8_t procedure, uint8_t *out, size_t out_length);
+
+/* The next end: the same one where it is refused. */
+struct sconcetoad_moving {
+    uint8_t refusal;
+    struct sconcetoad_end end;
+};
+
+/* A component arrives at the end. Its refusals are SCONCETOAD_LONG_COMPONENT, SCONCETOAD_BAD_PROFILE and SCONCETOAD_BAD_TABLE. Alters nothing. */
+struct sconcetoad_moving sconcetoad_arrived(struct sconcetoad_end end, const uint8_t *access, size_t access_length,
+                                            const uint8_t *component, size_t component_length);
+
+/* The end waits no longer. Its refusals are SCONCETOAD_BAD_PROFILE and SCONCETOAD_BAD_TABLE. Alters nothing. */
+struct sconcetoad_moving sconcetoad_give_up(struct sconcetoad_end end, const uint8_t *access, size_t access_length);
+
+/* What stands for the count of a procedure that is not known. */
+#define SCONCETOAD_NO_COUNT 255
+
+/* What the page reads of a procedure. Look at `refusal` first, then at `mark`: only a known procedure has a count; beside a refusal the mark is
+   SCONCETOAD_DOUBT, and beside doubt the count is SCONCETOAD_NO_COUNT, which is no number of entries. */
+struct sconcetoad_page {
+    uint8_t refusal;
+    uint8_t mark;
+    size_t count;
+};
+
+/* The refusals are SCONCETOAD_BAD_PROFILE, SCONCETOAD_BAD_TABLE and SCONCETOAD_BAD_REQUEST. Alters nothing. */
+struct sconcetoad_page sconcetoad_shown(struct sconcetoad_end end, const uint8_t *access, size_t access_length, uint8_t procedure);
+
+/* `present` is 1 where there is such an entry, and then `entry` is it; else `entry` is all zeros and says nothing. */
+struct sconcetoad_page_entry {
+    struct sconcetoad_page page;
+    uint8_t present;
+    struct sconcetoad_entry entry;
+};
+
+/* The entry at the place `place`, from 0 on, of a procedure that is known; of one in doubt none is handed out. Alters nothing. */
+struct sconcetoad_page_entry sconcetoad_entry(struct sconcetoad_end end, const uint8_t *access, size_t access_length, uint8_t procedure,
+                                              size_t place);
 
 #ifdef __cplusplus
 }

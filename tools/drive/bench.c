@@ -141,6 +141,8 @@ int bench(const char *what, long turns)
         return bench_request(turns);
     if (occasion_named(what, &occasion))
         return bench_arrival(what, &occasion, turns);
+    if (strncmp(what, "send-", 5) == 0 || strncmp(what, "taken-", 6) == 0 || strncmp(what, "shown-", 6) == 0)
+        return bench_desk(what, turns) ? unlike(what, 0) : 0;
     fprintf(stderr, "drive: nothing is called %s\n", what);
     return 2;
 }

@@ -175,6 +175,7 @@ static int start(void)
     access_record.size = 0;
     output.size = SCONCETOAD_OUTPUT;
     table = sconcetoad_fresh_table();
+    desk_anew();
     lend_anew();
     return 0;
 }
@@ -190,6 +191,8 @@ static int obey(char *line)
         return set_octets(&access_record, rest, ACCESS_MOST, "an access record has 0 to 512 octets, in upper-case hexadecimal");
     if (strcmp(line, "table") == 0)
         return set_table(rest);
+    if (strcmp(line, "end") == 0)
+        return set_end(rest);
     if (strcmp(line, "output") == 0)
         return set_output(rest);
     if (strcmp(line, "component") == 0)
@@ -202,6 +205,9 @@ static int obey(char *line)
         return read_sheet(rest) || say_canaries();
     if (strcmp(line, "list") == 0)
         return list_sheet(rest) || say_canaries();
+    int failed;
+    if (desk_obeys(line, rest, &access_record, &component, &output, &failed))
+        return failed || say_canaries();
     return wrong("this is no line of a dialogue");
 }
 

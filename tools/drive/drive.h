@@ -31,6 +31,16 @@ uint8_t *onward_to(uint8_t *at, const struct sconcetoad_onward *onward);
 int table_from(const uint8_t *octets, size_t count, struct sconcetoad_table *table);
 size_t table_to(uint8_t *octets, const struct sconcetoad_table *table);
 
+/* The octets of a request record, and the most of an end in a line. */
+#define REQUEST_SIZE 71
+#define END_MOST (5 + REQUEST_SIZE + 3 + 1 + SCONCETOAD_INSTANCES * sizeof(struct sconcetoad_instance))
+
+const uint8_t *request_from(const uint8_t *at, struct sconcetoad_request *request);
+
+/* Answers whether the octets are an end; those that are not given are zeros. */
+int end_from(const uint8_t *octets, size_t count, struct sconcetoad_end *end);
+size_t end_to(uint8_t *octets, const struct sconcetoad_end *end);
+
 /* ---- refusals.c: the local refusals by the header's names */
 
 /* What is printed of a refusal: document 01's number of it, or `refused ?` where the header has no name for it. */
@@ -123,12 +133,22 @@ void wide_access(uint8_t *access);
 int occasion_numbered(size_t n, struct occasion *occasion);
 int occasion_named(const char *name, struct occasion *occasion);
 
+/* ---- desk.c: the customer end's lines of a dialogue */
+
+/* The end there is becomes a fresh one, or that of a line. */
+void desk_anew(void);
+int set_end(const char *text);
+
+/* Answers whether the word begins a line on which the end does something, and then obeys it: `failed` becomes what each_line wants. */
+int desk_obeys(const char *word, const char *rest, struct lent *access_record, struct lent *component, struct lent *output, int *failed);
+
 /* ---- what the driver does */
 
 int dialogue(void);
 int cases(void);
 int limits(void);
 int bench(const char *what, long turns);
+int bench_desk(const char *what, long turns);
 int stack(void);
 
 #endif

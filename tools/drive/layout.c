@@ -72,6 +72,34 @@ FIELD(arrival, refusal, 0, 1);
 FIELD(arrival, count, 8, 8);
 FIELD(arrival, table, 16, 1132);
 
+RECORD(end, 1208);
+FIELD(end, used, 0, 2);
+FIELD(end, outstanding, 2, 1);
+FIELD(end, operation, 3, 1);
+FIELD(end, before, 4, 1);
+FIELD(end, request, 5, 71);
+FIELD(end, marks, 76, 3);
+FIELD(end, picture, 79, 1129);
+
+RECORD(sending, 1224);
+FIELD(sending, refusal, 0, 1);
+FIELD(sending, count, 8, 8);
+FIELD(sending, end, 16, 1208);
+
+RECORD(moving, 1210);
+FIELD(moving, refusal, 0, 1);
+FIELD(moving, end, 2, 1208);
+
+RECORD(page, 16);
+FIELD(page, refusal, 0, 1);
+FIELD(page, mark, 1, 1);
+FIELD(page, count, 8, 8);
+
+RECORD(page_entry, 88);
+FIELD(page_entry, page, 0, 16);
+FIELD(page_entry, present, 16, 1);
+FIELD(page_entry, entry, 17, 69);
+
 RECORD(onward, 95);
 FIELD(onward, counter, 0, 1);
 FIELD(onward, called, 1, 44);

@@ -11,7 +11,10 @@ static const struct {
     {SCONCETOAD_BAD_TABLE, "refused 4"},
     {SCONCETOAD_BAD_CALL, "refused 5"},
     {SCONCETOAD_LIMIT_REACHED, "refused 6"},
+    {SCONCETOAD_OUTSTANDING, "refused 7"},
+    {SCONCETOAD_EXHAUSTED, "refused 8"},
     {SCONCETOAD_BAD_SHEET, "refused 9"},
+    {SCONCETOAD_BAD_REQUEST, "refused 10"},
 };
 
 const char *refusal_said(uint8_t refusal)

@@ -1,5 +1,6 @@
 pub mod Said
 pub mod ListTold
 pub mod Arrival
+pub mod Desk
 pub mod Diversion
 pub mod Sheets

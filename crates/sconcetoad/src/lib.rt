@@ -1,5 +1,6 @@
 // The border to C: exported functions over the crates below. Nothing is decided here; include/sconcetoad.h is its other side.
 mod arrival;
+mod desk;
 mod diversion;
 mod list;
 mod night;
@@ -8,6 +9,18 @@ mod said;
 pub use arrival::Arrival;
 pub use arrival::sconcetoad_arrive;
 pub use arrival::sconcetoad_fresh_table;
+pub use desk::Moving;
+pub use desk::Page;
+pub use desk::PageEntry;
+pub use desk::Sending;
+pub use desk::sconcetoad_activate;
+pub use desk::sconcetoad_arrived;
+pub use desk::sconcetoad_deactivate;
+pub use desk::sconcetoad_entry;
+pub use desk::sconcetoad_fresh_end;
+pub use desk::sconcetoad_give_up;
+pub use desk::sconcetoad_interrogate;
+pub use desk::sconcetoad_shown;
 pub use diversion::Diverted;
 pub use diversion::sconcetoad_divert;
 pub use diversion::sconcetoad_original;

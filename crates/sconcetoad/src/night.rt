@@ -1,13 +1,13 @@
 // Night sheets, as C has them written, read and listed.
 use exchange::Table;
-use forms::Handling;
 use listings::list_sheet;
+use refusals::Handling;
 use refusals::refusal_no;
 use sheets::read_sheet;
 use sheets::write_sheet;
 ghost use mathlib.Core.Path.{_≡_};
 ghost use Rattle.refusals.specs.Refusal.{refusalIn};
-ghost use Rattle.forms.specs.Handling.{handlingTold};
+ghost use Rattle.refusals.specs.Handling.{handlingTold};
 ghost use Rattle.sconcetoad.specs.Sheets.{SheetWrittenBy, SheetTakenBy, SheetListedBy};
 
 // The number of the refusal, 0 where there is none; and how many octets were written.
