@@ -11,6 +11,13 @@ pub const FOR_A_COMPONENT: usize = 3;
 pub const FOR_A_CALL: usize = 3;
 pub const FOR_A_SHEET: usize = 2;
 
+/// Those of the end: an access record, and what else is read or written to. Showing lends the
+/// access record once more for each entry.
+pub const FOR_A_SENDING: usize = 2;
+pub const FOR_AN_ARRIVAL: usize = 2;
+pub const FOR_A_GIVING_UP: usize = 1;
+pub const FOR_SHOWING: usize = 1;
+
 /// What is lent besides, where a component is answered: its table is written as a sheet, read, and
 /// written again.
 pub const THERE_AND_BACK: usize = 3 * FOR_A_SHEET;
@@ -23,6 +30,11 @@ pub struct Canaries {
 }
 
 impl Canaries {
+    /// From now on things count from 1 again.
+    pub fn start_anew(&mut self) {
+        self.lent = 0;
+    }
+
     /// For the n-th thing the octets are n, n + 1 and so on, each modulo 256.
     pub fn around(&mut self, things: usize) {
         self.lines.push_str("canaries");

@@ -5,7 +5,7 @@ use crate::answer::{read_error, read_list, read_reply, Entry, Reply, ReplyKind};
 use crate::codes::{is_flag, is_procedure, place, ALL_SERVICES, GREATEST_IDENTIFIER};
 use crate::numbers::Address;
 use crate::profile::Profile;
-use crate::refusal::{require, write_into, Refusal, COMPONENT_OUTPUT, LONGEST_COMPONENT};
+use crate::refusal::{component_fits, output_fits, require, write_into, Refusal};
 use crate::request::{Request, Served};
 use crate::rules::{judge, Outcome};
 use crate::table::{good_instances, good_last, of_procedure, sorted, Instance};
@@ -143,13 +143,13 @@ pub fn send_interrogation(
 }
 
 /// Refusals 1, 3, 4, 7, 8, 10, lowest first.
-fn send(
+pub fn send(
     output: &mut [u8],
     profile: &Profile,
     end: &mut End,
     request: Request,
 ) -> Result<usize, Refusal> {
-    require(output.len() >= COMPONENT_OUTPUT, Refusal::OutputTooSmall)?;
+    output_fits(output)?;
     profile.check()?;
     end.check(profile)?;
     require(end.outstanding.is_none(), Refusal::RequestOutstanding)?;
@@ -175,10 +175,7 @@ fn send(
 
 /// Refusals 2, 3, 4 (A38: an over-long arrival leaves the request outstanding).
 pub fn arrived(component: &[u8], profile: &Profile, end: &mut End) -> Result<Event, Refusal> {
-    require(
-        component.len() <= LONGEST_COMPONENT,
-        Refusal::ComponentTooLong,
-    )?;
+    component_fits(component)?;
     profile.check()?;
     end.check(profile)?;
     let reply = read_reply(component).filter(|reply| reply.identifier == end.last_used);

@@ -3,7 +3,7 @@
 use crate::answer::{Answer, Problem};
 use crate::codes::OPERATIONS;
 use crate::profile::Profile;
-use crate::refusal::{require, write_into, Refusal, COMPONENT_OUTPUT, LONGEST_COMPONENT};
+use crate::refusal::{component_fits, output_fits, write_into, Refusal};
 use crate::request::{hear, read_argument, Heard, Invoke};
 use crate::rules::{judge, Outcome};
 use crate::table::Table;
@@ -39,11 +39,8 @@ pub fn arrive(
 
 /// Refusals 1 and 2; 707 octets of output are asked for even where the answer is silence (A37).
 pub fn sizes_fit(output: &[u8], component: &[u8]) -> Result<(), Refusal> {
-    require(output.len() >= COMPONENT_OUTPUT, Refusal::OutputTooSmall)?;
-    require(
-        component.len() <= LONGEST_COMPONENT,
-        Refusal::ComponentTooLong,
-    )
+    output_fits(output)?;
+    component_fits(component)
 }
 
 /// The rows of the reply table in their order; nothing is written yet.

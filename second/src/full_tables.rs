@@ -8,7 +8,7 @@ use crate::random::Random;
 use crate::table::{Instance, Table, MOST_INSTANCES};
 
 /// Instances with different numbers and services; `None` where the profile hasn't so many.
-fn instances_of(
+pub fn instances_of(
     random: &mut Random,
     profile: &Profile,
     procedure: i32,

@@ -38,7 +38,7 @@ pub fn reply(random: &mut Random, profile: &Profile, end: &End) -> Vec<u8> {
 }
 
 /// One octet changed, removed or put in, or the end cut off.
-fn scratched(random: &mut Random, mut octets: Vec<u8>) -> Vec<u8> {
+pub fn scratched(random: &mut Random, mut octets: Vec<u8>) -> Vec<u8> {
     let at = random.below(octets.len());
     match random.below(5) {
         0 => octets.truncate(at),

@@ -77,6 +77,15 @@ pub fn profile(random: &mut Random) -> Profile {
     }
 }
 
+/// One with more pairs of number and service than a procedure may have instances.
+pub fn roomy_profile(random: &mut Random) -> Profile {
+    let mut roomy = profile(random);
+    while roomy.numbers.len() * roomy.services.len() <= MOST_INSTANCES {
+        roomy = profile(random);
+    }
+    roomy
+}
+
 fn different_numbers(random: &mut Random, count: usize) -> Vec<Number> {
     let mut numbers: Vec<Number> = Vec::new();
     while numbers.len() < count {

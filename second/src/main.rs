@@ -9,6 +9,8 @@ use second::call_cases::call_cases;
 use second::call_dialogues::call_dialogues;
 use second::cases::Cases;
 use second::dialogues::{dialogues, disagreements, transcript, Dialogue};
+use second::end_cases::end_cases;
+use second::end_dialogues::end_dialogues;
 use second::exchange_cases::exchange_cases;
 use second::list_cases::list_cases;
 use second::listing::printed;
@@ -44,6 +46,12 @@ second sheet-cases SEED COUNT DIR
                            write so many lines of sheets written, read and listed, made from the
                            seed, with the answers of this program's sheets; files, tally and exit
                            code as for exchange-cases
+second end-dialogues DIR   write dialogues of the customer end, alone and with the exchange, every
+                           line stated by hand; files and exit code as for dialogues
+second end-cases SEED COUNT DIR
+                           write so many lines of the customer end (send, arrived, give-up, shown),
+                           made from the seed, with what this program's end does; files, tally and
+                           exit code as for exchange-cases
 second help                this text
 ";
 
@@ -63,6 +71,7 @@ fn main() -> ExitCode {
         ["dialogues", directory] => write_dialogues(&dialogues(), Path::new(directory)),
         ["call-dialogues", directory] => write_dialogues(&call_dialogues(), Path::new(directory)),
         ["sheet-dialogues", directory] => write_dialogues(&sheet_dialogues(), Path::new(directory)),
+        ["end-dialogues", directory] => write_dialogues(&end_dialogues(), Path::new(directory)),
         ["exchange-cases", seed, count, directory] => {
             write_cases(exchange_cases, "components", [seed, count], directory)
         }
@@ -71,6 +80,9 @@ fn main() -> ExitCode {
         }
         ["sheet-cases", seed, count, directory] => {
             write_cases(sheet_cases, "lines about sheets", [seed, count], directory)
+        }
+        ["end-cases", seed, count, directory] => {
+            write_cases(end_cases, "lines of the end", [seed, count], directory)
         }
         ["help"] => print(HELP).map(|()| ExitCode::SUCCESS),
         _ => misused(),

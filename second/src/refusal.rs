@@ -48,6 +48,19 @@ pub fn require(rule: bool, refusal: Refusal) -> Result<(), Refusal> {
     }
 }
 
+/// Refusal 1 for any component.
+pub fn output_fits(output: &[u8]) -> Result<(), Refusal> {
+    require(output.len() >= COMPONENT_OUTPUT, Refusal::OutputTooSmall)
+}
+
+/// Refusal 2.
+pub fn component_fits(component: &[u8]) -> Result<(), Refusal> {
+    require(
+        component.len() <= LONGEST_COMPONENT,
+        Refusal::ComponentTooLong,
+    )
+}
+
 /// Writes at the start of the lent output; octets after the written length stay unchanged.
 pub fn write_into(output: &mut [u8], octets: &[u8]) -> usize {
     for (place, octet) in output.iter_mut().zip(octets) {

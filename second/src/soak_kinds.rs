@@ -89,3 +89,8 @@ pub const KINDS: [(Kind, &str); 40] = [
     (Kind::NothingToGiveUp, "nothing to give up"),
     (Kind::SheetTurned, "night sheet written and read back"),
 ];
+
+/// Those that the paths alone count.
+pub const KINDS_OF_PATHS: [(Kind, &str); 8] = [
+    KINDS[4], KINDS[5], KINDS[6], KINDS[7], KINDS[23], KINDS[24], KINDS[25], KINDS[26],
+];

@@ -6,7 +6,7 @@ use crate::exchange::Arrived;
 use crate::numbers::Address;
 use crate::records::{octet, read_address_record, write_address_record, ADDRESS_OCTETS};
 use crate::refusal::Refusal;
-use crate::table::{Instance, Table};
+use crate::table::{sorted, Instance, Table};
 
 /// Procedure, number, service and an address.
 pub const PLACE_OCTETS: usize = ADDRESS + ADDRESS_OCTETS;
@@ -121,15 +121,24 @@ impl TableRecord {
                 ..self.clone()
             };
         };
-        let next = arrived.next.sorted().instances;
-        let counted: Vec<Place> = next
-            .iter()
-            .map(|instance| match self.held(instance.key()) {
-                Some(stays) if !arrived.made.contains(&instance.key()) => *stays,
-                _ => place_of(instance),
-            })
-            .collect();
-        TableRecord::holding(last, &counted)
+        self.anew(last, &arrived.next.instances, &arrived.made, place_of)
+    }
+
+    /// The run written anew: instances that stay keep every octet, those made get this place, and
+    /// past the count all is zeros.
+    pub fn anew(
+        &self,
+        last: u16,
+        next: &[Instance],
+        made: &[(i32, i32, i32)],
+        place: impl Fn(&Instance) -> Place,
+    ) -> TableRecord {
+        let next = sorted(next.to_vec());
+        let counted = next.iter().map(|instance| match self.held(instance.key()) {
+            Some(stays) if !made.contains(&instance.key()) => *stays,
+            _ => place(instance),
+        });
+        TableRecord::holding(last, &counted.collect::<Vec<Place>>())
     }
 
     /// The last handled identifier, the count, and the places up to the last not all zeros.

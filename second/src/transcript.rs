@@ -4,6 +4,7 @@ use crate::access_record::read_access;
 use crate::answer::Answer;
 use crate::call_answer::CallAnswer;
 use crate::canaries::{Canaries, FOR_A_CALL, FOR_A_COMPONENT, THERE_AND_BACK};
+use crate::end_record::EndRecord;
 use crate::exchange::{arrive, sizes_fit, Arrived};
 use crate::hexadecimal::joined;
 use crate::profile::Profile;
@@ -18,12 +19,14 @@ pub enum Said {
     Replied(Vec<u8>),
 }
 
-/// What there is when a component arrives, a call comes, or a sheet is written or read.
+/// What there is when a component arrives, a call comes, a sheet is written or read, or the end is
+/// to do something.
 #[derive(Clone, Debug, PartialEq, Eq)]
 pub struct Situation {
     /// The access record, of any size.
     pub access: Vec<u8>,
     pub table: TableRecord,
+    pub end: EndRecord,
     /// How many octets of output are lent.
     pub output: usize,
 }
@@ -32,11 +35,12 @@ pub struct Situation {
 pub type Outcome = Result<(Arrived, TableRecord), Refusal>;
 
 impl Situation {
-    /// No access record, the fresh table, just enough output.
+    /// No access record, the fresh table, the fresh end, just enough output.
     pub fn at_the_start() -> Self {
         Situation {
             access: Vec::new(),
             table: TableRecord::fresh(),
+            end: EndRecord::fresh(),
             output: COMPONENT_OUTPUT,
         }
     }
@@ -114,6 +118,9 @@ impl Transcript {
         if self.now.table != wanted.table {
             self.line("table", &joined(&wanted.table.octets()));
         }
+        if self.now.end != wanted.end {
+            self.line("end", &joined(&wanted.end.octets()));
+        }
         if self.now.output != wanted.output {
             self.line("output", &wanted.output.to_string());
         }
@@ -130,9 +137,20 @@ impl Transcript {
         self.now_holds(next);
     }
 
+    /// Everything is as it was at the start.
+    pub fn start(&mut self) {
+        self.line("start", "");
+        self.now = Situation::at_the_start();
+        self.canaries.start_anew();
+    }
+
     /// A line that prints something, for which so many things are lent.
     pub fn asked(&mut self, word: &str, octets: &[u8], printed: &str, things: usize) {
-        self.line(word, &joined(octets));
+        self.asked_in_words(word, &joined(octets), printed, things);
+    }
+
+    pub fn asked_in_words(&mut self, word: &str, rest: &str, printed: &str, things: usize) {
+        self.line(word, rest);
         self.expected.push_str(printed);
         self.expected.push('\n');
         self.canaries.around(things);
@@ -141,6 +159,11 @@ impl Transcript {
     /// The line before has brought about this table.
     pub fn now_holds(&mut self, table: &TableRecord) {
         self.now.table.clone_from(table);
+    }
+
+    /// The line before has brought about this end.
+    pub fn now_has_end(&mut self, end: &EndRecord) {
+        self.now.end.clone_from(end);
     }
 
     /// A call comes; the table stays.

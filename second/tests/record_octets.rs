@@ -109,7 +109,7 @@ fn refusal(access: Vec<u8>, table: TableRecord) -> u8 {
     let situation = Situation {
         access,
         table,
-        output: 707,
+        ..Situation::at_the_start()
     };
     match situation.arrived(&octets("A2 00")) {
         Err(refusal) => refusal.number(),
@@ -204,7 +204,7 @@ fn only_a_result_writes_the_run_anew() {
     let situation = Situation {
         access: access_record(&profile),
         table: record.clone(),
-        output: 707,
+        ..Situation::at_the_start()
     };
     // cfu of service 1 and number unknown 100 to 5, the address it has.
     let again =

@@ -41,6 +41,8 @@ fn of_every_kind() -> Dialogue {
         .reads(SHEET, 2, &active)
         .calls(&busy_at_the_limit(), CallAnswer::Refused(6))
         .lists(SHEET, LISTING)
+        .shows(1, &[])
+        .gives_up()
         .hears_hex(ACTIVATION_OF_CFB, replied("A4 06 02 01 02 81 01 00"))
 }
 
@@ -55,7 +57,8 @@ fn the_lines_come_in_the_order_of_the_turns() {
     let lines = transcript(&[of_every_kind()]);
     let words = lines.input.lines().map(|line| line.split(' ').next());
     let words: Vec<&str> = words.map(Option::unwrap_or_default).collect();
-    let expected = "# access output component write call table call read call list component";
+    let expected =
+        "# access output component write call table call read call list shown give-up component";
     assert_eq!(words.join(" "), expected);
 }
 

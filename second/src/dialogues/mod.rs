@@ -5,6 +5,7 @@ pub(crate) mod bad_runs;
 mod bad_tables;
 mod dead_places;
 mod edges_of_errors;
+mod end_script;
 mod errors_of_activation;
 mod errors_of_all;
 mod good_codings;

@@ -1,6 +1,6 @@
 //! A dialogue written out by hand, turn by turn: each component with what must be said to it and
 //! the table it must leave, each call with what must become of it, each night sheet with what must
-//! come of writing, reading or listing it.
+//! come of writing, reading or listing it. What the end does has its own words.
 
 use crate::access_record::access_record;
 use crate::call_answer::CallAnswer;
@@ -20,7 +20,7 @@ use super::turn::{Line, Turn};
 pub struct Dialogue {
     pub name: String,
     pub turns: Vec<Turn>,
-    now: Situation,
+    pub(super) now: Situation,
 }
 
 /// Document 01's number of "sheet not a form 1 sheet".
@@ -67,7 +67,7 @@ impl Dialogue {
         self
     }
 
-    fn turn(mut self, line: Line) -> Self {
+    pub(super) fn turn(mut self, line: Line) -> Self {
         let before = self.now.clone();
         self.turns.push(Turn { before, line });
         self

@@ -1,6 +1,7 @@
 //! A turn of a dialogue: a line that prints something, and what is stated by hand to come of it.
 
 use crate::call_answer::CallAnswer;
+use crate::end_line::EndLine;
 use crate::sheet_line::SheetLine;
 use crate::table_record::TableRecord;
 use crate::transcript::{expected_line, Said, Situation, Transcript};
@@ -21,6 +22,8 @@ pub enum Line {
     Call { octets: Vec<u8>, answer: CallAnswer },
     /// A night sheet is written, read or listed.
     Sheet(SheetLine),
+    /// The end does something.
+    End(EndLine),
 }
 
 impl Turn {
@@ -30,6 +33,7 @@ impl Turn {
             Line::Component { said, next, .. } => expected_line(said, next),
             Line::Call { answer, .. } => answer.line(),
             Line::Sheet(line) => line.printed(),
+            Line::End(line) => line.printed(),
         }
     }
 
@@ -42,6 +46,7 @@ impl Turn {
             }
             Line::Call { octets, .. } => self.before.called(octets).line(),
             Line::Sheet(line) => line.answered(&self.before).printed(),
+            Line::End(line) => EndLine::of(&self.before, line.act.clone()).printed(),
         }
     }
 
@@ -52,6 +57,7 @@ impl Turn {
             Line::Component { octets, said, next } => lines.component(octets, said, next),
             Line::Call { octets, answer } => lines.call(octets, answer),
             Line::Sheet(line) => line.tell(lines),
+            Line::End(line) => line.tell(lines),
         }
     }
 }

@@ -12,7 +12,7 @@ use crate::made;
 use crate::profile::Profile;
 use crate::records_at_random::{access, scribble, table};
 use crate::refusal::{Refusal, COMPONENT_OUTPUT};
-use crate::table::{Table, MOST_INSTANCES};
+use crate::table::Table;
 use crate::table_record::TableRecord;
 use crate::tally::Tally;
 use crate::transcript::Situation;
@@ -45,6 +45,7 @@ impl Cases<Tally<Reached>> {
             access: access(random, profile),
             table: table(random, profile, &held),
             output: random.one_of(&[COMPONENT_OUTPUT, COMPONENT_OUTPUT, 708, 1_024]),
+            ..Situation::at_the_start()
         }
     }
 
@@ -93,10 +94,7 @@ impl Cases<Tally<Reached>> {
     /// One procedure of a wide access, until there is no room; at times with new rubbish in what
     /// is held, and past it.
     fn growing_episode(&mut self) {
-        let mut profile = made::profile(&mut self.random);
-        while profile.numbers.len() * profile.services.len() <= MOST_INSTANCES {
-            profile = made::profile(&mut self.random);
-        }
+        let mut profile = made::roomy_profile(&mut self.random);
         let procedure = self.random.one_of(&PROCEDURES);
         if let Some(flag) = place(procedure).and_then(|at| profile.subscribed.get_mut(at)) {
             *flag = 1;

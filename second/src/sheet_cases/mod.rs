@@ -54,6 +54,7 @@ impl Cases<SheetTally> {
             access: access(random, profile),
             table: table(random, profile, &held),
             output: random.one_of(&[SHEET_OUTPUT, 1_614, LONGEST_LISTING, 2_048]),
+            ..Situation::at_the_start()
         }
     }
 

@@ -32,9 +32,14 @@ pub fn count(lines: &Transcript, word: &str) -> usize {
         .count()
 }
 
-/// One line of output for each remark, component and call.
+/// The words of lines of the end.
+pub const OF_THE_END: [&str; 4] = ["send", "arrived", "give-up", "shown"];
+
+/// One line of output for each remark, component, call and line of the end.
 pub fn outputs_hold(lines: &Transcript) {
-    let printing = ["#", "component", "call"].map(|word| count(lines, word));
+    let others = ["#", "component", "call"];
+    let words = others.iter().chain(&OF_THE_END);
+    let printing: Vec<usize> = words.map(|word| count(lines, word)).collect();
     assert_eq!(
         printing.iter().sum::<usize>(),
         lines.expected.lines().count()
@@ -54,16 +59,26 @@ fn is_a_table(octets: usize) -> bool {
         .is_some_and(|run| run.is_multiple_of(47) && run / 47 <= 24)
 }
 
-/// Words and sizes that the format allows; octets are two digits each. What is printed of a table
-/// doesn't end with a place of zeros.
+/// What stands before the run of an end: three octets less are those of a table.
+const BEFORE_A_PICTURE: usize = 2 + 3 + 71 + 3 - 2;
+
+fn is_an_end(octets: usize) -> bool {
+    octets.checked_sub(BEFORE_A_PICTURE).is_some_and(is_a_table)
+}
+
+/// Octets of two digits each.
+fn octets(hex: &str) -> Option<usize> {
+    let digits = hex
+        .bytes()
+        .all(|one| one.is_ascii_digit() || (b'A'..=b'F').contains(&one));
+    (digits && hex.len().is_multiple_of(2)).then_some(hex.len() / 2)
+}
+
+/// Words and sizes that the format allows. What is printed of a table or an end doesn't end with a
+/// place of zeros.
 pub fn format_holds(lines: &Transcript) {
-    let octets = |hex: &str| {
-        let digits = hex
-            .bytes()
-            .all(|one| one.is_ascii_digit() || (b'A'..=b'F').contains(&one));
-        (digits && hex.len().is_multiple_of(2)).then_some(hex.len() / 2)
-    };
     let at_most = |hex: &str, most: usize| octets(hex).is_some_and(|octets| octets <= most);
+    let is_octet = |number: &str| number.parse::<u8>().is_ok();
     for line in lines.input.lines() {
         let (word, rest) = line.split_once(' ').unwrap_or((line, ""));
         let good = match word {
@@ -75,18 +90,38 @@ pub fn format_holds(lines: &Transcript) {
             "call" => at_most(rest, 64),
             "write" => line == "write",
             "read" | "list" => at_most(rest, 2_000),
+            "start" | "give-up" => rest.is_empty(),
+            "end" => octets(rest).is_some_and(is_an_end),
+            "send" => match rest.split_once(' ') {
+                Some(("7" | "8", request)) => octets(request) == Some(71),
+                Some(("11", procedure)) => is_octet(procedure),
+                _ => false,
+            },
+            "arrived" => at_most(rest, 1_100),
+            "shown" => is_octet(rest),
             _ => false,
         };
         assert!(good && line.len() <= 16_000, "{line}");
     }
     for line in lines.expected.lines() {
         assert!(line.len() <= 16_000, "{line}");
-        if let Some((_, table)) = line.split_once("table ").filter(|_| !line.starts_with('#')) {
-            let last_place = table.len().checked_sub(2 * 47).filter(|at| *at >= 2 * 3);
-            let blank = last_place.is_some_and(|at| table[at..].bytes().all(|one| one == b'0'));
-            assert!(octets(table).is_some_and(is_a_table) && !blank, "{line}");
+        let printed = |word| line.split_once(word).filter(|_| !line.starts_with('#'));
+        if let Some((_, table)) = printed("table ") {
+            assert!(octets(table).is_some_and(is_a_table), "{line}");
+            assert!(!ends_blank(table, 3), "{line}");
+        }
+        if let Some((_, end)) = printed(" end ") {
+            assert!(octets(end).is_some_and(is_an_end), "{line}");
+            assert!(!ends_blank(end, BEFORE_A_PICTURE + 3), "{line}");
         }
     }
+}
+
+/// Whether the last place after so many octets is all zeros.
+fn ends_blank(hex: &str, before: usize) -> bool {
+    let last_place = hex.len().checked_sub(2 * 47);
+    let last_place = last_place.filter(|at| *at >= 2 * before);
+    last_place.is_some_and(|at| hex[at..].bytes().all(|one| one == b'0'))
 }
 
 /// The same cases for the same seed, others for another.
