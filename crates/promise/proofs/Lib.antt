@@ -20,3 +20,4 @@ pub mod OnlyTesttext
 pub mod OnlyValues
 pub mod OnlyEnd
 pub mod AnswerBack
+pub mod Wrong

@@ -19,7 +19,7 @@ use Rattle.answers.specs.Answer.{answerOctets}
 use Rattle.answers.specs.Reply.{failedAt, setAt, sequenceAt, listAt, resultAt, ownAt, reply, saidAt, sameIdent}
 use Rattle.requests.specs.Heard.{replyTag, operationAt, identifierAt, heard}
 use Rattle.requests.specs.Request.{codeAt, serviceAt, servedAt, privates, lastIn, activationIn, interrogationIn, contentsIn, argumentAt}
-use Rattle.requests.specs.Sent.{servedOctets, toOctets, requestOctets}
+use Rattle.requests.specs.Sent.{servedGood, toGood, partsGood, sendable, servedOctets, toOctets, requestOctets}
 use Rattle.laws.specs.Places.{everyTo, eachFrom, gathered}
 use Rattle.profile.specs.Access.{numberFrom, prefixFrom, prefixesFrom, profileFrom, accessRead}
 use Rattle.profile.specs.Profile.{sameDigits, sameNumber, same, placeIn, numbersGood, rising, servicesGood, prefixGood, prefixesGood, subscriptionsGood, usesGood, diversionGood, profileGood}
@@ -42,6 +42,11 @@ use Rattle.forms.specs.Sheet.{instancesOctets, sheetOctets, instancesFrom, inOr
 use Rattle.listings.specs.Listing.{decimalIn, decimal, procedureName, kindText, hexOf, hexText, subText}
 use Rattle.listings.specs.Listing.{lineOf, headerLine, instanceLine, instanceLines, listing, listedSheet, refusedLine, printedSheet}
 use Rattle.sheets.specs.Sheets.{wroteSheet}
+use Rattle.end.specs.End.{markAt, marked, closed, marksGood, waitingGood, endGood}
+use Rattle.end.specs.Sending.{marksSent, sent, sends}
+use Rattle.end.specs.Listed as lists
+use Rattle.end.specs.Taking.{learned, took, takes}
+use Rattle.end.specs.Shown.{shown}
 use Rattle.promise.specs.Samples.{Each, samples}
 
 pub each-sample : Each samples
@@ -58,9 +63,12 @@ unfolding fewestFrom wordAt wordOctets spanOf lengthAt headAt lengthHolds length
     resultOf handled step done reasonOf optionsOf optionAfter preferenceAfter originalShown callFrom namesGood valuesGood originalGood
     callGood applying servedOf noticed onward noOnward comes allGroups instanceOctets fieldAt fieldsAt addressFrom instanceFrom
     instancesOctets sheetOctets instancesFrom inOrder sheetIn decimalIn decimal procedureName kindText hexOf hexText subText lineOf
-    headerLine instanceLine instanceLines listing listedSheet refusedLine printedSheet wroteSheet saidAt
+    headerLine instanceLine instanceLines listing listedSheet refusedLine printedSheet wroteSheet saidAt markAt marked closed
+    marksGood waitingGood endGood servedGood toGood partsGood sendable marksSent sent sends learned took takes shown
+    lists.sorted lists.instancesFrom lists.listGood
 each-sample =
-    let sheets : Each (drop 35 samples) = (refl, (refl, (refl, (refl, tt)))) in
+    let dialogue : Each (drop 39 samples) = ((refl, refl), (refl, (refl, ((refl, refl), (refl, (refl, (refl, tt))))))) in
+    let sheets : Each (drop 35 samples) = (refl, (refl, (refl, (refl, dialogue)))) in
     let calls : Each (drop 31 samples) = ((refl, refl, refl), ((refl, refl, refl), ((refl, refl, refl), ((refl, refl, refl), sheets)))) in
     let arrivals : Each (drop 26 samples) = ((refl, refl), ((refl, refl), ((refl, refl), ((refl, refl), ((refl, refl), calls))))) in
     let replies : Each (drop 13 samples) =

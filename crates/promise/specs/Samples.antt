@@ -1,5 +1,5 @@
--- The samples of document 01 that are marked P, its night sheet, and the longest listing, as one table. `Each samples` is the one statement
--- about them.
+-- The samples of document 01 that are marked P, its night sheet, the longest listing, and a dialogue of the end, as one table. `Each samples`
+-- is the one statement about them.
 use Prim.Native.Nat.{ℕ, _+_, _/_, _%_}
 use mathlib.Core.Path.{_≡_}
 use mathlib.Core.List.{List, [], _∷_, _++_}
@@ -23,6 +23,7 @@ use Rattle.answers.specs.Reply.{reply}
 use Rattle.answers.specs.declared.reply.Reply.{Reply}
 use Rattle.answers.specs.declared.reply.Reply.the-variants as reply
 use Rattle.instances.specs.Instance.{instanceOf}
+use Rattle.instances.specs.declared.instance.Instance.{Instance}
 use Rattle.instances.specs.Run.{packed}
 use Rattle.exchange.specs.Table.{tableOf, freshTable}
 use Rattle.exchange.specs.Arrive.{done}
@@ -33,7 +34,7 @@ use Rattle.listings.specs.Listing.{listingMost, listedSheet, printedSheet}
 use Rattle.sheets.specs.Sheets.{wroteSheet}
 use Rattle.calls.specs.Divert.{Course, passes, diverts, comes}
 use Rattle.requests.specs.Heard.{local, heard}
-use Rattle.requests.specs.Request.{activation, interrogation, allNumbers, noForwarded, requestOf, argumentAt}
+use Rattle.requests.specs.Request.{activation, interrogation, allNumbers, noForwarded, noRequest, requestOf, argumentAt}
 use Rattle.requests.specs.Sent.{requestOctets}
 use Rattle.answers.specs.declared.answer.Answer.{Answer}
 use Rattle.answers.specs.declared.answer.Answer.the-variants as answer
@@ -42,6 +43,11 @@ use Rattle.answers.specs.declared.answer.Whose.the-variants as whose
 use Rattle.requests.specs.declared.heard.Heard.{Heard}
 use Rattle.requests.specs.declared.heard.Heard.the-variants as heard
 use Rattle.requests.specs.declared.request.Request.{Request}
+use Rattle.end.specs.End.{knownMark, doubtMark, freshEnd}
+use Rattle.end.specs.Sending as sending
+use Rattle.end.specs.Taking.{takes}
+use Rattle.end.specs.Shown.{Seen, seenKnown, shown}
+use Rattle.end.specs.declared.end.End.{End}
 
 pub data Sample : Type 0 where
   reads-identifier : List ℕ → Ident → Sample
@@ -59,6 +65,9 @@ pub data Sample : Type 0 where
   writes-sheet : (access : List ℕ) → Table → (sheet : List ℕ) → Sample
   prints-sheet : (sheet text : List ℕ) → Sample
   fills-listing : (sheet : List ℕ) → Sample
+  end-sends : (access : List ℕ) (operation : ℕ) → Request → End → List ℕ → (next : End) → Sample
+  end-takes : (access : List ℕ) → End → List ℕ → (next : End) → Sample
+  end-shows : (access : List ℕ) → End → (procedure : ℕ) → Told Seen → Sample
 
 -- what a sample says: octets are read from the first to the end, and output that is lent is the least there may be
 abbrev pub Says : Sample → Type 0
@@ -79,6 +88,10 @@ Says (diverts-to access t s is counter option) =
 Says (writes-sheet access t s) = wroteSheet access t (sheetMost form1) .octets ≡ s
 Says (prints-sheet s text) = printedSheet s (listingMost form1) ≡ text
 Says (fills-listing s) = length (listedSheet s (listingMost form1) .octets) ≡ listingMost form1
+Says (end-sends access operation r e s next) =
+    (sending.sends access operation r e outputLeast .octets ≡ s) × (sending.sends access operation r e outputLeast .end ≡ next)
+Says (end-takes access e s next) = takes access e s .end ≡ next
+Says (end-shows access e procedure is) = shown access e procedure ≡ is
 
 abbrev pub Each : List Sample → Type 0
 Each [] = Unit {0}
@@ -97,6 +110,13 @@ activationOctets =
 abbrev pub freshOctets : List ℕ
 freshOctets =
     0xA2 ∷ 0x0A ∷ 0x02 ∷ 0x01 ∷ 0x01 ∷ 0x30 ∷ 0x05 ∷ 0x02 ∷ 0x01 ∷ 0x0B ∷ 0x31 ∷ 0x00 ∷ []
+
+-- "reply `A2 03 02 01 02`", and "the latter again"
+abbrev pub activatedOctets : List ℕ
+activatedOctets = 0xA2 ∷ 0x03 ∷ 0x02 ∷ 0x01 ∷ 0x02 ∷ []
+
+abbrev pub duplicateOctets : List ℕ
+duplicateOctets = 0xA4 ∷ 0x06 ∷ 0x02 ∷ 0x01 ∷ 0x02 ∷ 0x81 ∷ 0x01 ∷ 0x00 ∷ []
 
 abbrev pub interrogationOfCfb : Request
 interrogationOfCfb = requestOf 1 0 noForwarded allNumbers
@@ -121,9 +141,12 @@ abbrev pub otherOctets : List ℕ
 otherOctets =
     0xA1 ∷ 0x10 ∷ 0x02 ∷ 0x01 ∷ 0x01 ∷ 0x02 ∷ 0x01 ∷ 0x0B ∷ 0x30 ∷ 0x08 ∷ 0x0A ∷ 0x01 ∷ 0x00 ∷ 0x0A ∷ 0x01 ∷ 0x00 ∷ 0x05 ∷ 0x00 ∷ []
 
--- the table that holds the one instance, speech for 13579
+-- the one instance, speech for 13579, and the table that holds it
+abbrev pub activatedInstances : List Instance
+activatedInstances = instanceOf 1 0 1 (activationOfCfb .to .address) ∷ []
+
 abbrev pub activatedTable : Table
-activatedTable = tableOf 2 (packed (instanceOf 1 0 1 (activationOfCfb .to .address) ∷ []))
+activatedTable = tableOf 2 (packed activatedInstances)
 
 -- a call of speech for 13579 that met busy, over its counter and the chain's notification option
 abbrev pub callWith : ℕ → ℕ → List ℕ
@@ -152,6 +175,36 @@ longestInstance j =
 abbrev pub longestSheet : List ℕ
 longestSheet = 0x01 ∷ 0xFF ∷ 0xFF ∷ 0x01 ∷ 24 ∷ gathered longestInstance 24
 
+-- an end that has used so many identifiers and waits for no answer, over its picture; and that end with a request outstanding, all known
+-- before it, over the mark of cfb
+abbrev pub endAt : ℕ → List Instance → End
+endAt used is = record {
+  used = used;
+  outstanding = 0;
+  operation = 0;
+  before = doubtMark;
+  request = noRequest;
+  marks = knownMark ∷ knownMark ∷ knownMark ∷ [];
+  picture = packed is;
+}
+
+abbrev pub waitingAt : ℕ → ℕ → Request → ℕ → End
+waitingAt used operation r mark = record {
+  used = used;
+  outstanding = 1;
+  operation = operation;
+  before = knownMark;
+  request = r;
+  marks = knownMark ∷ mark ∷ knownMark ∷ [];
+  picture = packed [];
+}
+
+abbrev pub interrogatingEnd : End
+interrogatingEnd = waitingAt 1 interrogation interrogationOfCfb knownMark
+
+abbrev pub activatingEnd : End
+activatingEnd = waitingAt 2 activation activationOfCfb doubtMark
+
 abbrev pub samples : List Sample
 samples =
     -- "identifier 128 is `02 02 00 80`, −128 is `02 01 80`"; "`02 02 00 7F` is unreadable"
@@ -174,9 +227,8 @@ samples =
     -- "empty input" is not one element
     ∷ hears [] heard.NotOne
     -- the replies: "`A2 03 02 01 02`", the duplicate, "not subscribed, identifier 1", and that to the empty input
-    ∷ answers (answer.Result (pos 2)) [] (0xA2 ∷ 0x03 ∷ 0x02 ∷ 0x01 ∷ 0x02 ∷ [])
-    ∷ answers (answer.Reject (whose.Own (pos 2)) (problem.Invoke 0)) []
-    (0xA4 ∷ 0x06 ∷ 0x02 ∷ 0x01 ∷ 0x02 ∷ 0x81 ∷ 0x01 ∷ 0x00 ∷ [])
+    ∷ answers (answer.Result (pos 2)) [] activatedOctets
+    ∷ answers (answer.Reject (whose.Own (pos 2)) (problem.Invoke 0)) [] duplicateOctets
     ∷ answers (answer.Error (pos 1) 0) [] (0xA3 ∷ 0x06 ∷ 0x02 ∷ 0x01 ∷ 0x01 ∷ 0x02 ∷ 0x01 ∷ 0x00 ∷ [])
     ∷ answers (answer.Reject whose.Null (problem.General 2)) [] (0xA4 ∷ 0x05 ∷ 0x05 ∷ 0x00 ∷ 0x80 ∷ 0x01 ∷ 0x02 ∷ [])
     -- "fresh reply", written, and read by the end
@@ -184,15 +236,14 @@ samples =
     ∷ told (pos 1) interrogation freshOctets (reply.Listed 12 12)
     ∷ lists-entries freshOctets 12 12 []
     -- the other replies, read by the end
-    ∷ told (pos 2) activation (0xA2 ∷ 0x03 ∷ 0x02 ∷ 0x01 ∷ 0x02 ∷ []) reply.Done
-    ∷ told (pos 2) activation (0xA4 ∷ 0x06 ∷ 0x02 ∷ 0x01 ∷ 0x02 ∷ 0x81 ∷ 0x01 ∷ 0x00 ∷ []) reply.Rejected
+    ∷ told (pos 2) activation activatedOctets reply.Done
+    ∷ told (pos 2) activation duplicateOctets reply.Rejected
     ∷ told (pos 1) interrogation (0xA3 ∷ 0x06 ∷ 0x02 ∷ 0x01 ∷ 0x01 ∷ 0x02 ∷ 0x01 ∷ 0x00 ∷ []) (reply.Failed (pos 0))
     ∷ told (pos 1) interrogation (0xA4 ∷ 0x05 ∷ 0x05 ∷ 0x00 ∷ 0x80 ∷ 0x01 ∷ 0x02 ∷ []) reply.Dropped
     -- the exchange: the interrogation of a fresh table, the activation, the latter again, what is not subscribed, and no octet
     ∷ arrives sampleAccess freshTable interrogationOctets freshOctets (tableOf 1 (packed []))
-    ∷ arrives sampleAccess freshTable activationOctets (0xA2 ∷ 0x03 ∷ 0x02 ∷ 0x01 ∷ 0x02 ∷ []) activatedTable
-    ∷ arrives sampleAccess activatedTable activationOctets
-    (0xA4 ∷ 0x06 ∷ 0x02 ∷ 0x01 ∷ 0x02 ∷ 0x81 ∷ 0x01 ∷ 0x00 ∷ []) activatedTable
+    ∷ arrives sampleAccess freshTable activationOctets activatedOctets activatedTable
+    ∷ arrives sampleAccess activatedTable activationOctets duplicateOctets activatedTable
     ∷ arrives sampleAccess freshTable otherOctets
     (0xA3 ∷ 0x06 ∷ 0x02 ∷ 0x01 ∷ 0x01 ∷ 0x02 ∷ 0x01 ∷ 0x00 ∷ []) (tableOf 1 (packed []))
     ∷ arrives sampleAccess freshTable [] (0xA4 ∷ 0x05 ∷ 0x05 ∷ 0x00 ∷ 0x80 ∷ 0x01 ∷ 0x02 ∷ []) freshTable
@@ -208,4 +259,12 @@ samples =
     ∷ prints-sheet [] refusedListing
     -- the least output for a listing is no larger than there is need for
     ∷ fills-listing longestSheet
+    -- the end: the interrogation and its fresh reply, the activation, that first reply once more, and the activation's own
+    ∷ end-sends sampleAccess interrogation interrogationOfCfb freshEnd interrogationOctets interrogatingEnd
+    ∷ end-takes sampleAccess interrogatingEnd freshOctets (endAt 1 [])
+    ∷ end-shows sampleAccess (endAt 1 []) 1 (tells (seenKnown 0))
+    ∷ end-sends sampleAccess activation activationOfCfb (endAt 1 []) activationOctets activatingEnd
+    ∷ end-takes sampleAccess activatingEnd freshOctets activatingEnd
+    ∷ end-takes sampleAccess activatingEnd activatedOctets (endAt 2 activatedInstances)
+    ∷ end-shows sampleAccess (endAt 2 activatedInstances) 1 (tells (seenKnown 1))
     ∷ []
