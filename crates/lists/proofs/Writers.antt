@@ -14,8 +14,9 @@ use Rattle.values.specs.Enumerated.{PutEnumerated}
 use Rattle.values.specs.Ident.{identOctets, PutIdent}
 use Rattle.octets.proofs.Elements.{element-size, headed}
 use Rattle.values.proofs.Idents.{ident-one}
-use Rattle.numbers.specs.Number.{PutNumber}
-use Rattle.numbers.specs.Address.{PutAddress}
+use Rattle.numbers.specs.Number.{numberOctets, PutNumber}
+use Rattle.numbers.specs.Address.{subOctetsOf, subOctets, PutSub}
+use Rattle.numbers.proofs.Writers.{address-put}
 use Rattle.requests.specs.Request.{interrogation}
 use Rattle.lists.specs.Entry.{fieldsOctets, entryOctets}
 use Rattle.lists.specs.inner.Entry.{entrySize}
@@ -26,21 +27,25 @@ use Rattle.lists.proofs.Sizes.{octets-none, octets-more}
 
 -- ---- an entry
 
--- a head and the four fields
+-- a head and the four fields, the last of them an element of two
 pub entry-wrote :
     (e : Entry) {xs : List ℕ} {at size p : ℕ} {ys : List ℕ} {q : ℕ} {zs : List ℕ} {k : ℕ} {us : List ℕ} {m : ℕ} {vs : List ℕ}
-    {next : ℕ} {ws : List ℕ} →
+    {inner i : ℕ} {ws : List ℕ} {j : ℕ} {rs : List ℕ} {next : ℕ} {ts : List ℕ} →
     at + length (entryOctets e) ≤ length xs →
     size ≡ length (fieldsOctets e) →
+    inner ≡ length (numberOctets (e .address .number) ++ subOctets (subOctetsOf (e .address))) →
     PutHead xs at 0x30 size p ys →
     PutNumber ys p (e .served) q zs →
     PutEnumerated zs q (e .service) k us →
     PutEnumerated us k (e .procedure) m vs →
-    PutAddress vs m (e .address) next ws →
-    Wrote xs at (entryOctets e) next ws
+    PutHead vs m 0x30 inner i ws →
+    PutNumber ws i (e .address .number) j rs →
+    PutSub rs j (e .address) next ts →
+    Wrote xs at (entryOctets e) next ts
 unfolding entryOctets
-entry-wrote e fits is-size a b c d f =
-    headed fits is-size a (λ h. puts-then h b (λ i. puts-then i c (λ j. puts-then j d (λ l. wrote l f))))
+entry-wrote e fits is-size is-inner a b c d f g h =
+    headed fits is-size a
+    (λ k. puts-then k b (λ l. puts-then l c (λ m. puts-then m d (λ n. address-put (e .address) n is-inner f g h))))
 
 -- ---- the entries
 

@@ -4,8 +4,8 @@ use crate::entries::INSTANCESMOST;
 use crate::entry::Entry;
 use numbers::address_size;
 use numbers::number_size;
-use numbers::put_address;
 use numbers::put_number;
+use numbers::put_sub;
 use octets::head_size;
 use octets::put_all;
 use octets::put_head;
@@ -40,7 +40,10 @@ fn write_entry(out: &mut [u8], at: usize, e: Entry) -> usize
     let q = put_number(out, p, served);
     let k = put_enumerated(out, q, e.service);
     let m = put_enumerated(out, k, e.procedure);
-    put_address(out, m, address)
+    let number = address.number;
+    let a = put_head(out, m, 0x30, (address_size(address) - 2) as u16);
+    let b = put_number(out, a, number);
+    put_sub(out, b, address)
 }
 
 fn write_entries(out: &mut [u8], list: Entries) -> usize

@@ -9,9 +9,9 @@ use Rattle.laws.specs.Over.{Wrote}
 use Rattle.laws.proofs.Over.{wrote, wrote-none, then, puts-then}
 use Rattle.octets.specs.Element.{PutHead, PutAll}
 use Rattle.values.specs.Enumerated.{PutEnumerated}
-use Rattle.octets.proofs.Elements.{headed, room-headed}
-use Rattle.numbers.specs.Number.{most, unknown, digitsOf, numberOctets}
-use Rattle.numbers.specs.Address.{subOctetsOf, subOctets, addressOctets}
+use Rattle.octets.proofs.Elements.{headed, room-headed, length-small}
+use Rattle.numbers.specs.Number.{most, unknown, digitsOf, numberOctets, PutNumber}
+use Rattle.numbers.specs.Address.{subOctetsOf, subOctets, addressOctets, PutSub}
 use Rattle.numbers.specs.declared.number.Number.{Number}
 use Rattle.numbers.specs.declared.address.Address.{Address}
 use Rattle.numbers.proofs.Sizes.{held-count, unknown-octets, public-octets, public-inside, sub-none, sub-some, address-octets}
@@ -83,6 +83,15 @@ module _ (a : Address) {held : ℕ} (long : length (a .sub) ≡ most) (is : held
   sub-held : take held (a .sub) ≡ subOctetsOf a
   sub-held = held-octets (a .subcount) (a .sub) long is
 
+  -- how many octets a subaddress takes: none where there is none, and else a head and its own
+  pub sub-absent : held ≡ 0 → length (subOctets (subOctetsOf a)) ≡ 0
+  sub-absent none = rw (sym sub-held, none, sub-none)
+
+  pub sub-present : (held ≡ 0 → ⊥) → length (subOctets (subOctetsOf a)) ≡ 2 + held
+  sub-present some =
+      let octets = sub-some (subOctetsOf a) (λ e. some (sub-count ∙ e)) in
+      rw octets (omega (arith, length-small 0x04 (subOctetsOf a) (omega (arith, sub-count, is)), sub-count))
+
   -- a subaddress that is there
   pub sub-wrote :
       {xs : List ℕ} {at p : ℕ} {ys : List ℕ} {q : ℕ} {zs : List ℕ} → (held ≡ 0 → ⊥) →
@@ -118,3 +127,16 @@ pub address-wrote :
     Wrote xs at (addressOctets a) r us
 address-wrote a fits size x y z =
     let octets = address-octets a in rw octets (headed (rw octets at fits) size x (λ h. then y z))
+
+-- the same of three writers that are offered to all
+pub address-put :
+    (a : Address) {xs : List ℕ} {at size p : ℕ} {ys : List ℕ} {q : ℕ} {zs : List ℕ} {r : ℕ} {us : List ℕ} →
+    at + length (addressOctets a) ≤ length xs →
+    size ≡ length (numberOctets (a .number) ++ subOctets (subOctetsOf a)) →
+    PutHead xs at 0x30 size p ys →
+    PutNumber ys p (a .number) q zs →
+    PutSub zs q a r us →
+    Wrote xs at (addressOctets a) r us
+address-put a fits size x y z =
+    let octets = address-octets a in
+    rw octets (headed (rw octets at fits) size x (λ h. puts-then h y (λ k. wrote k z)))

@@ -119,6 +119,10 @@ AddressGood a r = r ≡ addressGood a
 abbrev pub AddressSize : Address → ℕ → Type 0
 AddressSize a r = r ≡ length (addressOctets a)
 
+-- what `put_sub` promises
+abbrev pub PutSub : List ℕ → ℕ → Address → ℕ → List ℕ → Type 0
+PutSub xs at a next ys = Puts xs at (subOctets (subOctetsOf a)) next ys
+
 -- what `put_address` promises
 abbrev pub PutAddress : List ℕ → ℕ → Address → ℕ → List ℕ → Type 0
 PutAddress xs at a next ys = Puts xs at (addressOctets a) next ys

@@ -20,3 +20,4 @@ pub use write::address_size;
 pub use write::number_size;
 pub use write::put_address;
 pub use write::put_number;
+pub use write::put_sub;

@@ -5,7 +5,7 @@ use mathlib.Core.Bool.{Bool}
 use mathlib.Core.List.{List}
 use Rattle.laws.proofs.Picks.{both}
 use Rattle.numbers.specs.Number.{BlankNumber, NumberAt, NumberGood, NumberSize, PutNumber}
-use Rattle.numbers.specs.Address.{BlankAddress, AddressAt, AddressGood, AddressSize, PutAddress}
+use Rattle.numbers.specs.Address.{BlankAddress, AddressAt, AddressGood, AddressSize, PutSub, PutAddress}
 use Rattle.numbers.specs.declared.number.Number.{Number}
 use Rattle.numbers.specs.declared.number.NumberRead.{NumberRead}
 use Rattle.numbers.specs.declared.address.Address.{Address}
@@ -41,6 +41,9 @@ only-address-size a = both
 module _ (xs : List ℕ) (at : ℕ) {p q : ℕ} {ys zs : List ℕ} where
   pub only-put-number : (n : Number) → PutNumber xs at n p ys → PutNumber xs at n q zs → (p ≡ q) × (ys ≡ zs)
   only-put-number n = only-puts
+
+  pub only-put-sub : (a : Address) → PutSub xs at a p ys → PutSub xs at a q zs → (p ≡ q) × (ys ≡ zs)
+  only-put-sub a = only-puts
 
   pub only-put-address : (a : Address) → PutAddress xs at a p ys → PutAddress xs at a q zs → (p ≡ q) × (ys ≡ zs)
   only-put-address a = only-puts

@@ -1,6 +1,6 @@
 use Rattle.lists.proofs.Sizes.{fields-size, every-entry-most}
 use Rattle.lists.proofs.Writers.{entry-wrote}
-use Rattle.numbers.proofs.Sizes.{every-number-most, every-address-most}
+use Rattle.numbers.proofs.Sizes.{every-number-most, every-contents-most, address-long, every-address-most}
 use Rattle.numbers.specs.Number.{most}
 use lib.ListN.{length}
 use mathlib.Core.Path.{_≡_}
@@ -49,55 +49,56 @@ put-enumerated-requires c κs = search needs
 put-enumerated-requires-2 : tie.Need-put-enumerated-requires-2
 put-enumerated-requires-2 c κs = search needs
 
-put-address-requires : tie.Need-put-address-requires
-put-address-requires c κs = search needs
+address-size-requires-2 : tie.Need-address-size-requires-2
+address-size-requires-2 c κs = search needs
+
+sub-put-head : tie.Need-sub-put-head
+sub-put-head c =
+    let k = c .before .before .before .before .before .before .before .before .before .before .before .before .before .before .before .before .before in
+    let e = k .before .before .before .before .before .before .before .args .e in
+    let digits : length (e .address .number .digits) ≡ most = search (needs, k .before .before .before .before .before .before .before .good .1 .1 .0 .1 .1 .1 .1 .1 .0) in
+    let sub : length (e .address .sub) ≡ most = search (needs, k .before .before .before .before .before .before .before .good .1 .1 .0 .1 .1 .1 .1 .1 .0) in
+    omega (arith, c .address-size2 .ensures, address-long (e .address) (every-contents-most (e .address) digits sub))
+
+cast-put-head-2 : tie.Need-cast-put-head-2
+cast-put-head-2 c =
+    let k = c .before .before .before .before .before .before .before .before .before .before .before .before .before .before .before .before .before in
+    let e = k .before .before .before .before .before .before .before .args .e in
+    let digits : length (e .address .number .digits) ≡ most = search (needs, k .before .before .before .before .before .before .before .good .1 .1 .0 .1 .1 .1 .1 .1 .0) in
+    let sub : length (e .address .sub) ≡ most = search (needs, k .before .before .before .before .before .before .before .good .1 .1 .0 .1 .1 .1 .1 .1 .0) in
+    omega (arith, c .address-size2 .ensures, every-address-most (e .address) digits sub)
+
+put-head-requires-2 : tie.Need-put-head-requires-2
+put-head-requires-2 c κs = search needs
+
+put-number-requires-2 : tie.Need-put-number-requires-2
+put-number-requires-2 c κs = search needs
+
+put-sub-requires : tie.Need-put-sub-requires
+put-sub-requires c κs = search needs
 
 same-length : tie.Need-same-length
 same-length c = search needs
 
 returns : tie.Need-returns
 returns c =
-    let e = c .before .before .before .before .before .before .before .before .before .before .before .before
-    .before .before .before .before .before .before .before .before .before .before .before .before .before .args .e in
-    let own : length (e .served .digits) ≡ most =
-    search (
-      needs,
-      c .before .before .before .before .before .before .before .before .before .before .before .before
-          .before .before .before .before .before .before .before .before .before .before .before .before .before .good,
-    ) in
-    let digits : length (e .address .number .digits) ≡ most =
-    search (
-      needs,
-      c .before .before .before .before .before .before .before .before .before .before .before .before
-          .before .before .before .before .before .before .before .before .before .before .before .before .before .good .1 .1 .0 .1 .1 .1 .1 .1 .0,
-    ) in
-    let sub : length (e .address .sub) ≡ most =
-    search (
-      needs,
-      c .before .before .before .before .before .before .before .before .before .before .before .before
-          .before .before .before .before .before .before .before .before .before .before .before .before .before .good .1 .1 .0 .1 .1 .1 .1 .1 .0,
-    ) in
+    let m = c .before .before .before .before .before .before .before .before .before .before .before in
+    let k = m .before .before .before .before .before .before .before .before .before .before .before .before .before .before .before .before .before in
+    let e = k .before .before .before .before .before .before .before .args .e in
+    let own : length (e .served .digits) ≡ most = search (needs, k .before .before .before .before .before .before .before .good .1 .1 .0 .1 .1 .0) in
+    let digits : length (e .address .number .digits) ≡ most = search (needs, k .before .before .before .before .before .before .before .good .1 .1 .0 .1 .1 .1 .1 .1 .0 .1 .1 .0) in
+    let sub : length (e .address .sub) ≡ most = search (needs, k .before .before .before .before .before .before .before .good .1 .1 .0 .1 .1 .1 .1 .1 .0 .1 .1 .1 .1 .0) in
     let few = every-entry-most e own digits sub in
-    let all = entry-wrote e
-    (omega (
-      arith,
-      few,
-      c .before .before .before .before .before .before .before .before .before .before .before .before
-          .before .before .before .before .before .before .before .before .before .before .before .before .before .pre,
-    ))
-    (omega (
-      arith,
-      c .before .before .before .before .before .before .before .before .before .before .before .before
-          .before .before .before .before .before .before .before .before .address-size .ensures,
-      c .before .before .before .before .before .before .before .before .before .before .before .before
-          .before .before .before .before .before .before .before .before .before .number-size .ensures,
-      fields-size e,
-    ))
-    (c .before .before .before .before .before .before .before .before .before .before .before .before .before .before .before .before .before .before .put-head .ensures)
-    (c .before .before .before .before .before .before .before .before .before .before .before .before .before .before .put-number .ensures)
-    (c .before .before .before .before .before .before .before .before .before .before .put-enumerated .ensures)
-    (c .before .before .before .before .before .before .put-enumerated2 .ensures)
-    (c .before .before .put-address .ensures) in
+    let all = entry-wrote e (omega (arith, few, k .before .before .before .before .before .before .before .pre))
+    (omega (arith, k .before .before .address-size .ensures, k .before .before .before .number-size .ensures, fields-size e))
+    (omega (arith, m .address-size2 .ensures, address-long (e .address) (every-contents-most (e .address) digits sub)))
+    (k .put-head .ensures)
+    (m .before .before .before .before .before .before .before .before .before .before .before .before .before .put-number .ensures)
+    (m .before .before .before .before .before .before .before .before .before .put-enumerated .ensures)
+    (m .before .before .before .before .before .put-enumerated2 .ensures)
+    (c .before .before .before .before .before .before .before .before .before .before .put-head2 .ensures)
+    (c .before .before .before .before .before .before .put-number2 .ensures)
+    (c .before .before .put-sub .ensures) in
     (all, omega (arith, few, all .moved))
 
 pub write-entry-spec : {M : Type 1} → statement M
@@ -113,6 +114,11 @@ write-entry-spec =
     put-number-requires
     put-enumerated-requires
     put-enumerated-requires-2
-    put-address-requires
+    address-size-requires-2
+    sub-put-head
+    cast-put-head-2
+    put-head-requires-2
+    put-number-requires-2
+    put-sub-requires
     same-length
     returns)
