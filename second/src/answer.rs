@@ -146,6 +146,36 @@ pub fn read_reply(component: &[u8]) -> Option<Reply<'_>> {
     })
 }
 
+/// A reply as an exchange may have meant it: the answer whose octets these are. `None` for any
+/// other octets, and for a reject that names no identifier.
+pub fn read_answer(component: &[u8]) -> Option<Answer> {
+    let Reply {
+        kind,
+        identifier,
+        after,
+    } = read_reply(component)?;
+    let answer = match kind {
+        ReplyKind::Result if after.is_empty() => Answer::Result { identifier },
+        ReplyKind::Result => Answer::List {
+            identifier,
+            entries: read_list(after)?,
+        },
+        ReplyKind::Error => Answer::Error {
+            identifier,
+            code: read_error(after)?,
+        },
+        ReplyKind::Reject => Answer::Reject {
+            identifier: Some(identifier),
+            problem: match after {
+                [TAG_GENERAL_PROBLEM, 1, code] => Problem::General(*code),
+                [TAG_INVOKE_PROBLEM, 1, code] => Problem::Invoke(*code),
+                _ => return None,
+            },
+        },
+    };
+    (answer.written() == component).then_some(answer)
+}
+
 /// The error's value: exactly one readable one, nothing after (A57).
 pub fn read_error(after: &[u8]) -> Option<i32> {
     let mut reader = Reader::over(after);

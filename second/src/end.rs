@@ -88,7 +88,7 @@ impl End {
         place(procedure).and_then(|at| self.marks.get(at)).copied()
     }
 
-    fn set_mark(&mut self, procedure: i32, mark: i32) {
+    pub(crate) fn set_mark(&mut self, procedure: i32, mark: i32) {
         if let Some(place) = place(procedure).and_then(|at| self.marks.get_mut(at)) {
             *place = mark;
         }

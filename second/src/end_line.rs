@@ -1,13 +1,16 @@
 //! Lines of the end in a dialogue (`send`, `arrived`, `give-up` and `shown`), with what they print.
 
 use crate::canaries::{FOR_AN_ARRIVAL, FOR_A_GIVING_UP, FOR_A_SENDING, FOR_SHOWING};
-use crate::codes::INTERROGATION;
+use crate::codes::{ACTIVATION, DEACTIVATION, INTERROGATION};
 use crate::end_record::EndRecord;
 use crate::end_step::EntryRecord;
-use crate::hexadecimal::joined;
+use crate::hexadecimal::{joined, read, read_at_most};
 use crate::refusal::Refusal;
 use crate::request_record::{interrogation_record, RequestRecord};
-use crate::transcript::{Situation, Transcript};
+use crate::transcript::{line_of, Situation, Transcript, MOST_OF_A_COMPONENT};
+
+/// The operations whose requests are given as records.
+const CHANGES: [i32; 2] = [ACTIVATION, DEACTIVATION];
 
 /// What the end is to do.
 #[derive(Clone, Debug, PartialEq, Eq)]
@@ -65,6 +68,30 @@ impl EndAct {
             }
             _ => Ok((EndAnswer::GaveUp, now.gave_up()?.1)),
         }
+    }
+
+    /// What a line of the end asks for, by its first word and the rest.
+    pub fn of_words(word: &str, rest: &str) -> Option<Self> {
+        match (word, rest) {
+            ("send", rest) => match rest.split_once(' ')? {
+                ("11", procedure) => procedure.parse().ok().map(EndAct::Interrogate),
+                (operation, record) => {
+                    let operation = operation.parse().ok().filter(|one| CHANGES.contains(one))?;
+                    let record = read(record)?.try_into().ok()?;
+                    Some(EndAct::Send(operation, Box::new(record)))
+                }
+            },
+            ("arrived", octets) => read_at_most(octets, MOST_OF_A_COMPONENT).map(EndAct::Arrived),
+            ("give-up", "") => Some(EndAct::GiveUp),
+            ("shown", procedure) => procedure.parse().ok().map(EndAct::Shown),
+            _ => None,
+        }
+    }
+
+    /// The line that asks for it.
+    pub fn line(&self) -> String {
+        let (word, rest) = self.words();
+        line_of(&word, &rest)
     }
 
     /// The words before the octets or the number, and those.

@@ -2,8 +2,10 @@
 //! and the picture. It keeps octets that carry no meaning.
 
 use crate::end::{End, Outstanding, IN_DOUBT, KNOWN};
+use crate::records::octet;
 use crate::refusal::Refusal;
-use crate::request_record::{read_request, RequestRecord, REQUEST_OCTETS};
+use crate::request_record::{read_request, request_record, RequestRecord, REQUEST_OCTETS};
+use crate::table::Table;
 use crate::table_record::{TableRecord, PLACES, PLACE_OCTETS};
 
 /// The octets of a mark.
@@ -65,6 +67,25 @@ impl EndRecord {
         })
     }
 
+    /// The record of a good end, with zeros wherever nothing carries a meaning.
+    pub fn of(end: &End) -> Self {
+        let held = TableRecord::of(&Table {
+            last: end.last_used,
+            instances: end.picture.clone(),
+        });
+        let closed = EndRecord::closed(held, end.marks);
+        let Some(sent) = &end.outstanding else {
+            return closed;
+        };
+        EndRecord {
+            outstanding: 1,
+            operation: octet(sent.request.operation()),
+            before: mark_octet(sent.mark_before),
+            request: request_record(&sent.request),
+            ..closed
+        }
+    }
+
     /// Nothing outstanding, with zeros in its fields, and these marks.
     pub fn closed(held: TableRecord, marks: [i32; 3]) -> Self {
         EndRecord {
@@ -89,16 +110,12 @@ impl EndRecord {
             return None;
         }
         octets.resize(END_OCTETS, 0);
-        let [high, low, outstanding, operation, before, ..] = octets[..] else {
+        let [_, _, outstanding, operation, before, ..] = octets[..] else {
             return None;
         };
-        let (places, _) = octets[PICTURE + 1..].as_chunks::<PLACE_OCTETS>();
+        let held = [&octets[..OUTSTANDING], &octets[PICTURE..]].concat();
         Some(EndRecord {
-            held: TableRecord {
-                last: u16::from_be_bytes([high, low]),
-                count: octets[PICTURE],
-                places: places.try_into().ok()?,
-            },
+            held: TableRecord::of_octets(&held)?,
             outstanding,
             operation,
             before,

@@ -1,10 +1,13 @@
-//! The program: lists a night sheet, soaks the end against the exchange, or writes cases.
+//! The program: lists a night sheet, soaks the end against the exchange, writes cases, or meets
+//! another program.
 
 use std::fs;
-use std::io::{self, Read, Write};
+use std::io::{self, BufRead, Read, Write};
 use std::path::Path;
 use std::process::ExitCode;
 
+use second::across::across;
+use second::answering::Answerer;
 use second::call_cases::call_cases;
 use second::call_dialogues::call_dialogues;
 use second::cases::Cases;
@@ -17,8 +20,11 @@ use second::listing::printed;
 use second::sheet_cases::sheet_cases;
 use second::sheet_dialogues::sheet_dialogues;
 use second::soak::soak;
+use second::talk::Program;
 use second::tally::MustReach;
 use second::transcript::Transcript;
+use second::world::Checks;
+use second::wrong::{Wrong, WRONGS};
 
 const HELP: &str = "\
 second list < SHEET        list a night sheet, or print: refused 9
@@ -52,6 +58,25 @@ second end-cases SEED COUNT DIR
                            write so many lines of the customer end (send, arrived, give-up, shown),
                            made from the seed, with what this program's end does; files, tally and
                            exit code as for exchange-cases
+second across SEED EVENTS COMMAND...
+                           start COMMAND, which answers the lines of docs/DIALOGUES.md on standard
+                           input, and play so many events of two meetings with it over a bad path:
+                           the own end with its exchange, and its end with the own exchange; demand
+                           3 is checked after every event, and every answer is compared with this
+                           program's own. Each line is asked only after the one before is answered,
+                           so COMMAND must flush each line: a program that prints with C's stdio is
+                           to be started by the caller as
+                               stdbuf -oL PROGRAM ...
+                           or, where that has no hold on it, on a pseudo-terminal, as
+                               script -E never -qefc \"stty -echo -opost; exec PROGRAM ...\" /dev/null
+                           Prints how often each kind of event came about; a breach, told with the
+                           lines since the last start, or a kind that never came about, ends with
+                           exit code 1
+second answer [wrong-N]    answer such lines by this program's own rules (remarks, start, access,
+                           table, output, component, end, send, arrived, give-up, shown), flushing
+                           each; with wrong-N as the N-th of the wrong ends and exchanges would
+                           (second wrongs) that across must catch
+second wrongs              list the wrong ends and exchanges
 second help                this text
 ";
 
@@ -61,12 +86,37 @@ fn main() -> ExitCode {
         .map(|argument| argument.to_string_lossy().into_owned())
         .collect();
     let words: Vec<&str> = arguments.iter().map(String::as_str).collect();
-    let done = match words[..] {
+    done(&words).unwrap_or_else(|fault| {
+        // Nothing is left to tell it to if standard error is gone as well.
+        let _ = writeln!(io::stderr(), "second: {fault}");
+        ExitCode::FAILURE
+    })
+}
+
+fn done(words: &[&str]) -> io::Result<ExitCode> {
+    match *words {
         ["list"] => list(),
         ["soak", seeds, steps] => match (seeds.parse(), steps.parse()) {
             (Ok(seeds), Ok(steps)) => run_soak(seeds, steps),
             _ => misused(),
         },
+        ["across", seed, events, command, ref arguments @ ..] => {
+            run_across([seed, events], command, arguments)
+        }
+        ["answer"] => answer(Answerer::new(None)),
+        ["answer", word] => match Wrong::named(word) {
+            None => misused(),
+            wrong => answer(Answerer::new(wrong)),
+        },
+        ["wrongs"] => print_wrongs(),
+        ["help"] => print(HELP).map(|()| ExitCode::SUCCESS),
+        _ => written(words),
+    }
+}
+
+/// What writes files.
+fn written(words: &[&str]) -> io::Result<ExitCode> {
+    match *words {
         ["list-cases", directory] => write_list_cases(Path::new(directory)),
         ["dialogues", directory] => write_dialogues(&dialogues(), Path::new(directory)),
         ["call-dialogues", directory] => write_dialogues(&call_dialogues(), Path::new(directory)),
@@ -84,14 +134,8 @@ fn main() -> ExitCode {
         ["end-cases", seed, count, directory] => {
             write_cases(end_cases, "lines of the end", [seed, count], directory)
         }
-        ["help"] => print(HELP).map(|()| ExitCode::SUCCESS),
         _ => misused(),
-    };
-    done.unwrap_or_else(|fault| {
-        // Nothing is left to tell it to if standard error is gone as well.
-        let _ = writeln!(io::stderr(), "second: {fault}");
-        ExitCode::FAILURE
-    })
+    }
 }
 
 fn print(text: &str) -> io::Result<()> {
@@ -173,6 +217,41 @@ fn run_soak(seeds: u64, steps: u64) -> io::Result<ExitCode> {
             Ok(ExitCode::FAILURE)
         }
     }
+}
+
+/// The numbers are the seed, and how many events there are to be.
+fn run_across(numbers: [&str; 2], command: &str, arguments: &[&str]) -> io::Result<ExitCode> {
+    let [Ok(seed), Ok(events)] = numbers.map(str::parse) else {
+        return misused();
+    };
+    let program = Program::started(command, arguments)?;
+    match across(Box::new(program), seed, events, Checks::All) {
+        Ok(counts) => {
+            print(&format!("seed {seed}, {events} events\n"))?;
+            print_tally(&counts)
+        }
+        Err(breach) => {
+            print(&format!("seed {seed}: {breach}"))?;
+            Ok(ExitCode::FAILURE)
+        }
+    }
+}
+
+fn answer(mut answerer: Answerer) -> io::Result<ExitCode> {
+    for line in io::stdin().lock().lines() {
+        let said = answerer.answer(&line?).map_err(io::Error::other)?;
+        if let Some(said) = said {
+            print(&format!("{said}\n"))?;
+        }
+    }
+    Ok(ExitCode::SUCCESS)
+}
+
+fn print_wrongs() -> io::Result<ExitCode> {
+    for ((_, name), number) in WRONGS.iter().zip(1..) {
+        print(&format!("wrong-{number:<3} {name}\n"))?;
+    }
+    Ok(ExitCode::SUCCESS)
 }
 
 /// Exit code 1 where a kind was never reached.

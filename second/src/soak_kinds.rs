@@ -1,16 +1,18 @@
-//! Every kind of event a soak counts.
+//! Every kind of event that a soak and a meeting with another program count.
 
 use crate::codes::{
     DIVERSION_TO_SERVED_NUMBER, INVALID_DIVERTED_TO_NUMBER, INVALID_SERVED_NUMBER, NOT_ACTIVATED,
     NOT_AVAILABLE, NOT_SUBSCRIBED, RESOURCE_UNAVAILABLE, SERVICE_NOT_PROVIDED,
     SPECIAL_SERVICE_NUMBER,
 };
+use crate::tally::Kinds;
 
 #[derive(Clone, Copy, Debug, PartialEq, Eq)]
 pub enum Kind {
     ActivationSent,
     DeactivationSent,
     InterrogationSent,
+    TwoOctetsSent,
     RefusedOutstanding,
     RequestLost,
     RequestRepeated,
@@ -20,6 +22,8 @@ pub enum Kind {
     DeactivationDone,
     ListEmpty,
     ListFilled,
+    /// An interrogation that the profile does not allow got its error.
+    WholeForbidden,
     GivenUpRequestHandled,
     Duplicate,
     Error(i32),
@@ -27,7 +31,10 @@ pub enum Kind {
     ReplyRepeated,
     ReplyOvertaken,
     ReplyDelayed,
+    /// Nothing was outstanding.
     Dropped,
+    /// Another request was outstanding.
+    DroppedLate,
     AppliedKnown,
     AppliedInDoubt,
     NotApplicable,
@@ -40,23 +47,37 @@ pub enum Kind {
     GivenUp,
     NothingToGiveUp,
     SheetTurned,
+    ShownFilled,
+    ShownEmpty,
+    ShownInDoubt,
+    ShownRefused,
 }
 
-/// Every kind a soak must reach. Error 11 comes of a full table alone, since the end sends no
-/// user-specified subaddress.
-pub const KINDS: [(Kind, &str); 40] = [
-    (Kind::ActivationSent, "activation sent"),
-    (Kind::DeactivationSent, "deactivation sent"),
-    (Kind::InterrogationSent, "interrogation sent"),
-    (Kind::RefusedOutstanding, "sending refused, 7"),
+/// All of them. Error 11 comes of a full table alone, since the end sends no user-specified
+/// subaddress.
+const KINDS: [(Kind, &str); 47] = [
+    (Kind::SheetTurned, "night sheet written and read back"),
     (Kind::RequestLost, "request lost"),
     (Kind::RequestRepeated, "request repeated"),
     (Kind::RequestOvertaken, "request overtaken by a later one"),
     (Kind::RequestDelayed, "request delayed"),
+    (Kind::ReplyLost, "reply lost"),
+    (Kind::ReplyRepeated, "reply repeated"),
+    (Kind::ReplyOvertaken, "reply overtaken by a later one"),
+    (Kind::ReplyDelayed, "reply delayed"),
+    (Kind::ActivationSent, "activation sent"),
+    (Kind::DeactivationSent, "deactivation sent"),
+    (Kind::InterrogationSent, "interrogation sent"),
+    (Kind::TwoOctetsSent, "sent with an identifier of two octets"),
+    (Kind::RefusedOutstanding, "sending refused, 7"),
     (Kind::ActivationDone, "activation done"),
     (Kind::DeactivationDone, "deactivation done"),
     (Kind::ListEmpty, "list, empty"),
     (Kind::ListFilled, "list with instances"),
+    (
+        Kind::WholeForbidden,
+        "interrogation that the profile forbids, its error",
+    ),
     (
         Kind::GivenUpRequestHandled,
         "request handled after it was given up",
@@ -71,11 +92,11 @@ pub const KINDS: [(Kind, &str); 40] = [
     (Kind::Error(SPECIAL_SERVICE_NUMBER), "error 14"),
     (Kind::Error(DIVERSION_TO_SERVED_NUMBER), "error 15"),
     (Kind::Error(NOT_ACTIVATED), "error 46"),
-    (Kind::ReplyLost, "reply lost"),
-    (Kind::ReplyRepeated, "reply repeated"),
-    (Kind::ReplyOvertaken, "reply overtaken by a later one"),
-    (Kind::ReplyDelayed, "reply delayed"),
-    (Kind::Dropped, "reply dropped by the end"),
+    (Kind::Dropped, "reply dropped, nothing outstanding"),
+    (
+        Kind::DroppedLate,
+        "late reply dropped, another request outstanding",
+    ),
     (Kind::AppliedKnown, "result applied, known"),
     (Kind::AppliedInDoubt, "result applied, in doubt"),
     (Kind::NotApplicable, "result not applicable, doubt"),
@@ -87,10 +108,17 @@ pub const KINDS: [(Kind, &str); 40] = [
     (Kind::ListedWhileKnown, "list kept a known one known"),
     (Kind::GivenUp, "given up"),
     (Kind::NothingToGiveUp, "nothing to give up"),
-    (Kind::SheetTurned, "night sheet written and read back"),
+    (Kind::ShownFilled, "shown as known, with instances"),
+    (Kind::ShownEmpty, "shown as known, empty"),
+    (Kind::ShownInDoubt, "shown as in doubt"),
+    (Kind::ShownRefused, "showing refused, 10"),
 ];
 
 /// Those that the paths alone count.
-pub const KINDS_OF_PATHS: [(Kind, &str); 8] = [
-    KINDS[4], KINDS[5], KINDS[6], KINDS[7], KINDS[23], KINDS[24], KINDS[25], KINDS[26],
-];
+pub const KINDS_OF_PATHS: Kinds<Kind> = KINDS.split_at(1).1.split_at(8).0;
+
+/// Every kind a soak must reach: nothing is shown in lines.
+pub const KINDS_OF_SOAKS: Kinds<Kind> = KINDS.split_at(KINDS.len() - 4).0;
+
+/// Every kind a meeting with another program must reach: no sheets are turned.
+pub const KINDS_OF_MEETINGS: Kinds<Kind> = KINDS.split_at(1).1;

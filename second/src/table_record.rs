@@ -141,6 +141,22 @@ impl TableRecord {
         TableRecord::holding(last, &counted.collect::<Vec<Place>>())
     }
 
+    /// From a line: places that it does not give are zeros. `None` for too many octets, or none
+    /// for the count.
+    pub fn of_octets(given: &[u8]) -> Option<Self> {
+        let [high, low, count, given @ ..] = given else {
+            return None;
+        };
+        let mut places = [BLANK; PLACES];
+        let written = places.as_flattened_mut().get_mut(..given.len())?;
+        written.copy_from_slice(given);
+        Some(TableRecord {
+            last: u16::from_be_bytes([*high, *low]),
+            count: *count,
+            places,
+        })
+    }
+
     /// The last handled identifier, the count, and the places up to the last not all zeros.
     pub fn octets(&self) -> Vec<u8> {
         let written = self.places.iter().rposition(|place| *place != BLANK);

@@ -11,6 +11,9 @@ use crate::profile::Profile;
 use crate::refusal::{Refusal, COMPONENT_OUTPUT};
 use crate::table_record::TableRecord;
 
+/// The most octets that a line gives of a component.
+pub const MOST_OF_A_COMPONENT: usize = 1_100;
+
 /// What an exchange says to a component.
 #[derive(Clone, Debug, PartialEq, Eq)]
 pub enum Said {
@@ -171,14 +174,18 @@ impl Transcript {
         self.asked("call", octets, &answer.line(), FOR_A_CALL);
     }
 
-    /// A word with nothing after it ends the line.
     fn line(&mut self, word: &str, rest: &str) {
-        self.input.push_str(word);
-        if !rest.is_empty() {
-            self.input.push(' ');
-            self.input.push_str(rest);
-        }
+        self.input.push_str(&line_of(word, rest));
         self.input.push('\n');
+    }
+}
+
+/// A word with nothing after it ends the line.
+pub fn line_of(word: &str, rest: &str) -> String {
+    if rest.is_empty() {
+        word.to_string()
+    } else {
+        format!("{word} {rest}")
     }
 }
 

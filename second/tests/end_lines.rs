@@ -167,7 +167,7 @@ fn cases_reach_every_kind_and_cause() {
 fn the_kinds_of_paths_are_those_that_paths_count() {
     let counted = [REQUEST_PATH, REPLY_PATH]
         .map(|path| [path.lost, path.repeated, path.overtaken, path.delayed]);
-    let listed = KINDS_OF_PATHS.map(|(kind, _)| kind);
+    let listed: Vec<_> = KINDS_OF_PATHS.iter().map(|(kind, _)| *kind).collect();
     assert_eq!(counted.as_flattened(), listed);
 }
 

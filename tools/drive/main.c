@@ -21,8 +21,11 @@ int main(int count, char **words)
         ask_canaries();
         count = 2;
     }
-    if (count == 2 && is(words[1], "dialogue"))
+    if (count == 2 && is(words[1], "dialogue")) {
+        /* whoever talks to it waits for each answer */
+        setvbuf(stdout, NULL, _IOLBF, BUFSIZ);
         return dialogue();
+    }
     if (count == 2 && is(words[1], "cases"))
         return cases();
     if (count == 2 && is(words[1], "limits"))

@@ -54,7 +54,7 @@ impl EndTally {
             events: Tally::of(&EVENTS),
             makings: Tally::of(&MAKINGS),
             rubbish: Tally::of(&RUBBISH),
-            path: Tally::of(&KINDS_OF_PATHS),
+            path: Tally::of(KINDS_OF_PATHS),
             shapes: Tally::of(&SHAPES),
             lists: Tally::of(&LIST_FAULTS),
             requests: Tally::of(&REQUEST_FLAWS),

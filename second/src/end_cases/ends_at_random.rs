@@ -38,11 +38,16 @@ pub fn request(random: &mut Random, profile: &Profile, operation: i32) -> Reques
     if operation == INTERROGATION {
         return interrogation_record(octet(request.procedure()));
     }
+    record_of(random, &request)
+}
+
+/// The record of this request, at times with rubbish.
+pub fn record_of(random: &mut Random, request: &Request) -> RequestRecord {
     let mut record = [0; REQUEST_OCTETS];
     if random.once_in(2) {
         record.fill_with(|| random.octet());
     }
-    write_request(&mut record, &request);
+    write_request(&mut record, request);
     record
 }
 
