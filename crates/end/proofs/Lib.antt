@@ -13,3 +13,5 @@ pub mod Marks
 pub mod Others
 pub mod Goods
 pub mod Waitings
+pub mod Closings
+pub mod GoodLists

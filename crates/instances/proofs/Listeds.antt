@@ -4,13 +4,14 @@ use mathlib.Core.Path.{_≡_, refl, ap}
 use mathlib.Core.Bool.{true}
 use mathlib.Core.List.{List, [], _∷_, map}
 use native.Mathlib.Omega.{arith}
-use lib.ListN.{length, length-map}
+use lib.ListN.{length, getD, length-map}
 use borrow.Author.Tests.{lt-ltb}
 use Rattle.laws.proofs.Picks.{by-bool}
 use Rattle.laws.proofs.Thoses.{those-take, those-skip, those-none}
 use Rattle.laws.proofs.Eaches.{Each, each-so, each-those}
 use Rattle.numbers.specs.Number.{numberGood}
-use Rattle.profile.specs.Profile.{numbersMost, subscribedServices}
+use Rattle.numbers.specs.declared.number.Number.{Number}
+use Rattle.profile.specs.Profile.{numbersMost, noNumber, subscribedServices}
 use Rattle.profile.specs.declared.profile.Profile.{Profile}
 use Rattle.profile.proofs.Profiles.{GoodProfile}
 use Rattle.lists.specs.Entry.{entryGood}
@@ -59,6 +60,11 @@ module _ (p : Profile) (sel : Selection) (most : ℕ) (l : List Instance) (so : 
       )
 
 -- ---- entries
+
+-- the number at a place that a profile may have
+pub served-own : (numbers : List Number) (k : ℕ) → k < numbersMost → servedNumber numbers k ≡ getD numbers k noNumber
+unfolding servedNumber
+served-own numbers k h = rw (lt-ltb k numbersMost h)
 
 module _ (p : Profile) (profile : GoodProfile p) where
   number-good : (n : ℕ) → n < p .numbercount → numberGood (servedNumber (p .numbers) n) ≡ true

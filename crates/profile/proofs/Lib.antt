@@ -4,3 +4,4 @@ pub mod Records
 pub mod Services
 pub mod Diversions
 pub mod Rising
+pub mod Tidied

@@ -1,6 +1,6 @@
 -- Laws of the access record's reader, over plain values. Assumes nothing.
 use Prim.Native.Nat.{ℕ, _+_, _*_, _-_, _≤_, _<_}
-use mathlib.Core.Path.{_≡_, refl, sym, _∙_}
+use mathlib.Core.Path.{_≡_, refl, sym, ap, _∙_}
 use mathlib.Core.Bool.{Bool, true, false≢true}
 use mathlib.Core.List.{List, [], _∷_}
 use native.Mathlib.Nat.{add-assoc}
@@ -12,13 +12,13 @@ use borrow.Author.Tests.{eqb-true}
 use Rattle.laws.specs.Over.{Puts, over}
 use Rattle.laws.specs.Places.{eachFrom}
 use Rattle.laws.specs.Tests.{all}
-use Rattle.laws.proofs.Each.{spelled, each-spelled, each-set, each-done, slice-each}
+use Rattle.laws.proofs.Each.{getD-each, spelled, each-spelled, each-set, each-done, slice-each}
 use Rattle.laws.proofs.Picks.{pick-ind}
 use Rattle.laws.proofs.Over.{wrote, take-over, length-over}
 use Rattle.laws.proofs.Parts.{part-slice}
 use Rattle.numbers.specs.Number.{most}
 use Rattle.numbers.specs.declared.number.Number.{Number}
-use Rattle.profile.specs.Profile.{servicesMost, prefixesMost, profileGood}
+use Rattle.profile.specs.Profile.{numbersMost, noNumber, servicesMost, prefixesMost, profileGood}
 use Rattle.profile.specs.Access.{numbersAt, numberSize, servicesAt, subscribedAt, flagsAt, prefixesAt, prefixSize}
 use Rattle.profile.specs.Access.{accessSize, numberFrom, prefixFrom, prefixesFrom, profileFrom, noAccess, accessRead}
 use Rattle.profile.specs.declared.profile.Prefix.{Prefix}
@@ -156,3 +156,21 @@ unfolding profileFrom
 access-services s =
     access-ind s (λ r. length (r .profile .services) ≡ servicesMost) refl
     (λ long _. omega (arith, length-slice servicesAt (servicesAt + servicesMost) s (omega arith)))
+
+-- the array of digits of a number has all its places
+number-long : (s : List ℕ) (at : ℕ) → at + numberSize ≤ length s → length (numberFrom s at .digits) ≡ most
+unfolding numberFrom
+number-long s at h = omega (arith, length-slice (at + 3) (at + numberSize) s h)
+
+-- and so have those of the numbers of a profile that was read
+pub access-numbers :
+    (s : List ℕ) → accessRead s .ok ≡ true → (k : ℕ) → k < numbersMost →
+    length (getD (accessRead s .profile .numbers) k noNumber .digits) ≡ most
+unfolding profileFrom
+access-numbers s =
+    access-ind s
+    (λ r. r .ok ≡ true → (k : ℕ) → k < numbersMost → length (getD (r .profile .numbers) k noNumber .digits) ≡ most)
+    (λ h. absurd (false≢true h))
+    (λ long _ _ k low.
+    ap (λ (n : Number). length (n .digits)) (getD-each (λ k. numberFrom s (numbersAt + numberSize * k)) numbersMost 0 k noNumber low)
+    ∙ number-long s (numbersAt + numberSize * (0 + k)) (omega (arith, long, low)))

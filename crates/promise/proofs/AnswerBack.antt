@@ -122,7 +122,7 @@ answer-back access t s size x identifier operation at end n hears told same =
 
 -- ---- to a request that the end sent
 
-known-sent : {operation : ℕ} {r : Request} → goods.Asked operation r → Known operation
+pub known-sent : {operation : ℕ} {r : Request} → goods.Asked operation r → Known operation
 known-sent (goods.activates e) = activates e
 known-sent (goods.deactivates e) = deactivates e
 known-sent (goods.interrogates e _ _) = interrogates e
@@ -131,7 +131,7 @@ module _
     (access : List ℕ) (t : Table) (size : ℕ) (ok : accessRead access .ok ≡ true)
     (good : tableGood instancesMost (accessRead access .profile) t ≡ true) (room : outputLeast ≤ size)
   where
-    request-answered :
+    pub request-answered :
         (e : End) → e .used ≤ 32767 → sendable (e .operation) (e .request) ≡ true →
         AnswersEnd access t size e (requestOctets (pos (e .used)) (e .operation) (e .request))
     request-answered e most fit =

@@ -21,3 +21,12 @@ pub mod OnlyValues
 pub mod OnlyEnd
 pub mod AnswerBack
 pub mod Wrong
+pub mod DemandLists
+pub mod DemandChanges
+pub mod DemandReads
+pub mod DemandParts
+pub mod DemandReplies
+pub mod DemandEnds
+pub mod DemandExchanges
+pub mod Demands
+pub mod DemandRefusals

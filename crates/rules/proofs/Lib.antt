@@ -2,3 +2,4 @@ pub mod Selections
 pub mod TestLaws
 pub mod Judges
 pub mod Begins
+pub mod Tidied
