@@ -71,8 +71,11 @@ struct sconcetoad_entries {
     struct sconcetoad_entry entries[SCONCETOAD_ENTRIES];
 };
 
-/* What a reply lists. Look at `lists` first: it is 1 where the reply is a list, and then `list` holds its entries; else `list` says nothing, and
-   must not be taken for an empty one. */
+/* What stands for a count where there is none: no list has so many entries, and no procedure so many instances. */
+#define SCONCETOAD_NO_COUNT 255
+
+/* What a reply lists. Look at `lists` first: it is 1 where the reply is a list, and then `list` holds its entries; else `list` must not be used, and
+   its count is SCONCETOAD_NO_COUNT. */
 struct sconcetoad_told {
     uint8_t lists;
     struct sconcetoad_entries list;
@@ -278,9 +281,6 @@ struct sconcetoad_moving sconcetoad_arrived(struct sconcetoad_end end, const uin
 
 /* The end waits no longer. Its refusals are SCONCETOAD_BAD_PROFILE and SCONCETOAD_BAD_TABLE. Alters nothing. */
 struct sconcetoad_moving sconcetoad_give_up(struct sconcetoad_end end, const uint8_t *access, size_t access_length);
-
-/* What stands for the count of a procedure that is not known. */
-#define SCONCETOAD_NO_COUNT 255
 
 /* What the page reads of a procedure. Look at `refusal` first, then at `mark`: only a known procedure has a count; beside a refusal the mark is
    SCONCETOAD_DOUBT, and beside doubt the count is SCONCETOAD_NO_COUNT, which is no number of entries. */

@@ -82,6 +82,8 @@ static int read_list(void)
     struct sconcetoad_told told = sconcetoad_list(lent_octets(&component), component.size, OUTSTANDING);
     if (!came_back(&component, 0))
         return wrong("an octet changed that should not");
+    if (told.lists != 1 && told.list.count != SCONCETOAD_NO_COUNT)
+        return wrong("an empty list stands where there is none");
     end_line(line, told.lists == 1 ? entries_said(line, &told.list) : line + sprintf(line, "no list"));
     return 0;
 }

@@ -14,6 +14,7 @@ use Rattle.end.specs.Sending.{interrogationOf, Sends, sends}
 use Rattle.end.specs.Taking.{Moves, takes, givesUp}
 use Rattle.end.specs.Shown.{Seen, shown, entriesOut}
 use Rattle.end.specs.declared.end.End.{End}
+use Rattle.sconcetoad.specs.ListTold.{noCount}
 use Rattle.sconcetoad.specs.declared.desk.Sending.{Sending}
 use Rattle.sconcetoad.specs.declared.desk.Moving.{Moving}
 use Rattle.sconcetoad.specs.declared.desk.Page.{Page}
@@ -48,10 +49,6 @@ TakenBy access e s r = MovedTo (takes access e s) r
 
 abbrev pub GivenUpBy : List ℕ → End → Moving → Type 0
 GivenUpBy access e r = MovedTo (givesUp access e) r
-
--- what stands for the count of a procedure that is not known: no procedure has so many
-abbrev pub noCount : ℕ
-noCount = 255
 
 -- the refusal, the mark, and the count of a procedure that is known
 abbrev pub pageOf : Told Seen → Page

@@ -12,9 +12,13 @@ use Rattle.answers.specs.declared.reply.Reply.{Reply}
 use Rattle.answers.specs.declared.reply.Reply.the-variants.{Dropped, Rejected, Failed, Done, Listed, Wrong}
 use Rattle.sconcetoad.specs.declared.list.ListTold.{ListTold}
 
--- nothing is listed
+-- what stands for a count where there is none: no list has so many entries, and no procedure so many instances
+abbrev pub noCount : ℕ
+noCount = 255
+
+-- nothing is listed, and no empty list stands there
 abbrev pub nothingListed : ListTold
-nothingListed = record { lists = 0; list = entriesOf [] }
+nothingListed = record { lists = 0; list = record { count = noCount; entries = entriesOf [] .entries } }
 
 abbrev pub entriesTold : Got (List Entry) → ListTold
 entriesTold (got es next) = record { lists = 1; list = entriesOf es }

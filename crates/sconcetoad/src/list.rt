@@ -10,6 +10,9 @@ ghost use mathlib.Core.Path.{_≡_};
 ghost use Rattle.lists.specs.Listed.{PutList};
 ghost use Rattle.sconcetoad.specs.ListTold.{nothingListed, ListToldBy};
 
+// What stands for the count where there is no list: nobody can take that for an empty one.
+const NOLIST: u8 = 255;
+
 // What a reply lists: `lists` is 1 where it is a list, and then `list` holds its entries.
 #[repr(C)]
 pub struct ListTold {
@@ -20,8 +23,15 @@ pub struct ListTold {
 fn nothing_listed() -> ListTold
     ensures { λ r. ⌜ r ≡ nothingListed ⌝ }
 {
-    let list = no_entries();
-    ListTold { lists: 0, list }
+    let none = no_entries();
+    let entries = none.entries;
+    ListTold {
+        lists: 0,
+        list: Entries {
+            count: NOLIST,
+            entries,
+        },
+    }
 }
 
 // What `component` lists to the end whose interrogation has this identifier.
