@@ -1,3 +1,4 @@
 pub mod Number
 pub mod Address
+pub mod Spelt
 pub mod inner

@@ -2,3 +2,5 @@ pub mod Words
 pub mod Within
 pub mod Lengths
 pub mod Elements
+pub mod Slices
+pub mod Spellings

@@ -63,7 +63,7 @@ tagged-in depth size tag at end (span.Is start stop) d h k = record {
 tagged-in depth size tag at end span.Wrong d h k = tt
 
 -- where none of several tests holds, the first does not, and none of the others
-neither : (b c : Bool) → pick b true c ≡ false → (b ≡ false) × (c ≡ false)
+pub neither : (b c : Bool) → pick b true c ≡ false → (b ≡ false) × (c ≡ false)
 neither true c e = absurd (false≢true (sym e))
 neither false c e = (refl, e)
 

@@ -1,4 +1,5 @@
 pub mod Word
 pub mod Head
 pub mod Element
+pub mod Spelt
 pub mod inner

@@ -1,10 +1,9 @@
 -- Laws of identifiers, once over the number w of contents octets: the bound, the shortest form, and that what is written
 -- reads back with its exact sign. Assumes nothing.
-use Prim.Native.Nat.{ℕ, _+_, _-_, _^_, _≤_, _<_}
+use Prim.Native.Nat.{ℕ, suc, _+_, _-_, _^_, _≤_, _<_}
 use mathlib.Core.Path.{_≡_, refl, ap, _∙_}
 use mathlib.Core.Bool.{Bool, true, false}
 use mathlib.Core.List.{List, _∷_}
-use native.Mathlib.Nat.{pow-le-pow-right}
 use native.Mathlib.Omega.{arith}
 use lib.IntN.{ℤ}
 use lib.Signed.{mag}
@@ -17,20 +16,22 @@ use Rattle.laws.proofs.Picks.{pick-ind, pick-then}
 use Rattle.laws.proofs.Fewest.{fewest-step, fewest-will, fewest-most, fewest-least}
 use Rattle.octets.specs.Word.{wordAt}
 use Rattle.octets.specs.Head.{headAt}
-use Rattle.octets.specs.Element.{headOctets, element}
+use Rattle.octets.specs.Spelt.{Spells}
 use Rattle.values.specs.Ident.{identTag, identMost, half, twos, bits, identHolds, shortest, identIn, identOf, identAt, identFewest, identWith, identOctets}
 use Rattle.octets.specs.declared.head.Head.{Head}
 use Rattle.octets.specs.declared.head.Head.the-variants as head
 use Rattle.values.specs.declared.ident.Ident.{Ident}
 use Rattle.values.specs.declared.ident.Ident.the-variants.{Is, Unreadable}
+use Rattle.octets.proofs.Within.{Within, within}
 use Rattle.octets.proofs.Words.{length-word, word-back}
-use Rattle.octets.proofs.Elements.{length-head, length-element, element-small, element-back, element-contents}
-use Rattle.values.proofs.Signs.{half-some, half-most, twos-range, twos-bits, bits-small}
+use Rattle.octets.proofs.Elements.{element-small}
+use Rattle.octets.proofs.Spellings.{spells-length, spells-back, spells-contents, element-spells}
+use Rattle.values.proofs.Signs.{half-some, half-most, half-rises, twos-range, twos-bits, bits-small}
 
 -- with at most one octet, half of them is at most 128
 half-one : (w : ℕ) → w ≤ 1 → half w ≤ 128
 unfolding half
-half-one w h = let p : 256 ^ w ≤ 256 ^ 1 = pow-le-pow-right (omega arith) h in omega arith
+half-one w h = half-rises w 1 h
 
 -- the fewest octets: they can say the number, none fewer can, and there are one or two
 module _ (z : ℤ) (range : mag z < 32768) where
@@ -72,21 +73,29 @@ ident-in-back w z s at next most h less st =
 pub length-ident : (w : ℕ) (z : ℤ) → length (identWith w z) ≡ w
 length-ident w z = length-word w (bits w z)
 
--- the element that is written for an identifier reads back as it
+-- whatever spells an identifier in its fewest octets reads back as it
+pub ident-spells-back :
+    (depth : ℕ) (z : ℤ) {ws : List ℕ} (s : List ℕ) (at end : ℕ) (sp : Spells identTag (identWith (identFewest z) z) ws) →
+    (depth ≡ 0 → ⊥) → mag z < 32768 → Stands s at ws → at + length ws ≤ end → end ≤ length s →
+    identAt depth s at end ≡ Is z (at + length ws)
+unfolding identAt
+ident-spells-back depth z {ws} s at end sp deep range st fit in-s =
+    let w : ℕ = identFewest z in
+    let start : ℕ = at + suc (suc (sp .k)) in
+    let count : at + length ws - start ≡ w = omega (arith, spells-length sp, length-ident w z) in
+    rw (spells-back depth s at end sp deep (λ e. omega arith) st fit in-s, count)
+    (ident-in-back w z s start (at + length ws) (fewest-two z range) (fewest-magnitude z range) (fewest-none z range)
+    (spells-contents s at sp st))
+
+-- the element that is written for an identifier does
 pub ident-back :
     (depth : ℕ) (z : ℤ) (s : List ℕ) (at end : ℕ) → (depth ≡ 0 → ⊥) → mag z < 32768 →
     Stands s at (identOctets z) → at + length (identOctets z) ≤ end → end ≤ length s →
     identAt depth s at end ≡ Is z (at + length (identOctets z))
-unfolding identAt
-ident-back depth z s at end deep range st fit in-s =
+ident-back depth z s at end deep range =
     let w : ℕ = identFewest z in
-    let ws : List ℕ = identWith w z in
-    let start : ℕ = at + length (headOctets identTag (length ws)) in
-    let count : at + length (element identTag ws) - start ≡ w =
-    omega (arith, length-element identTag ws, length-head identTag (length ws), length-ident w z) in
-    rw (element-back depth identTag ws s at end deep (λ e. omega arith) (omega (arith, length-ident w z, fewest-two z range)) st fit in-s, count)
-    (ident-in-back w z s start (at + length (element identTag ws)) (fewest-two z range) (fewest-magnitude z range)
-    (fewest-none z range) (element-contents identTag ws s at st))
+    let few : length (identWith w z) < 65536 = omega (arith, length-ident w z, fewest-two z range) in
+    ident-spells-back depth z s at end (element-spells identTag (identWith w z) few) deep range
 
 -- no octets say nothing, so the search begins at one
 pub fewest-begins : (z : ℤ) → identFewest z ≡ fewestFrom (identHolds z) 1 1
@@ -193,3 +202,27 @@ head-range s head.Bad = tt
 pub ident-range : (depth : ℕ) (s : List ℕ) (at end : ℕ) → Ranges (identAt depth s at end)
 unfolding identAt
 ident-range depth s at end = head-range s (headAt depth s at end)
+
+-- ---- where one ends that is read
+
+abbrev EndsIn : ℕ → ℕ → ℕ → Ident → Type 0
+EndsIn size at end (Is z next) = (at < next) × (next ≤ end) × (end ≤ size)
+EndsIn size at end Unreadable = Unit {0}
+
+head-ends :
+    (depth : ℕ) (s : List ℕ) (at end : ℕ) (h : Head) → Within depth (length s) at end h →
+    EndsIn (length s) at end (identOf s h)
+unfolding identIn
+head-ends depth s at end (head.Is tag start stop next) w =
+    let P : Ident → Type 0 = EndsIn (length s) at end in
+    let n : ℕ = stop - start in
+    pick-ind P (eqb tag identTag)
+    (λ _. pick-ind P (shortest n (twos n (wordAt n s start))) (λ _. omega (arith, w)) (λ _. tt)) (λ _. tt)
+head-ends depth s at end head.Bad w = tt
+
+-- one that was found takes at least one octet, all of them before `end`
+pub ident-within :
+    (depth : ℕ) (s : List ℕ) (at end : ℕ) {z : ℤ} {next : ℕ} → identAt depth s at end ≡ Is z next →
+    (at < next) × (next ≤ end) × (end ≤ length s)
+unfolding identAt
+ident-within depth s at end e = rw e at (head-ends depth s at end (headAt depth s at end) (within depth s at end))
