@@ -89,6 +89,14 @@ static int bench_original(const char *what, const struct occasion *o, long turns
 #define SHEET_EMPTY 3
 #define SHEET_FULL 291
 
+/* The dearest arrival's table, whose sheet is then the longest. */
+static int longest_sheet(struct occasion *o)
+{
+    int there = scale_named("arrive-dearest", o);
+    o->table.last = 32767;
+    return there;
+}
+
 static int bench_write_sheet(const char *what, const struct occasion *o, size_t count, long turns)
 {
     uint8_t out[SCONCETOAD_SHEET];
@@ -127,6 +135,12 @@ int bench(const char *what, long turns)
         return bench_write_sheet(what, &occasion, SHEET_FULL, turns);
     if (strcmp(what, "sheet-read-full") == 0 && occasion_named("arrive-activation-full", &occasion))
         return bench_read_sheet(what, &occasion, turns);
+    if (strcmp(what, "sheet-write-longest") == 0 && longest_sheet(&occasion))
+        return bench_write_sheet(what, &occasion, SCONCETOAD_SHEET, turns);
+    if (strcmp(what, "sheet-read-longest") == 0 && longest_sheet(&occasion))
+        return bench_read_sheet(what, &occasion, turns);
+    if (strcmp(what, "sheet-list-longest") == 0 && longest_sheet(&occasion))
+        return bench_list_sheet(what, &occasion, turns);
     if (strcmp(what, "sheet-list-full") == 0 && occasion_named("arrive-activation-full", &occasion))
         return bench_list_sheet(what, &occasion, turns);
     if (strcmp(what, "divert-empty") == 0 && occasion_named("arrive-activation-empty", &occasion))
@@ -139,7 +153,7 @@ int bench(const char *what, long turns)
         return bench_list(what, turns);
     if (strcmp(what, "read-activation") == 0)
         return bench_request(turns);
-    if (occasion_named(what, &occasion))
+    if (occasion_named(what, &occasion) || scale_named(what, &occasion))
         return bench_arrival(what, &occasion, turns);
     if (strncmp(what, "send-", 5) == 0 || strncmp(what, "taken-", 6) == 0 || strncmp(what, "shown-", 6) == 0)
         return bench_desk(what, turns) ? unlike(what, 0) : 0;

@@ -14,6 +14,17 @@
 static struct lent access_record, component, call, sheet, output, digits;
 static struct sconcetoad_table table;
 
+/* Octets, or a profile by the name of its file. */
+static int set_access(const char *text)
+{
+    if (text[0] != '@')
+        return set_octets(&access_record, text, ACCESS_MOST, "an access record has 0 to 512 octets, in upper-case hexadecimal");
+    if (profile_file(text + 1, lent_octets(&access_record)))
+        return wrong("this file holds no profile");
+    access_record.size = PROFILE_OCTETS;
+    return 0;
+}
+
 static int set_table(const char *text)
 {
     static uint8_t octets[TABLE_MOST];
@@ -188,7 +199,7 @@ static int obey(char *line)
     if (strcmp(line, "start") == 0 && *rest == '\0')
         return start();
     if (strcmp(line, "access") == 0)
-        return set_octets(&access_record, rest, ACCESS_MOST, "an access record has 0 to 512 octets, in upper-case hexadecimal");
+        return set_access(rest);
     if (strcmp(line, "table") == 0)
         return set_table(rest);
     if (strcmp(line, "end") == 0)

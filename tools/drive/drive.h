@@ -102,6 +102,30 @@ void end_line(char *line, char *at);
 /* Hands over one line of the standard input after the other, until one answers other than 0. */
 int each_line(int (*obey)(char *line));
 
+/* ---- profile_text.c, profile.c: an access record as people write it (docs/RECORDS.md, "A profile as a text") */
+
+#define PROFILE_OCTETS SCONCETOAD_ACCESS
+#define PROFILE_TEXT 16000
+#define PROFILE_LINE 200
+
+/* What a text that is no profile has wrong: in which line, 0 where it is in none, and what. */
+struct profile_fault {
+    long line;
+    char what[PROFILE_LINE + 100];
+};
+
+/* Makes an access record of a text; answers whether there is one, and the library takes it. */
+int profile_from(const char *text, uint8_t *access, struct profile_fault *fault);
+
+/* Writes the text of an access record that the library takes, in at most PROFILE_TEXT characters. */
+void profile_to(char *text, const uint8_t *access);
+
+/* Whether the library refuses the access record. */
+int profile_refused(const uint8_t *access, size_t size);
+
+/* Makes an access record of the text in a file; says what is wrong, and answers 1, where there is none. */
+int profile_file(const char *name, uint8_t *access);
+
 /* ---- sheets.c: night sheets there and back */
 
 /* Whether the table, written as a sheet and read again, is written as the same sheet and has the same last handled identifier, with every
@@ -133,6 +157,11 @@ void wide_access(uint8_t *access);
 int occasion_numbered(size_t n, struct occasion *occasion);
 int occasion_named(const char *name, struct occasion *occasion);
 
+/* ---- scale.c: arrivals that grow */
+
+/* `scale-instances-N`, `scale-octets-N` or `scale-prefixes-N`, and `arrive-dearest`; answers whether there is such an occasion. */
+int scale_named(const char *name, struct occasion *occasion);
+
 /* ---- desk.c: the customer end's lines of a dialogue */
 
 /* The end there is becomes a fresh one, or that of a line. */
@@ -145,6 +174,7 @@ int desk_obeys(const char *word, const char *rest, struct lent *access_record, s
 /* ---- what the driver does */
 
 int dialogue(void);
+int profile(int back);
 int cases(void);
 int limits(void);
 int bench(const char *what, long turns);

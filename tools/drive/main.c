@@ -1,5 +1,6 @@
 /* Drives the library from C.
      drive dialogue       answers the lines of a dialogue on its standard input (docs/DIALOGUES.md)
+     drive profile        makes the octets of an access record of the text on its standard input (docs/RECORDS.md); with `back`, the text of octets
      drive cases          answers the cases on its standard input, of the kinds that C has a function for (docs/ARCHITECTURE.md, "Cases")
      drive limits         tells what comes of sizes about those that the header names
      drive bench WHAT N   does one thing N times, for tools/count-instructions
@@ -26,6 +27,10 @@ int main(int count, char **words)
         setvbuf(stdout, NULL, _IOLBF, BUFSIZ);
         return dialogue();
     }
+    if (count == 2 && is(words[1], "profile"))
+        return profile(0);
+    if (count == 3 && is(words[1], "profile") && is(words[2], "back"))
+        return profile(1);
     if (count == 2 && is(words[1], "cases"))
         return cases();
     if (count == 2 && is(words[1], "limits"))
@@ -34,6 +39,6 @@ int main(int count, char **words)
         return bench(words[2], atol(words[3]));
     if (count == 2 && is(words[1], "stack"))
         return stack();
-    fprintf(stderr, "usage: drive dialogue|cases [canaries] | drive limits | drive bench WHAT N | drive stack\n");
+    fprintf(stderr, "usage: drive dialogue|cases [canaries] | drive profile [back] | drive limits | drive bench WHAT N | drive stack\n");
     return 2;
 }
