@@ -1,5 +1,12 @@
-/* The border to C of the proved library. Pointers must be valid for the length that goes with them, also where it is 0, and what they
-   lend must not overlap; nothing is kept after a call. docs/RECORDS.md has every record octet by octet. */
+/* The border to C of the proved library, for x86-64. `./sconcetoad library` builds it as lib/libsconcetoad.a, and nothing deletes that:
+       gcc -c -I include program.c
+       gcc -o program program.o lib/libsconcetoad.a
+   A pointer must be valid for the length that goes with it, and what is lent must not overlap; where the length is 0 the pointer is not
+   followed, and NULL will do. Nothing is kept after a call, nothing is allocated, and no call takes more than SCONCETOAD_STACK octets of
+   stack. docs/RECORDS.md has every record octet by octet.
+
+   A function that can refuse tells the refusal's number first: 0 where nothing is refused, and else the lowest that applies. A refusal writes
+   no octet of the output; what stands beside a refusal is said at each function. */
 #ifndef SCONCETOAD_H
 #define SCONCETOAD_H
 
@@ -10,7 +17,76 @@
 extern "C" {
 #endif
 
-/* A number: form 0 unknown, 1 public, 2 another kind; a public number's type; and `count` digits as characters. */
+/* The most octets of stack that a call takes, what it is handed over by value not counted. */
+#define SCONCETOAD_STACK 10000
+
+/* ---- document 01's numbers */
+
+/* Procedures. */
+enum {
+    SCONCETOAD_CFU = 0,
+    SCONCETOAD_CFB = 1,
+    SCONCETOAD_CFNR = 2
+};
+
+/* Operations. */
+enum {
+    SCONCETOAD_ACTIVATION = 7,
+    SCONCETOAD_DEACTIVATION = 8,
+    SCONCETOAD_INTERROGATION = 11
+};
+
+/* The service that stands for all, and the first of the sixteen. */
+enum {
+    SCONCETOAD_ALL_SERVICES = 0,
+    SCONCETOAD_SPEECH = 1
+};
+
+/* Forms of a number; in a request alone it may be another kind. */
+enum {
+    SCONCETOAD_UNKNOWN = 0,
+    SCONCETOAD_PUBLIC = 1,
+    SCONCETOAD_OTHER_KIND = 2
+};
+
+/* What a call met. */
+enum {
+    SCONCETOAD_OFFERED = 0,
+    SCONCETOAD_BUSY = 1,
+    SCONCETOAD_NO_REPLY = 2
+};
+
+/* Why a call is diverted. */
+enum {
+    SCONCETOAD_NOT_DIVERTED = 0,
+    SCONCETOAD_REASON_CFU = 1,
+    SCONCETOAD_REASON_CFB = 2,
+    SCONCETOAD_REASON_CFNR = 3
+};
+
+/* What the caller is told: nothing, that the call is diverting, or to which number too. */
+enum {
+    SCONCETOAD_NOTICE_NONE = 0,
+    SCONCETOAD_NOTICE_DIVERTING = 1,
+    SCONCETOAD_NOTICE_NUMBER = 2
+};
+
+/* The errors that the exchange answers. */
+enum {
+    SCONCETOAD_ERROR_NOT_SUBSCRIBED = 0,
+    SCONCETOAD_ERROR_NOT_IN_USE = 3,
+    SCONCETOAD_ERROR_SERVED_NUMBER = 6,
+    SCONCETOAD_ERROR_SERVICE = 8,
+    SCONCETOAD_ERROR_RESOURCE = 11,       /* a user-specified subaddress, or more than 8 instances of the procedure */
+    SCONCETOAD_ERROR_NUMBER = 12,         /* a number of another kind, or international with more than 15 digits */
+    SCONCETOAD_ERROR_SPECIAL_NUMBER = 14,
+    SCONCETOAD_ERROR_OWN_NUMBER = 15,
+    SCONCETOAD_ERROR_NOT_ACTIVE = 46
+};
+
+/* ---- numbers and requests */
+
+/* A number: its form; a public number's type; and `count` digits as characters. */
 struct sconcetoad_number {
     uint8_t form;
     uint8_t kind;
@@ -74,19 +150,67 @@ struct sconcetoad_entries {
 /* What stands for a count where there is none: no list has so many entries, and no procedure so many instances. */
 #define SCONCETOAD_NO_COUNT 255
 
-/* What a reply lists. Look at `lists` first: it is 1 where the reply is a list, and then `list` holds its entries; else `list` must not be used, and
-   its count is SCONCETOAD_NO_COUNT. */
-struct sconcetoad_told {
-    uint8_t lists;
+/* Kinds of a reply to the end. */
+enum {
+    SCONCETOAD_REPLY_DROPPED = 0,  /* no reply to that request: it changes nothing */
+    SCONCETOAD_REPLY_WRONG = 1,    /* a reply of the wrong shape */
+    SCONCETOAD_REPLY_REJECTED = 2,
+    SCONCETOAD_REPLY_FAILED = 3,   /* an error */
+    SCONCETOAD_REPLY_DONE = 4,     /* the result of an activation or a deactivation */
+    SCONCETOAD_REPLY_LISTED = 5    /* the result of an interrogation */
+};
+
+/* What a reply says. Look at `kind` first: `value` is the error's where it is SCONCETOAD_REPLY_FAILED, else 0; `list` holds the entries where
+   it is SCONCETOAD_REPLY_LISTED, and else must not be used: its count is SCONCETOAD_NO_COUNT. */
+struct sconcetoad_replied {
+    uint8_t kind;
+    int16_t value;
     struct sconcetoad_entries list;
 };
 
-/* What a component lists to the end whose interrogation has this identifier. Reads any octets; alters nothing. */
-struct sconcetoad_told sconcetoad_list(const uint8_t *component, size_t length, int16_t identifier);
+/* What a component says to the end whose request has this identifier and operation. Reads any octets; refuses and alters nothing. */
+struct sconcetoad_replied sconcetoad_reply(const uint8_t *component, size_t length, int16_t identifier, uint8_t operation);
 
-/* Writes the result of an interrogation at the start of `out` and answers how many octets it takes, at most 707; where there is
-   no room it writes nothing and answers 0. Octets after the result are not altered. */
-size_t sconcetoad_put_list(uint8_t *out, size_t length, int16_t identifier, struct sconcetoad_entries list);
+/* How many octets were written, 0 for a refusal. */
+struct sconcetoad_octets {
+    uint8_t refusal;
+    size_t count;
+};
+
+/* Writes the component of a request at the start of `out`, at most 95 octets. Its refusals are SCONCETOAD_SHORT_OUTPUT and
+   SCONCETOAD_BAD_REQUEST. Octets after the component are not altered. */
+struct sconcetoad_octets sconcetoad_put_request(uint8_t *out, size_t length, int16_t identifier, uint8_t operation,
+                                                struct sconcetoad_request request);
+
+/* Writes the result of an interrogation at the start of `out`, at most SCONCETOAD_OUTPUT octets. Its refusals are SCONCETOAD_SHORT_OUTPUT and
+   SCONCETOAD_BAD_TABLE, where the list counts more than SCONCETOAD_ENTRIES. Octets after the result are not altered. */
+struct sconcetoad_octets sconcetoad_put_list(uint8_t *out, size_t length, int16_t identifier, struct sconcetoad_entries list);
+
+/* ---- the profile of an access and the exchange's table */
+
+/* The digits of a special prefix. */
+struct sconcetoad_prefix {
+    uint8_t count;
+    uint8_t digits[20];
+};
+
+/* The access record: lend it as octets. Flags are 0 or 1; those past a count carry no meaning. */
+struct sconcetoad_access {
+    uint8_t numbercount;
+    struct sconcetoad_number numbers[4];
+    uint8_t servicecount;
+    uint8_t services[6];
+    uint8_t subscribed[3];
+    uint8_t msn;
+    uint8_t all;
+    uint8_t inuse;
+    uint8_t counted;
+    uint8_t option;
+    uint8_t release;
+    uint8_t limit;
+    uint8_t prefixcount;
+    struct sconcetoad_prefix prefixes[16];
+};
 
 /* An instance: the procedure (cfu 0, cfb 1, cfnr 2), the served number by its place in the profile, the basic service's code, and the
    forwarded-to address. */
@@ -143,9 +267,25 @@ struct sconcetoad_arrival {
 struct sconcetoad_arrival sconcetoad_arrive(struct sconcetoad_table table, const uint8_t *access, size_t access_length,
                                             const uint8_t *component, size_t component_length, uint8_t *out, size_t out_length);
 
-/* The octets of a call record (docs/RECORDS.md), and the most digits of an original number. */
+/* ---- calls */
+
+/* The octets of a call record, and the most digits of an original number. */
 #define SCONCETOAD_CALL 28
 #define SCONCETOAD_DIGITS 20
+
+/* The call record: lend it as octets. The number is that of the profile by its place, `presentation` that of the original number (1 allowed),
+   and an original number of no digits is absent. */
+struct sconcetoad_call {
+    uint8_t number;
+    uint8_t service;
+    uint8_t event;
+    uint8_t counter;
+    uint8_t option;
+    uint8_t presentation;
+    uint8_t preference;
+    uint8_t count;
+    uint8_t digits[20];
+};
 
 /* The local refusals of a call are SCONCETOAD_BAD_PROFILE, SCONCETOAD_BAD_TABLE and these; the lowest that applies is told. */
 enum {
@@ -166,8 +306,7 @@ struct sconcetoad_onward {
     struct sconcetoad_number noticed;
 };
 
-/* `reason` is 1 cfu, 2 cfb or 3 cfnr where the call is diverted, else 0, and then `call` is all zeros; `notice` is what the caller is
-   told: 0 nothing, 1 that the call is diverting, 2 to which number too. */
+/* Where the call is not diverted or refused, `reason` is SCONCETOAD_NOT_DIVERTED, `notice` SCONCETOAD_NOTICE_NONE, and `call` all zeros. */
 struct sconcetoad_diversion {
     uint8_t refusal;
     uint8_t reason;
@@ -175,14 +314,25 @@ struct sconcetoad_diversion {
     struct sconcetoad_onward call;
 };
 
-/* What becomes of a call: diverted, not diverted or refused. Alters nothing. */
+/* What becomes of a call: diverted, not diverted or refused. Alters nothing; the table is a copy. */
 struct sconcetoad_diversion sconcetoad_divert(struct sconcetoad_table table, const uint8_t *access, size_t access_length,
                                               const uint8_t *call, size_t call_length);
 
-/* Copies the digits of the original number that the same call hands on to the start of `out`, at most SCONCETOAD_DIGITS, and answers how
-   many; none where no call goes on. Where there is no room it writes nothing and answers 0. */
-size_t sconcetoad_original(struct sconcetoad_table table, const uint8_t *access, size_t access_length, const uint8_t *call,
-                           size_t call_length, uint8_t *out, size_t out_length);
+/* The refusal and the reason as sconcetoad_divert tells them; how many digits the original number has that the call hands on, 0 where none was
+   received or no call goes on; and how many were written, all of them or none. */
+struct sconcetoad_handed_on {
+    uint8_t refusal;
+    uint8_t reason;
+    size_t length;
+    size_t count;
+};
+
+/* Copies the digits of the original number that the same call hands on to the start of `out`, at most SCONCETOAD_DIGITS. Where there is no
+   room for all of them nothing is written, and `count` is less than `length`. Octets after the digits are not altered. */
+struct sconcetoad_handed_on sconcetoad_original(struct sconcetoad_table table, const uint8_t *access, size_t access_length,
+                                                const uint8_t *call, size_t call_length, uint8_t *out, size_t out_length);
+
+/* ---- night sheets */
 
 /* The longest night sheet and the longest listing of one: the least output for each. */
 #define SCONCETOAD_SHEET 1613
@@ -193,17 +343,11 @@ enum {
     SCONCETOAD_BAD_SHEET = 9 /* the octets are no night sheet; or, where one is read, hold what no table of the profile holds */
 };
 
-/* How many octets were written, 0 for a refusal. */
-struct sconcetoad_sheet_written {
-    uint8_t refusal;
-    size_t count;
-};
-
 /* Writes the table as a night sheet at the start of `out`. Its refusals are SCONCETOAD_SHORT_OUTPUT, where the output has fewer octets than
    SCONCETOAD_SHEET, SCONCETOAD_BAD_PROFILE and SCONCETOAD_BAD_TABLE; the lowest that applies is told, and then nothing is written. The
    access record and the octets of `out` after the sheet are not altered. */
-struct sconcetoad_sheet_written sconcetoad_write_sheet(struct sconcetoad_table table, const uint8_t *access, size_t access_length,
-                                                       uint8_t *out, size_t out_length);
+struct sconcetoad_octets sconcetoad_write_sheet(struct sconcetoad_table table, const uint8_t *access, size_t access_length,
+                                                uint8_t *out, size_t out_length);
 
 /* The table that was read. Look at `refusal` first: where the sheet is refused the table is that of a new access, and says nothing. */
 struct sconcetoad_sheet_taken {
@@ -219,7 +363,9 @@ struct sconcetoad_sheet_taken sconcetoad_read_sheet(const uint8_t *access, size_
 /* Writes the listing of a night sheet of any length at the start of `out`: characters, each line with its newline. Its refusals are
    SCONCETOAD_SHORT_OUTPUT, where the output has fewer octets than SCONCETOAD_LISTING, and SCONCETOAD_BAD_SHEET; the lowest that applies is
    told, and then nothing is written. The sheet and the octets of `out` after the listing are not altered. */
-struct sconcetoad_sheet_written sconcetoad_list_sheet(const uint8_t *sheet, size_t sheet_length, uint8_t *out, size_t out_length);
+struct sconcetoad_octets sconcetoad_list_sheet(const uint8_t *sheet, size_t sheet_length, uint8_t *out, size_t out_length);
+
+/* ---- the customer end */
 
 /* The customer end: the last used identifier, 0 to 32,767; whether the request with that identifier is `outstanding` (1), and then its
    operation (7, 8 or 11), its procedure's mark from before sending, and the request itself; a mark for each procedure, cfu, cfb, cfnr; and

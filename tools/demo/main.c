@@ -77,7 +77,7 @@ static void asked_again(void)
 static void listing(const struct octets *sheet)
 {
     uint8_t text[SCONCETOAD_LISTING];
-    struct sconcetoad_sheet_written listed = sconcetoad_list_sheet(sheet->at, sheet->count, text, sizeof text);
+    struct sconcetoad_octets listed = sconcetoad_list_sheet(sheet->at, sheet->count, text, sizeof text);
     must(listed.refusal == SCONCETOAD_ANSWERED, "the night sheet is not listed");
     const char *line = (const char *)text, *stop = line + listed.count;
     while (line < stop) {

@@ -153,7 +153,7 @@ struct sconcetoad_diversion exchange_diverts(const uint8_t *call)
 struct octets exchange_sheet(void)
 {
     struct octets sheet;
-    struct sconcetoad_sheet_written written =
+    struct sconcetoad_octets written =
         sconcetoad_write_sheet(table, access_record, sizeof access_record, sheet.at, sizeof sheet.at);
     must(written.refusal == SCONCETOAD_ANSWERED, "the table is not written as a night sheet");
     sheet.count = written.count;

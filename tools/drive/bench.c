@@ -34,14 +34,14 @@ static int bench_list(const char *what, long turns)
 {
     struct sconcetoad_entries list = eight();
     uint8_t out[SCONCETOAD_OUTPUT];
-    size_t length = sconcetoad_put_list(out, sizeof out, 1, list);
+    size_t length = sconcetoad_put_list(out, sizeof out, 1, list).count;
     if (length != 207)
         return unlike(what, length);
     for (long i = 0; i < turns; i++) {
         if (strcmp(what, "write-list") == 0)
-            seen = (uint8_t)sconcetoad_put_list(out, sizeof out, 1, list);
+            seen = (uint8_t)sconcetoad_put_list(out, sizeof out, 1, list).count;
         else
-            seen = sconcetoad_list(out, length, 1).list.entries[7].address.number.digits[4];
+            seen = sconcetoad_reply(out, length, 1, SCONCETOAD_INTERROGATION).list.entries[7].address.number.digits[4];
     }
     return 0;
 }
@@ -80,7 +80,7 @@ static int bench_original(const char *what, const struct occasion *o, long turns
 {
     uint8_t digits[SCONCETOAD_DIGITS];
     for (long i = 0; i < turns; i++)
-        if (sconcetoad_original(o->table, o->access, sizeof o->access, call, sizeof call, digits, sizeof digits) != 5)
+        if (sconcetoad_original(o->table, o->access, sizeof o->access, call, sizeof call, digits, sizeof digits).count != 5)
             return unlike(what, 0);
     return 0;
 }

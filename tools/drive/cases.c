@@ -3,7 +3,7 @@
 #include <string.h>
 #include "drive.h"
 
-/* The identifier of the interrogation that is outstanding where a list is read. */
+/* The identifier of the request that is outstanding where a reply is read. */
 #define OUTSTANDING 5
 
 /* The most octets of a component, and those of an entry's record. */
@@ -14,9 +14,9 @@ static struct lent component, output;
 
 static char *number_said(char *at, const struct sconcetoad_number *number)
 {
-    if (number->form == 2)
+    if (number->form == SCONCETOAD_OTHER_KIND)
         return at + sprintf(at, "other");
-    at += number->form == 0 ? sprintf(at, "u ") : sprintf(at, "p%d ", number->kind);
+    at += number->form == SCONCETOAD_UNKNOWN ? sprintf(at, "u ") : sprintf(at, "p%d ", number->kind);
     return at + sprintf(at, "%.*s", number->count, (const char *)number->digits);
 }
 
@@ -39,9 +39,9 @@ static char *served_said(char *at, const struct sconcetoad_served *served)
 static const char *operation_said(int operation)
 {
     switch (operation) {
-    case 7: return "activation";
-    case 8: return "deactivation";
-    case 11: return "interrogation";
+    case SCONCETOAD_ACTIVATION: return "activation";
+    case SCONCETOAD_DEACTIVATION: return "deactivation";
+    case SCONCETOAD_INTERROGATION: return "interrogation";
     default: return "?";
     }
 }
@@ -50,9 +50,25 @@ static char *request_said(char *at, const struct sconcetoad_said *said)
 {
     const struct sconcetoad_request *request = &said->request;
     at += sprintf(at, "asks %d %s %d %d", said->identifier, operation_said(said->operation), request->procedure, request->service);
-    if (said->operation == 7)
+    if (said->operation == SCONCETOAD_ACTIVATION)
         at = forwarded_said(at + sprintf(at, " to "), &request->to);
     return served_said(at + sprintf(at, " served "), &request->served);
+}
+
+/* The octets of the same request as the end would send it, if it may; nothing where it may not. */
+static char *again_said(char *at, const struct sconcetoad_said *said)
+{
+    output.size = SCONCETOAD_OUTPUT;
+    lend_filled(&output);
+    struct sconcetoad_octets put =
+        sconcetoad_put_request(lent_octets(&output), output.size, said->identifier, (uint8_t)said->operation, said->request);
+    if (!came_back(&output, written_of(put.refusal, put.count)))
+        return at + sprintf(at, " spilled");
+    if (put.refusal == SCONCETOAD_BAD_REQUEST && put.count == 0)
+        return at;
+    if (put.refusal != SCONCETOAD_ANSWERED || put.count == 0)
+        return at + sprintf(at, " %s", refusal_said(put.refusal));
+    return spaced_to(at + sprintf(at, " again"), lent_octets(&output), put.count);
 }
 
 static int read_request(void)
@@ -62,7 +78,7 @@ static int read_request(void)
     struct sconcetoad_said said = sconcetoad_said(lent_octets(&component), component.size);
     if (!came_back(&component, 0))
         return wrong("an octet changed that should not");
-    end_line(line, said.asks == 1 ? request_said(line, &said) : line + sprintf(line, "no request"));
+    end_line(line, said.asks == 1 ? again_said(request_said(line, &said), &said) : line + sprintf(line, "no request"));
     return 0;
 }
 
@@ -75,16 +91,32 @@ static char *entries_said(char *at, const struct sconcetoad_entries *list)
     return at;
 }
 
-static int read_list(void)
+/* No switch: two kinds that the header calls by one number would not be built. */
+static char *reply_said(char *at, const struct sconcetoad_replied *replied)
+{
+    uint8_t kind = replied->kind;
+    if (kind == SCONCETOAD_REPLY_LISTED)
+        return entries_said(at, &replied->list);
+    if (kind == SCONCETOAD_REPLY_FAILED)
+        return at + sprintf(at, "failed %d", replied->value);
+    return at + sprintf(at, "%s",
+                        kind == SCONCETOAD_REPLY_DROPPED    ? "dropped"
+                        : kind == SCONCETOAD_REPLY_WRONG    ? "wrong"
+                        : kind == SCONCETOAD_REPLY_REJECTED ? "rejected"
+                        : kind == SCONCETOAD_REPLY_DONE     ? "done"
+                                                            : "?");
+}
+
+static int read_reply(uint8_t operation)
 {
     static char line[LINE_MOST];
     lend(&component);
-    struct sconcetoad_told told = sconcetoad_list(lent_octets(&component), component.size, OUTSTANDING);
+    struct sconcetoad_replied replied = sconcetoad_reply(lent_octets(&component), component.size, OUTSTANDING, operation);
     if (!came_back(&component, 0))
         return wrong("an octet changed that should not");
-    if (told.lists != 1 && told.list.count != SCONCETOAD_NO_COUNT)
+    if (replied.kind != SCONCETOAD_REPLY_LISTED && replied.list.count != SCONCETOAD_NO_COUNT)
         return wrong("an empty list stands where there is none");
-    end_line(line, told.lists == 1 ? entries_said(line, &told.list) : line + sprintf(line, "no list"));
+    end_line(line, reply_said(line, &replied));
     return 0;
 }
 
@@ -93,8 +125,8 @@ static char mark(size_t room, int16_t identifier, const struct sconcetoad_entrie
 {
     output.size = room;
     lend_filled(&output);
-    size_t count = sconcetoad_put_list(lent_octets(&output), output.size, identifier, *list);
-    return came_back(&output, 0) && count == 0 ? '.' : '!';
+    struct sconcetoad_octets put = sconcetoad_put_list(lent_octets(&output), output.size, identifier, *list);
+    return came_back(&output, 0) && put.refusal == SCONCETOAD_SHORT_OUTPUT && put.count == 0 ? '.' : '!';
 }
 
 static int put_list(int16_t identifier, const struct sconcetoad_entries *list)
@@ -102,8 +134,9 @@ static int put_list(int16_t identifier, const struct sconcetoad_entries *list)
     static char line[LINE_MOST];
     output.size = SCONCETOAD_OUTPUT;
     lend_filled(&output);
-    size_t count = sconcetoad_put_list(lent_octets(&output), output.size, identifier, *list);
-    if (count == 0 || count > output.size || !came_back(&output, count))
+    struct sconcetoad_octets put = sconcetoad_put_list(lent_octets(&output), output.size, identifier, *list);
+    size_t count = put.count;
+    if (put.refusal != SCONCETOAD_ANSWERED || count == 0 || count > output.size || !came_back(&output, count))
         return wrong("an octet changed that should not");
     char *at = spaced_to(line, lent_octets(&output), count);
     at += sprintf(at, " room ");
@@ -146,7 +179,11 @@ static int obey(char *line)
     if (strcmp(line, "component") == 0)
         return read_request() || say_canaries();
     if (strcmp(line, "list-read") == 0)
-        return read_list() || say_canaries();
+        return read_reply(SCONCETOAD_INTERROGATION) || say_canaries();
+    if (strcmp(line, "reply-7") == 0)
+        return read_reply(SCONCETOAD_ACTIVATION) || say_canaries();
+    if (strcmp(line, "reply-8") == 0)
+        return read_reply(SCONCETOAD_DEACTIVATION) || say_canaries();
     if (strcmp(line, "list-write") == 0)
         return write_list() || say_canaries();
     return wrong("this is no case that C has a function for");

@@ -116,10 +116,13 @@ static int divert(const char *text)
     lend_filled(&digits);
     struct sconcetoad_diversion diversion =
         sconcetoad_divert(table, lent_octets(&access_record), access_record.size, lent_octets(&call), call.size);
-    size_t count = sconcetoad_original(table, lent_octets(&access_record), access_record.size, lent_octets(&call), call.size,
-                                       lent_octets(&digits), digits.size);
+    struct sconcetoad_handed_on original = sconcetoad_original(table, lent_octets(&access_record), access_record.size, lent_octets(&call),
+                                                               call.size, lent_octets(&digits), digits.size);
+    size_t count = original.count;
     if (count > digits.size || !came_back(&access_record, 0) || !came_back(&call, 0) || !came_back(&digits, count))
         return wrong("an octet changed that should not");
+    if (original.length != count || original.refusal != diversion.refusal || original.reason != diversion.reason)
+        return wrong("another thing is told of the original number than of the call");
     say_diversion(&diversion, count);
     return 0;
 }
@@ -130,7 +133,7 @@ static int write_sheet(void)
     char *at = line;
     lend(&access_record);
     lend_filled(&output);
-    struct sconcetoad_sheet_written written =
+    struct sconcetoad_octets written =
         sconcetoad_write_sheet(table, lent_octets(&access_record), access_record.size, lent_octets(&output), output.size);
     if (written.count > output.size)
         return wrong("the sheet is longer than the output");
@@ -170,7 +173,7 @@ static int list_sheet(const char *text)
         return 1;
     lend(&sheet);
     lend_filled(&output);
-    struct sconcetoad_sheet_written listed =
+    struct sconcetoad_octets listed =
         sconcetoad_list_sheet(lent_octets(&sheet), sheet.size, lent_octets(&output), output.size);
     size_t count = written_of(listed.refusal, listed.count);
     if (count > output.size || !came_back(&sheet, 0) || !came_back(&output, count))

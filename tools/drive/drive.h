@@ -171,6 +171,10 @@ int set_end(const char *text);
 /* Answers whether the word begins a line on which the end does something, and then obeys it: `failed` becomes what each_line wants. */
 int desk_obeys(const char *word, const char *rest, struct lent *access_record, struct lent *component, struct lent *output, int *failed);
 
+/* ---- lent_records.c: the access record and the call record by the header's fields */
+
+void say_lent_records(void);
+
 /* ---- what the driver does */
 
 int dialogue(void);

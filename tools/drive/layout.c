@@ -7,6 +7,41 @@
     static_assert(offsetof(struct sconcetoad_##record, field) == (at) && sizeof(((struct sconcetoad_##record *)0)->field) == (size), \
                   #record "." #field)
 
+/* A name for one of document 01's numbers, or for a bound. */
+#define NAMED(name, number) static_assert(SCONCETOAD_##name == (number), #name)
+
+NAMED(STACK, 10000);
+NAMED(CFU, 0);
+NAMED(CFB, 1);
+NAMED(CFNR, 2);
+NAMED(ACTIVATION, 7);
+NAMED(DEACTIVATION, 8);
+NAMED(INTERROGATION, 11);
+NAMED(ALL_SERVICES, 0);
+NAMED(SPEECH, 1);
+NAMED(UNKNOWN, 0);
+NAMED(PUBLIC, 1);
+NAMED(OTHER_KIND, 2);
+NAMED(OFFERED, 0);
+NAMED(BUSY, 1);
+NAMED(NO_REPLY, 2);
+NAMED(NOT_DIVERTED, 0);
+NAMED(REASON_CFU, 1);
+NAMED(REASON_CFB, 2);
+NAMED(REASON_CFNR, 3);
+NAMED(NOTICE_NONE, 0);
+NAMED(NOTICE_DIVERTING, 1);
+NAMED(NOTICE_NUMBER, 2);
+NAMED(ERROR_NOT_SUBSCRIBED, 0);
+NAMED(ERROR_NOT_IN_USE, 3);
+NAMED(ERROR_SERVED_NUMBER, 6);
+NAMED(ERROR_SERVICE, 8);
+NAMED(ERROR_RESOURCE, 11);
+NAMED(ERROR_NUMBER, 12);
+NAMED(ERROR_SPECIAL_NUMBER, 14);
+NAMED(ERROR_OWN_NUMBER, 15);
+NAMED(ERROR_NOT_ACTIVE, 46);
+
 RECORD(number, 23);
 FIELD(number, form, 0, 1);
 FIELD(number, kind, 1, 1);
@@ -48,9 +83,41 @@ RECORD(entries, 553);
 FIELD(entries, count, 0, 1);
 FIELD(entries, entries, 1, 8 * 69);
 
-RECORD(told, 554);
-FIELD(told, lists, 0, 1);
-FIELD(told, list, 1, 553);
+RECORD(replied, 558);
+FIELD(replied, kind, 0, 1);
+FIELD(replied, value, 2, 2);
+FIELD(replied, list, 4, 553);
+
+RECORD(prefix, 21);
+FIELD(prefix, count, 0, 1);
+FIELD(prefix, digits, 1, 20);
+
+RECORD(access, SCONCETOAD_ACCESS);
+FIELD(access, numbercount, 0, 1);
+FIELD(access, numbers, 1, 4 * 23);
+FIELD(access, servicecount, 93, 1);
+FIELD(access, services, 94, 6);
+FIELD(access, subscribed, 100, 3);
+FIELD(access, msn, 103, 1);
+FIELD(access, all, 104, 1);
+FIELD(access, inuse, 105, 1);
+FIELD(access, counted, 106, 1);
+FIELD(access, option, 107, 1);
+FIELD(access, release, 108, 1);
+FIELD(access, limit, 109, 1);
+FIELD(access, prefixcount, 110, 1);
+FIELD(access, prefixes, 111, 16 * 21);
+
+RECORD(call, SCONCETOAD_CALL);
+FIELD(call, number, 0, 1);
+FIELD(call, service, 1, 1);
+FIELD(call, event, 2, 1);
+FIELD(call, counter, 3, 1);
+FIELD(call, option, 4, 1);
+FIELD(call, presentation, 5, 1);
+FIELD(call, preference, 6, 1);
+FIELD(call, count, 7, 1);
+FIELD(call, digits, 8, 20);
 
 RECORD(instance, 47);
 FIELD(instance, procedure, 0, 1);
@@ -116,9 +183,15 @@ FIELD(diversion, reason, 1, 1);
 FIELD(diversion, notice, 2, 1);
 FIELD(diversion, call, 3, 95);
 
-RECORD(sheet_written, 16);
-FIELD(sheet_written, refusal, 0, 1);
-FIELD(sheet_written, count, 8, 8);
+RECORD(octets, 16);
+FIELD(octets, refusal, 0, 1);
+FIELD(octets, count, 8, 8);
+
+RECORD(handed_on, 24);
+FIELD(handed_on, refusal, 0, 1);
+FIELD(handed_on, reason, 1, 1);
+FIELD(handed_on, length, 8, 8);
+FIELD(handed_on, count, 16, 8);
 
 RECORD(sheet_taken, 1134);
 FIELD(sheet_taken, refusal, 0, 1);

@@ -136,9 +136,10 @@ static void original_at_output(size_t size)
     give_call(SCONCETOAD_CALL);
     output.size = size;
     lend_all();
-    size_t count = sconcetoad_original(table, lent_octets(&access_record), access_record.size, lent_octets(&given), given.size,
-                                       lent_octets(&output), output.size);
-    say_written(SCONCETOAD_ANSWERED, count);
+    struct sconcetoad_handed_on original = sconcetoad_original(table, lent_octets(&access_record), access_record.size, lent_octets(&given),
+                                                               given.size, lent_octets(&output), output.size);
+    printf(" reason %d, of %zu", original.reason, original.length);
+    say_written(original.refusal, original.count);
 }
 
 static struct sconcetoad_entries longest_list(void)
@@ -158,14 +159,41 @@ static void list_at_output(size_t size)
 {
     output.size = size;
     lend_all();
-    say_written(SCONCETOAD_ANSWERED, sconcetoad_put_list(lent_octets(&output), output.size, 32767, longest_list()));
+    struct sconcetoad_octets put = sconcetoad_put_list(lent_octets(&output), output.size, 32767, longest_list());
+    say_written(put.refusal, put.count);
+}
+
+/* The longest request: an activation with a two-octet identifier, which has 95 octets. */
+static void request_at_output(size_t size)
+{
+    struct sconcetoad_request request;
+    memset(&request, 0, sizeof request);
+    request.procedure = SCONCETOAD_CFNR;
+    request.service = FIRST_SERVICE;
+    request.served.number = longest_number();
+    request.to.address = longest_address();
+    output.size = size;
+    lend_all();
+    struct sconcetoad_octets put =
+        sconcetoad_put_request(lent_octets(&output), output.size, 32767, SCONCETOAD_ACTIVATION, request);
+    say_written(put.refusal, put.count);
+}
+
+/* A list that counts as many entries. */
+static void list_of_entries(size_t count)
+{
+    struct sconcetoad_entries list = longest_list();
+    list.count = (uint8_t)count;
+    lend_all();
+    struct sconcetoad_octets put = sconcetoad_put_list(lent_octets(&output), output.size, 32767, list);
+    say_written(put.refusal, put.count);
 }
 
 static void sheet_at_output(size_t size)
 {
     output.size = size;
     lend_all();
-    struct sconcetoad_sheet_written written =
+    struct sconcetoad_octets written =
         sconcetoad_write_sheet(table, lent_octets(&access_record), access_record.size, lent_octets(&output), output.size);
     say_written(written.refusal, written.count);
 }
@@ -181,7 +209,7 @@ static void listing_at_output(size_t size)
     give_sheet();
     output.size = size;
     lend_all();
-    struct sconcetoad_sheet_written listed =
+    struct sconcetoad_octets listed =
         sconcetoad_list_sheet(lent_octets(&given), given.size, lent_octets(&output), output.size);
     say_written(listed.refusal, listed.count);
 }
@@ -196,7 +224,9 @@ static const struct {
     {"access record", SCONCETOAD_ACCESS, arrive_at_access},
     {"call record", SCONCETOAD_CALL, divert_as_long},
     {"digits", SCONCETOAD_DIGITS, original_at_output},
+    {"request", SCONCETOAD_OUTPUT, request_at_output},
     {"list", SCONCETOAD_OUTPUT, list_at_output},
+    {"list's count", SCONCETOAD_ENTRIES, list_of_entries},
     {"sheet", SCONCETOAD_SHEET, sheet_at_output},
     {"listing", SCONCETOAD_LISTING, listing_at_output},
 };
@@ -205,9 +235,9 @@ static const struct {
 static void say_records(void)
 {
     allow();
-    size_t count = sconcetoad_put_list(lent_octets(&output), output.size, 1, longest_list());
-    struct sconcetoad_told told = sconcetoad_list(lent_octets(&output), count, 1);
-    printf("entries: %d, and %d are listed\n", SCONCETOAD_ENTRIES, told.lists == 1 ? told.list.count : 0);
+    size_t count = sconcetoad_put_list(lent_octets(&output), output.size, 1, longest_list()).count;
+    struct sconcetoad_replied replied = sconcetoad_reply(lent_octets(&output), count, 1, SCONCETOAD_INTERROGATION);
+    printf("entries: %d, and %d are listed\n", SCONCETOAD_ENTRIES, replied.kind == SCONCETOAD_REPLY_LISTED ? replied.list.count : 0);
     give_sheet();
     struct sconcetoad_sheet_taken taken =
         sconcetoad_read_sheet(lent_octets(&access_record), access_record.size, lent_octets(&given), given.size);
@@ -229,5 +259,6 @@ int limits(void)
             return 1;
     }
     say_records();
+    say_lent_records();
     return 0;
 }

@@ -10,7 +10,7 @@ static int written(struct sconcetoad_table table, struct lent *access_record, st
     sheet->size = SCONCETOAD_SHEET;
     lend(access_record);
     lend_filled(sheet);
-    struct sconcetoad_sheet_written answer =
+    struct sconcetoad_octets answer =
         sconcetoad_write_sheet(table, lent_octets(access_record), access_record->size, lent_octets(sheet), sheet->size);
     if (answer.refusal != SCONCETOAD_ANSWERED || answer.count > sheet->size)
         return 0;

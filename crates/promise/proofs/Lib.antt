@@ -3,6 +3,7 @@ pub mod OnlyProfile
 pub mod OnlyAnswers
 pub mod OnlyCalls
 pub mod OnlyCodes
+pub mod OnlyComponents
 pub mod OnlyRefusals
 pub mod OnlyRequests
 pub mod OnlyExchange

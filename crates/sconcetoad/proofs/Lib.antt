@@ -1,5 +1,5 @@
 pub mod Saids
-pub mod ListTolds
+pub mod Replies
 pub mod Diversions
 pub mod OnlyBorder
 pub mod OnlyDesk

@@ -14,7 +14,7 @@ use Rattle.end.specs.Sending.{interrogationOf, Sends, sends}
 use Rattle.end.specs.Taking.{Moves, takes, givesUp}
 use Rattle.end.specs.Shown.{Seen, shown, entriesOut}
 use Rattle.end.specs.declared.end.End.{End}
-use Rattle.sconcetoad.specs.ListTold.{noCount}
+use Rattle.sconcetoad.specs.Replied.{noCount}
 use Rattle.sconcetoad.specs.declared.desk.Sending.{Sending}
 use Rattle.sconcetoad.specs.declared.desk.Moving.{Moving}
 use Rattle.sconcetoad.specs.declared.desk.Page.{Page}

@@ -2,12 +2,14 @@
 use Prim.Native.Nat.{ℕ}
 use mathlib.Core.Path.{_≡_}
 use mathlib.Core.List.{List}
+use lib.ListN.{length}
 use Rattle.laws.specs.Over.{Puts}
 use Rattle.refusals.specs.Refusal.{Told, refuses, tells, refusalIn}
 use Rattle.exchange.specs.declared.table.Table.{Table}
 use Rattle.calls.specs.Divert.{Course, passes, diverts, comes}
 use Rattle.calls.specs.Original.{originalIn}
 use Rattle.sconcetoad.specs.declared.diversion.Diverted.{Diverted}
+use Rattle.sconcetoad.specs.declared.diversion.HandedOn.{HandedOn}
 
 -- the numbers of a reason and of a notice, each 0 where there is none
 abbrev pub reasonIn : Told Course → ℕ
@@ -27,6 +29,10 @@ pub record DivertedBy (access : List ℕ) (t : Table) (s : List ℕ) (r : Divert
   pub notice : r .notice ≡ noticeIn (comes access t s .told)
   pub call : r .call ≡ comes access t s .call
 
--- what `sconcetoad_original` promises: all of the digits, or nothing where there is no room
-abbrev pub CopiesOriginal : List ℕ → Table → List ℕ → List ℕ → ℕ → List ℕ → Type 0
-CopiesOriginal access t s xs n ys = Puts xs 0 (originalIn access t s) n ys
+-- what `sconcetoad_original` promises: what becomes of the call, how many digits are handed on, and each octet of the output, which has all of them
+-- or, where there is no room, none
+pub record HandsOn (access : List ℕ) (t : Table) (s xs : List ℕ) (r : HandedOn) (ys : List ℕ) : Type 0 where
+  pub refusal : r .refusal ≡ refusalIn (comes access t s .told)
+  pub reason : r .reason ≡ reasonIn (comes access t s .told)
+  pub digits : r .length ≡ length (originalIn access t s)
+  pub lent : Puts xs 0 (originalIn access t s) (r .count) ys

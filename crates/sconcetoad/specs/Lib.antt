@@ -1,5 +1,6 @@
 pub mod Said
-pub mod ListTold
+pub mod Replied
+pub mod Written
 pub mod Arrival
 pub mod Desk
 pub mod Diversion

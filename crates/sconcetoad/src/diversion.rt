@@ -11,7 +11,7 @@ use refusals::refusal_no;
 ghost use mathlib.Core.Path.{_≡_};
 ghost use Rattle.calls.specs.Onward.{reasonNo};
 ghost use Rattle.calls.specs.Divert.{noticeNo};
-ghost use Rattle.sconcetoad.specs.Diversion.{DivertedBy, CopiesOriginal};
+ghost use Rattle.sconcetoad.specs.Diversion.{DivertedBy, HandsOn};
 
 // The numbers of the refusal, of the reason and of the notice, each 0 where there is none; and the call that goes on.
 #[repr(C)]
@@ -20,6 +20,15 @@ pub struct Diverted {
     pub reason: u8,
     pub notice: u8,
     pub call: Onward,
+}
+
+// What becomes of the call, told as above; how many digits the original number has that it hands on; and how many were written.
+#[repr(C)]
+pub struct HandedOn {
+    pub refusal: u8,
+    pub reason: u8,
+    pub length: usize,
+    pub count: usize,
 }
 
 fn reason_no(reason: Reason) -> u8
@@ -72,16 +81,24 @@ pub extern "C" fn sconcetoad_divert(table: Table, access: &[u8], call: &[u8]) ->
     }
 }
 
-// The digits of the original number that `call` hands on, at the start of `out`.
+// How many digits the original number has that `call` hands on, and how many were written at the start of `out`: all or none.
 #[no_mangle]
 pub extern "C" fn sconcetoad_original<'a>(
     table: Table,
     access: &'a [u8],
     call: &'a [u8],
     out: &mut [u8],
-) -> usize
-    ensures { λ n. ⌜ CopiesOriginal (now (access .entry)) table (now (call .entry)) (now (out .entry)) n (now (out .exit)) ⌝ }
+) -> HandedOn
+    ensures { λ r. ⌜ HandsOn (now (access .entry)) table (now (call .entry)) (now (out .entry)) r (now (out .exit)) ⌝ }
 {
+    let came = sconcetoad_divert(table, access, call);
     let digits = original(table, access, call);
-    put_all(out, 0, digits)
+    let length = digits.len();
+    let count = put_all(out, 0, digits);
+    HandedOn {
+        refusal: came.refusal,
+        reason: came.reason,
+        length,
+        count,
+    }
 }

@@ -1,21 +1,11 @@
 // Night sheets, as C has them written, read and listed.
+use crate::written::Octets;
+use crate::written::refusal_in;
 use exchange::Table;
 use listings::list_sheet;
-use refusals::Handling;
-use refusals::refusal_no;
 use sheets::read_sheet;
 use sheets::write_sheet;
-ghost use mathlib.Core.Path.{_≡_};
-ghost use Rattle.refusals.specs.Refusal.{refusalIn};
-ghost use Rattle.refusals.specs.Handling.{handlingTold};
 ghost use Rattle.sconcetoad.specs.Sheets.{SheetWrittenBy, SheetTakenBy, SheetListedBy};
-
-// The number of the refusal, 0 where there is none; and how many octets were written.
-#[repr(C)]
-pub struct SheetWritten {
-    pub refusal: u8,
-    pub count: usize,
-}
 
 // The number of the refusal, and the table that was read; a fresh one where the sheet is refused.
 #[repr(C)]
@@ -24,27 +14,14 @@ pub struct SheetTaken {
     pub table: Table,
 }
 
-fn refusal_in(outcome: Handling) -> u8
-    ensures { λ r. ⌜ r ≡ refusalIn (handlingTold outcome) ⌝ }
-{
-    match outcome {
-        Handling::Refuses { refusal } => refusal_no(refusal),
-        Handling::Done => 0,
-    }
-}
-
 // `table` as a night sheet at the start of `out`.
 #[no_mangle]
-pub extern "C" fn sconcetoad_write_sheet(
-    table: Table,
-    access: &[u8],
-    out: &mut [u8],
-) -> SheetWritten
+pub extern "C" fn sconcetoad_write_sheet(table: Table, access: &[u8], out: &mut [u8]) -> Octets
     ensures { λ r. ⌜ SheetWrittenBy (now (access .entry)) table (now (out .entry)) r (now (out .exit)) ⌝ }
 {
     let written = write_sheet(table, access, out);
     let outcome = written.outcome;
-    SheetWritten {
+    Octets {
         refusal: refusal_in(outcome),
         count: written.count,
     }
@@ -66,12 +43,12 @@ pub extern "C" fn sconcetoad_read_sheet(access: &[u8], sheet: &[u8]) -> SheetTak
 
 // The listing of `sheet` at the start of `out`.
 #[no_mangle]
-pub extern "C" fn sconcetoad_list_sheet(sheet: &[u8], out: &mut [u8]) -> SheetWritten
+pub extern "C" fn sconcetoad_list_sheet(sheet: &[u8], out: &mut [u8]) -> Octets
     ensures { λ r. ⌜ SheetListedBy (now (sheet .entry)) (now (out .entry)) r (now (out .exit)) ⌝ }
 {
     let written = list_sheet(sheet, out);
     let outcome = written.outcome;
-    SheetWritten {
+    Octets {
         refusal: refusal_in(outcome),
         count: written.count,
     }

@@ -1,0 +1,2 @@
+-- What private functions promise: no public promise cites it.
+pub mod Refused

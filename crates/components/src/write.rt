@@ -1,0 +1,62 @@
+// A request and a list are written, or refused (document 01, "Local refusals").
+use lists::Entries;
+use lists::INSTANCESMOST;
+use lists::put_list;
+use refusals::Handling;
+use refusals::Refusal;
+use refusals::Written;
+use requests::Request;
+use requests::is_sendable;
+use requests::put_request;
+ghost use mathlib.Core.Path.{_≡_};
+ghost use Rattle.components.specs.Written.{WritesRequest, WritesList};
+ghost use Rattle.components.specs.inner.Refused.{notWritten, allWritten};
+
+// The least output for any component.
+const OUTPUTLEAST: usize = 707;
+
+fn refuses(refusal: Refusal) -> Written
+    ensures { λ r. ⌜ r ≡ notWritten refusal ⌝ }
+{
+    Written {
+        outcome: Handling::Refuses { refusal },
+        count: 0,
+    }
+}
+
+fn done(count: usize) -> Written
+    ensures { λ r. ⌜ r ≡ allWritten count ⌝ }
+{
+    Written {
+        outcome: Handling::Done,
+        count,
+    }
+}
+
+// The component of a request at the start of the output.
+pub fn write_request(out: &mut [u8], identifier: i16, operation: u8, r: Request) -> Written
+    ensures { λ w. ⌜ WritesRequest identifier operation r (now (out .entry)) w (now (out .exit)) ⌝ }
+{
+    if out.len() < OUTPUTLEAST {
+        return refuses(Refusal::ShortOutput);
+    }
+    if !is_sendable(operation, r) {
+        return refuses(Refusal::BadRequest);
+    }
+    let count = put_request(out, identifier, operation, r);
+    done(count)
+}
+
+// The component of a list at the start of the output.
+pub fn write_list(out: &mut [u8], identifier: i16, list: Entries) -> Written
+    ensures { λ w. ⌜ WritesList identifier list (now (out .entry)) w (now (out .exit)) ⌝ }
+{
+    if out.len() < OUTPUTLEAST {
+        return refuses(Refusal::ShortOutput);
+    }
+    if INSTANCESMOST < list.count as usize {
+        return refuses(Refusal::BadTable);
+    }
+    let count = put_list(out, identifier, list);
+    done(count)
+}
