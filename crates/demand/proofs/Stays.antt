@@ -1,4 +1,5 @@
--- An event that moves neither record and sends nothing leaves the moment as it was. Assumes nothing.
+-- What an event leaves: the end that has heard something; and the moment as it was, where it moves neither record and sends nothing.
+-- Assumes nothing.
 use mathlib.Core.Path.{_≡_, refl, ap, _∙_}
 use mathlib.Core.Option.{Option, none}
 use Rattle.demand.specs.Machine.{In, Machine, World, sends, handles, hears, gives-up, sending, replying, ending, after}
@@ -25,6 +26,10 @@ module _ (M : Machine) (w : World M) where
       after M w (handles room c i) ≡ w
   unfolding after
   stays-handled room c i h = ap (λ (x : M .Table × Option (M .Down)). replying M w (x .0) (x .1)) h ∙ none-replied
+
+  pub heard-end : (c : M .Down) (i : In c (w .down)) → after M w (hears c i) .end ≡ M .receive (w .end) c
+  unfolding after ending
+  heard-end c i = refl
 
   pub stays-heard : (c : M .Down) (i : In c (w .down)) → M .receive (w .end) c ≡ w .end → after M w (hears c i) ≡ w
   unfolding after

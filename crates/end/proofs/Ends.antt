@@ -31,6 +31,14 @@ pub mark-past : (procedure : ℕ) (marks : List ℕ) → length marks ≤ proced
 unfolding markAt
 mark-past procedure marks h = get-past marks procedure doubtMark h
 
+-- where all are in doubt, each is
+pub mark-doubt : (procedure : ℕ) → markAt procedure (doubtMark ∷ doubtMark ∷ doubtMark ∷ []) ≡ doubtMark
+unfolding markAt
+mark-doubt zero = refl
+mark-doubt (suc zero) = refl
+mark-doubt (suc (suc zero)) = refl
+mark-doubt (suc (suc (suc k))) = refl
+
 pub marked-past : (procedure mark : ℕ) (marks : List ℕ) → length marks ≤ procedure → marked procedure mark marks ≡ marks
 unfolding marked
 marked-past procedure mark marks h = set-past marks procedure mark h

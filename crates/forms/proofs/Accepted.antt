@@ -23,15 +23,18 @@ use Rattle.groups.proofs.GroupLaws.{StandsTo, groups-at-only}
 use Rattle.numbers.specs.Number.{most, fair}
 use Rattle.numbers.specs.declared.address.Address.{Address}
 use Rattle.instances.specs.declared.instance.Instance.{Instance}
+use Rattle.forms.specs.Form.{form1}
 use Rattle.forms.specs.Size.{sheetMost}
 use Rattle.forms.specs.Instance.{allGroups, digitOf, addressOf, addressFields, instanceFields, fieldOf, fieldAt, fieldsAt, kindGood, addressFrom, serviceOf, instanceFrom}
 use Rattle.forms.specs.Sheet.{Sheet, instancesFrom, inOrder, instancesOctets, sheetOctets, sheetIn}
+use Rattle.forms.specs.Formed.{ReadForm}
 use Rattle.forms.specs.declared.form.Form.{Form}
+use Rattle.forms.specs.declared.sheet.FormRead.{FormRead}
 use Rattle.forms.proofs.Parts.{FoundAt, found-at-then, found-at-is}
 use Rattle.forms.proofs.Fields.{Passing, field-passes, fields-passing}
-use Rattle.forms.proofs.Fits.{kept-fields, few-instances, Short}
+use Rattle.forms.proofs.Fits.{kept-fields, few-instances, Short, form1-short}
 use Rattle.forms.proofs.Instances.{instances-count}
-use Rattle.forms.proofs.Sheets.{Allowed, sheet-allowed}
+use Rattle.forms.proofs.Sheets.{Allowed, sheet-allowed, form-found}
 use Rattle.forms.proofs.Octets.{fields-none, fields-more, fields-both, octets-none, octets-more, sheet-octets}
 use Rattle.forms.proofs.Sizes.{sheet-most}
 
@@ -225,3 +228,11 @@ module _ (s : List ℕ) (small : (i : ℕ) → getD s i 0 < 256) where
       let so = found-is (Allowed form) e (sheet-allowed form s) in
       let few = few-instances form (sheet .instances) (short .procedures) (so .each) (so .order) in
       rw (sheet-only form sheet next e) (sheet-most form short (sheet .last) (sheet .instances) (so .last) (so .each) few)
+
+  -- of form 1: "1,613 (sheet)"
+  pub accepted-form1 : (sheet : Sheet) (next : ℕ) → sheetIn form1 s ≡ got sheet next → length s ≤ 1613
+  accepted-form1 = accepted-most form1 form1-short
+
+  -- and so what `read_form` accepts
+  pub form-accepted : (r : FormRead) → ReadForm s r → r .ok ≡ true → length s ≤ 1613
+  form-accepted r told ok = let found = form-found s r told ok in accepted-form1 (found .sheet) (found .next) (found .is)

@@ -1,7 +1,8 @@
 // Prints the listing of the night sheet on its standard input, or `refused 9` (document 01, "Samples").
 use listings::print_sheet;
 
-// Room for the input. A sheet has at most 1,613 octets, so input that fills this is none, and `refused 9` follows by itself.
+// Room for the input. A sheet has at most 1,613 octets, so input that fills this is none, and `refused 9` follows by itself
+// (crates/listings/proofs/Accepted.antt, `prints-long`).
 const SPACE: usize = 2048;
 
 // Room for the longest listing.

@@ -1,4 +1,5 @@
 pub mod Goods
+pub mod Held
 pub mod Readers
 pub mod Sizes
 pub mod Trips

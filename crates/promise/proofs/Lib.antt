@@ -20,6 +20,7 @@ pub mod OnlyInstances
 pub mod OnlyTesttext
 pub mod OnlyValues
 pub mod OnlyEnd
+pub mod Longest
 pub mod AnswerBack
 pub mod Wrong
 pub mod DemandLists

@@ -1,8 +1,9 @@
 -- Every sample of the table holds of the definitions, by computing. Assumes nothing.
-use Prim.Native.Nat.{ℕ}
+use Prim.Native.Nat.{ℕ, zero, suc}
 use mathlib.Core.Path.{_≡_, refl, subst}
 use mathlib.Core.List.{List, [], _∷_}
 use mathlib.Core.Logic.{inl}
+use native.Mathlib.Omega.{arith}
 use lib.ListN.{length, drop}
 use Rattle.laws.specs.Fewest.{fewestFrom}
 use Rattle.octets.specs.Word.{wordAt, wordOctets}
@@ -60,9 +61,9 @@ use Rattle.end.specs.Taking.{learned, took, gaveUp, takes, givesUp}
 use Rattle.end.specs.Shown.{seenKnown, shown, entriesOut}
 use Rattle.demand.specs.Machine as machine
 use Rattle.demand.specs.Machine.{Machine, World, Trace, still, more}
-use Rattle.promise.specs.Samples.{Each, samples, sampleAccess, activationOctets, activationOfCfb, interrogationOfCfb, activatedTable}
-use Rattle.promise.specs.Demand.{Asking, sized, machine, begin, entriesHeld}
-use Rattle.promise.specs.DemandRun.{sampleProcedure, SampleRun}
+use Rattle.promise.specs.Samples.{Sample, Each, samples, sampleAccess, activationOctets, activationOfCfb, interrogationOfCfb, activatedTable}
+use Rattle.promise.specs.Demand.{Asking, sized, machine, begin, entriesHeld, Handled}
+use Rattle.promise.specs.DemandRun.{sampleProcedure, SampleRun, SampleHandled}
 
 pub each-sample : Each samples
 unfolding fewestFrom wordAt wordOctets spanOf lengthAt headAt lengthHolds lengthWith lengthFewest enumeratedAt half twos bits identHolds
@@ -80,15 +81,25 @@ unfolding fewestFrom wordAt wordOctets spanOf lengthAt headAt lengthHolds length
     instancesOctets sheetOctets instancesFrom inOrder sheetIn decimalIn decimal procedureName kindText hexOf hexText subText lineOf
     headerLine instanceLine instanceLines listing listedSheet refusedLine printedSheet wroteSheet saidAt markAt marked closed
     marksGood waitingGood endGood servedGood toGood partsGood sendable marksSent sent sends learned took takes shown
-    sorted end.instancesFrom listGood
+    sorted end.instancesFrom listGood entryOctets
 each-sample =
-    let dialogue : Each (drop 39 samples) = ((refl, refl), (refl, (refl, ((refl, refl), (refl, (refl, (refl, tt))))))) in
+    let longest : Each (drop 46 samples) = ((refl, refl), (refl, tt)) in
+    let dialogue : Each (drop 39 samples) = ((refl, refl), (refl, (refl, ((refl, refl), (refl, (refl, (refl, longest))))))) in
     let sheets : Each (drop 35 samples) = (refl, (refl, (refl, (refl, dialogue)))) in
     let calls : Each (drop 31 samples) = ((refl, refl, refl), ((refl, refl, refl), ((refl, refl, refl), ((refl, refl, refl), sheets)))) in
     let arrivals : Each (drop 26 samples) = ((refl, refl), ((refl, refl), ((refl, refl), ((refl, refl), ((refl, refl), calls))))) in
     let replies : Each (drop 13 samples) =
     (refl, (refl, (refl, (refl, (refl, (refl, (refl, (refl, (refl, (refl, (refl, (refl, (refl, arrivals))))))))))))) in
     (refl, (refl, (refl, (refl, (refl, (refl, (refl, (refl, (refl, (refl, (refl, (refl, (refl, replies)))))))))))))
+
+-- the samples from a row on
+from : (k : ℕ) (xs : List Sample) → Each xs → Each (drop k xs)
+from zero xs each = each
+from (suc k) [] each = tt
+from (suc k) (x ∷ xs) each = from k xs (each .1)
+
+pub row : (k : ℕ) → Each (drop k samples)
+row k = from k samples each-sample
 
 -- ---- demand 3
 
@@ -189,6 +200,7 @@ Follows =
     × (shown sampleAccess (w8 .end) sampleProcedure ≡ tells (seenKnown 1))
     × (length (entriesOut sampleAccess (w8 .end) sampleProcedure) ≡ 1)
     × (length (entriesHeld sampleAccess (w8 .table) sampleProcedure) ≡ 1)
+    × Handled sampleAccess w6 outputLeast listingOctets
 
 follows : Follows
 unfolding fewestFrom wordAt wordOctets spanOf lengthAt headAt lengthHolds lengthWith lengthFewest enumeratedAt half twos bits identHolds
@@ -204,22 +216,38 @@ unfolding fewestFrom wordAt wordOctets spanOf lengthAt headAt lengthHolds length
     sized markAt marked closed marksGood waitingGood endGood sorted end.instancesFrom listGood marksSent sent sends learned took gaveUp
     takes givesUp shown entryOctets entryAt fieldsIn codesIn lastField kept
     machine.sending machine.replying machine.ending machine.after machine.start
-follows = (refl, refl, refl, refl, refl, refl, refl, refl, refl, refl, refl)
+follows =
+    let handled : Handled sampleAccess w6 outputLeast listingOctets = record {
+      outstanding = refl;
+      interrogates = refl;
+      allowed = record { used = refl; subscribed = refl; whole = inl refl };
+      arrives = inl refl;
+      new = omega arith;
+      replies = refl;
+    } in
+    (refl, refl, refl, refl, refl, refl, refl, refl, refl, refl, refl, handled)
 
 to : {u v : World M} (x : machine.Event M u) → machine.after M u x ≡ v → Trace M (begin sampleAccess) u → Trace M (begin sampleAccess) v
 to x is run = subst (Trace M (begin sampleAccess)) is (more run x)
 
--- demand 3 speaks of runs in which something is known: an activation is sent and lost, another is handled and its result lost, and an
--- interrogation is handled and heard
-pub sample-run : SampleRun
-sample-run =
-    let run : Trace M (begin sampleAccess) w8 =
-    to (machine.hears listingOctets (inl refl)) (follows .7)
-    (to (machine.handles outputLeast thirdOctets (inl refl)) (follows .6)
-    (to (machine.sends outputLeast interrogates) (follows .5)
+-- an activation is sent and lost, another is handled and its result lost, and an interrogation is sent
+asks : Trace M (begin sampleAccess) w6
+asks =
+    to (machine.sends outputLeast interrogates) (follows .5)
     (to machine.gives-up (follows .4)
     (to (machine.handles outputLeast activationOctets (inl refl)) (follows .3)
     (to (machine.sends outputLeast activates) (follows .2)
     (to machine.gives-up (follows .1)
-    (to (machine.sends outputLeast activates) (follows .0) still))))))) in
+    (to (machine.sends outputLeast activates) (follows .0) still)))))
+
+-- and handled
+pub sample-handled : SampleHandled
+sample-handled = record { asks = w6; run = asks; result = listingOctets; handled = follows .11 }
+
+-- demand 3 speaks of runs in which something is known: its result is heard
+pub sample-run : SampleRun
+sample-run =
+    let run : Trace M (begin sampleAccess) w8 =
+    to (machine.hears listingOctets (inl refl)) (follows .7)
+    (to (machine.handles outputLeast thirdOctets (inl refl)) (follows .6) asks) in
     record { ends = w8; run = run; sent = refl; answered = refl; known = follows .8; out = follows .9; held = follows .10 }

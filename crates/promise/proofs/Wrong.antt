@@ -1,10 +1,11 @@
 -- Each wrong program that document 01 shuts out by name breaks the promise named there, at a sample or in a dialogue of two requests.
 -- Assumes nothing.
-use Prim.Native.Nat.{ℕ, zero, suc, _+_, _≤_}
+use Prim.Native.Nat.{ℕ, _+_, _≤_}
 use mathlib.Core.Path.{_≡_, refl, sym, ap, _∙_}
-use mathlib.Core.List.{List, [], _∷_}
+use mathlib.Core.Bool.{true}
+use mathlib.Core.List.{List, []}
 use native.Mathlib.Omega.{arith}
-use lib.ListN.{length, drop, getD}
+use lib.ListN.{length, getD}
 use lib.Dec.{ltb}
 use borrow.Author.Tests.{ltb-true, ltb-false, le-leb}
 use Rattle.laws.specs.Over.{over}
@@ -30,24 +31,20 @@ use Rattle.end.specs.Shown.{shown, entriesShown, seenKnown}
 use Rattle.end.specs.declared.end.End.{End}
 use Rattle.end.specs.declared.take.Moved.{Moved}
 use Rattle.end.proofs.Steps.{takes-ind}
+use Rattle.end.proofs.Ends.{mark-doubt}
 use Rattle.end.proofs.Shows.{known-by}
-use Rattle.promise.specs.Samples.{Sample, arrives, Says, Each, samples, sampleAccess, accessWith, callWith, activatedTable}
+use Rattle.demand.specs.Machine.{handles, after, still}
+use Rattle.demand.proofs.Stays.{heard-end}
+use Rattle.promise.specs.Samples.{arrives, Says, sampleAccess, accessWith, callWith, activatedTable}
 use Rattle.promise.specs.Samples.{activationOctets, activatedOctets, duplicateOctets, freshOctets, activationOfCfb}
 use Rattle.promise.specs.Samples.{endAt, interrogatingEnd, activatingEnd, activatedInstances}
 use Rattle.promise.specs.Wrong.{Exchange, ArrivesBy, refusesAll, oneReply, tableUntouched}
 use Rattle.promise.specs.Wrong.{Diverter, DivertsBy, inventedCounter, fixedCounter}
-use Rattle.promise.specs.Wrong.{Taker, TakesBy, Keeps, allMarked, doubtsAll, resultFor, pretends}
+use Rattle.promise.specs.Demand.{machine, askedBy}
+use Rattle.promise.specs.Wrong.{Taker, TakesBy, Keeps, allMarked, doubtsAll, FirstReplyBy, resultFor, pretends}
 use Rattle.promise.specs.Wrong.{firstSent, firstAnswer, firstHeard, secondSent, secondHeard, cfb, entriesHeld, KnownWrong}
-use Rattle.promise.proofs.Samples.{each-sample}
-
--- the samples from a row on
-from : (k : ℕ) (xs : List Sample) → Each xs → Each (drop k xs)
-from zero xs each = each
-from (suc k) [] each = tt
-from (suc k) (x ∷ xs) each = from k xs (each .1)
-
-row : (k : ℕ) → Each (drop k samples)
-row k = from k samples each-sample
+use Rattle.promise.proofs.Samples.{row, sample-handled}
+use Rattle.promise.proofs.Demands.{demand-3}
 
 -- ---- the exchange
 
@@ -169,6 +166,28 @@ pub shut-out-doubting-everything : (x : Taker) → TakesBy (doubtsAll x) sampleA
 shut-out-doubting-everything x k =
     let z : _≡_ {A = ℕ} 0 1 = ap (λ (e : End). getD (e .marks) cfb 0) (k .end ∙ first-taken) in
     omega (arith, z)
+
+-- and "a whole interrogation that is handled .. makes its procedure known"
+pub shut-out-doubting-interrogations : (x : Taker) → FirstReplyBy (doubtsAll x) sampleAccess → ⊥
+shut-out-doubting-interrogations x k =
+    let so = sample-handled in
+    let w = so .asks in
+    let v = after (machine sampleAccess) w (handles outputLeast (askedBy (w .end)) (so .handled .arrives)) in
+    let known = k w (so .run) outputLeast (so .result) (so .handled) v still tt in
+    let procedure = w .end .request .procedure in
+    let by = known-by sampleAccess (doubtsAll x sampleAccess (v .end) (so .result) .end) procedure (known .0) (known .1) in
+    omega (arith, by .mark, mark-doubt procedure)
+
+-- which every end does that keeps the promise of `arrived`
+pub keeping-interrogations :
+    (x : Taker) → Keeps x → (access : List ℕ) → accessRead access .ok ≡ true → accessRead access .profile .counted ≡ 1 →
+    FirstReplyBy x access
+keeping-interrogations x keeps access ok counted w run size a h v q quiet =
+    let known = demand-3 access ok counted .known w run size a h v q quiet in
+    let same = keeps access (v .end) a .end ∙ sym (heard-end (machine access) v a (known .0)) in (
+      known .1,
+      ap (λ (e : End). shown access e (w .end .request .procedure)) same ∙ known .2,
+    )
 
 -- the table has no instance then, as the end's picture has none
 first-table : firstAnswer .table ≡ tableOf 1 (packed [])

@@ -1,7 +1,8 @@
--- The samples of document 01 that are marked P, its night sheet, the longest listing, and a dialogue of the end, as one table. `Each samples`
--- is the one statement about them.
+-- The samples of document 01 that are marked P, its night sheet, the longest listing, a dialogue of the end, and the longest reply and
+-- sheet, as one table. `Each samples` is the one statement about them.
 use Prim.Native.Nat.{ℕ, _+_, _/_, _%_}
 use mathlib.Core.Path.{_≡_}
+use mathlib.Core.Bool.{true}
 use mathlib.Core.List.{List, [], _∷_, _++_}
 use lib.IntN.{ℤ, pos, negsuc}
 use lib.ListN.{length, replicate}
@@ -16,6 +17,7 @@ use Rattle.groups.specs.declared.groups.Groups.{Groups}
 use Rattle.groups.specs.declared.groups.Groups.the-variants as groups
 use Rattle.numbers.specs.Number.{unknown, numberOf}
 use Rattle.numbers.specs.Address.{subOf, forwardedOf}
+use Rattle.profile.specs.Access.{accessRead}
 use Rattle.lists.specs.Entries.{instancesMost, entriesFrom}
 use Rattle.lists.specs.declared.entry.Entry.{Entry}
 use Rattle.answers.specs.Answer.{answerOctets}
@@ -25,7 +27,7 @@ use Rattle.answers.specs.declared.reply.Reply.the-variants as reply
 use Rattle.instances.specs.Instance.{instanceOf}
 use Rattle.instances.specs.declared.instance.Instance.{Instance}
 use Rattle.instances.specs.Run.{packed}
-use Rattle.exchange.specs.Table.{tableOf, freshTable}
+use Rattle.exchange.specs.Table.{tableOf, freshTable, tableGood}
 use Rattle.exchange.specs.Arrive.{done}
 use Rattle.exchange.specs.declared.table.Table.{Table}
 use Rattle.forms.specs.Form.{form1}
@@ -48,6 +50,7 @@ use Rattle.end.specs.Sending as sending
 use Rattle.end.specs.Taking.{takes}
 use Rattle.end.specs.Shown.{Seen, seenKnown, shown}
 use Rattle.end.specs.declared.end.End.{End}
+use Rattle.promise.specs.Longest.{wideAccess, fullTable, lastInterrogation}
 
 pub data Sample : Type 0 where
   reads-identifier : List ℕ → Ident → Sample
@@ -65,6 +68,8 @@ pub data Sample : Type 0 where
   writes-sheet : (access : List ℕ) → Table → (sheet : List ℕ) → Sample
   prints-sheet : (sheet text : List ℕ) → Sample
   fills-listing : (sheet : List ℕ) → Sample
+  fills-reply : (access : List ℕ) → Table → List ℕ → Sample
+  fills-sheet : (access : List ℕ) → Table → Sample
   end-sends : (access : List ℕ) (operation : ℕ) → Request → End → List ℕ → (next : End) → Sample
   end-takes : (access : List ℕ) → End → List ℕ → (next : End) → Sample
   end-shows : (access : List ℕ) → End → (procedure : ℕ) → Told Seen → Sample
@@ -88,6 +93,9 @@ Says (diverts-to access t s is counter option) =
 Says (writes-sheet access t s) = wroteSheet access t (sheetMost form1) .octets ≡ s
 Says (prints-sheet s text) = printedSheet s (listingMost form1) ≡ text
 Says (fills-listing s) = length (listedSheet s (listingMost form1) .octets) ≡ listingMost form1
+Says (fills-reply access t s) =
+    (tableGood instancesMost (accessRead access .profile) t ≡ true) × (length (done access t s outputLeast .octets) ≡ outputLeast)
+Says (fills-sheet access t) = length (wroteSheet access t (sheetMost form1) .octets) ≡ sheetMost form1
 Says (end-sends access operation r e s next) =
     (sending.sends access operation r e outputLeast .octets ≡ s) × (sending.sends access operation r e outputLeast .end ≡ next)
 Says (end-takes access e s next) = takes access e s .end ≡ next
@@ -267,4 +275,7 @@ samples =
     ∷ end-takes sampleAccess activatingEnd freshOctets activatingEnd
     ∷ end-takes sampleAccess activatingEnd activatedOctets (endAt 2 activatedInstances)
     ∷ end-shows sampleAccess (endAt 2 activatedInstances) 1 (tells (seenKnown 1))
+    -- the least output for a component and for a sheet is no larger than there is need for
+    ∷ fills-reply wideAccess fullTable lastInterrogation
+    ∷ fills-sheet wideAccess fullTable
     ∷ []

@@ -32,7 +32,9 @@ use Rattle.end.specs.Taking.{Takes}
 use Rattle.end.specs.Shown.{seenKnown, entriesShown, shown}
 use Rattle.end.specs.declared.end.End.{End}
 use Rattle.end.specs.declared.take.Moved.{Moved}
+use Rattle.demand.specs.Machine.{World, handles, after, Trace, Quiet}
 use Rattle.promise.specs.Samples.{sampleAccess, interrogationOfCfb, activationOfCfb}
+use Rattle.promise.specs.Demand.{machine, begin, Replies, askedBy, Handled}
 
 -- ---- the exchange
 
@@ -129,6 +131,16 @@ allMarked mark e = record {
 -- "doubts everything": whatever arrives, every procedure is in doubt
 abbrev pub doubtsAll : Taker → Taker
 doubtsAll x access e s = record { end = allMarked doubtMark (x access e s .end); outcome = x access e s .outcome }
+
+-- demand 3's second sentence of an end that hears by `x`: "a whole interrogation that is handled, whose result is the first matching reply
+-- to come, makes its procedure known". It is `FirstReply`, but that the last step of the run is taken by `x`.
+abbrev pub FirstReplyBy : Taker → List ℕ → Type 0
+FirstReplyBy x access =
+    (w : World (machine access)) → Trace (machine access) (begin access) w →
+    (size : ℕ) (a : List ℕ) (h : Handled access w size a) →
+    (v : World (machine access)) (q : Trace (machine access) (after (machine access) w (handles size (askedBy (w .end)) (h .arrives))) v) →
+    Quiet (machine access) (Replies (w .end)) q →
+    (count : ℕ) × (shown access (x access (v .end) a .end) (w .end .request .procedure) ≡ tells (seenKnown count))
 
 -- what an end takes for the result of the request that it waits for: the very octets of that result
 abbrev pub resultFor : End → List ℕ

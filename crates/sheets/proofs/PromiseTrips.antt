@@ -14,7 +14,6 @@ use Rattle.laws.proofs.Eaches.{Each}
 use Rattle.refusals.specs.Refusal.{tells}
 use Rattle.refusals.proofs.Refusals.{refuses-not}
 use Rattle.profile.specs.Access.{accessRead}
-use Rattle.profile.proofs.Records.{access-good}
 use Rattle.lists.specs.Entries.{instancesMost}
 use Rattle.exchange.specs.Table.{tableGood}
 use Rattle.exchange.specs.declared.table.Table.{Table}
@@ -28,9 +27,9 @@ use Rattle.refusals.proofs.Handlings.{handling-same}
 use Rattle.instances.specs.Run.{instancesOf}
 use Rattle.sheets.specs.Sheets.{wroteSheet, WritesSheet, readSheet, ReadsSheet}
 use Rattle.sheets.specs.declared.read.SheetRead.{SheetRead}
-use Rattle.sheets.proofs.WrittenTables.{Arrays, sheet-fits}
-use Rattle.sheets.proofs.WrittenSheets.{writes-short, writes-profile, writes-table, writes-sheet}
-use Rattle.sheets.proofs.ReadTables.{read-ok, accepted-table, read-good}
+use Rattle.sheets.proofs.WrittenTables.{Arrays}
+use Rattle.sheets.proofs.WrittenSheets.{writes-short, writes-profile, writes-table, writes-sheet, written-most}
+use Rattle.sheets.proofs.ReadTables.{read-ok, accepted-table, accepted-size, read-good}
 use Rattle.sheets.proofs.TableTrips.{SameInstances, ReadsAs, table-back}
 
 -- a table that is written: there was room, and neither the profile nor the table was refused
@@ -57,10 +56,7 @@ module _ (access : List ℕ) (t : Table) (size : ℕ) (done : wroteSheet access 
   module _ (arrays : Each Arrays (instancesOf (t .run))) where
     -- there was room for the sheet
     written-fits : length (wroteSheet access t size .octets) ≤ size
-    written-fits =
-        let p = accessRead access .profile in
-        rw written-octets
-        (omega (arith, written-room, sheet-fits p t written-good (access-good access written-ok) arrays))
+    written-fits = omega (arith, written-room, written-most access t size arrays)
 
     -- its octets are read as that table
     pub octets-back : ReadsAs access (wroteSheet access t size .octets) t
@@ -93,6 +89,11 @@ pub accepted-written :
 accepted-written access s small told size room =
     writes-sheet access (readSheet access s .table) size room (read-ok access s told) (read-good access s told)
     ∙ ap made (sym (accepted-table access s told small))
+
+-- what `read_sheet` accepts has at most 1,613 octets
+pub sheet-accepted :
+    (access s : List ℕ) → ((i : ℕ) → getD s i 0 < 256) → (r : SheetRead) → ReadsSheet access s r → r .outcome ≡ Done → length s ≤ 1613
+sheet-accepted access s small r read done = accepted-size access s (sym (read .told) ∙ ap handlingTold done) small
 
 -- what `read_sheet` accepted, `write_sheet` writes again, octet for octet
 pub accepted-again :

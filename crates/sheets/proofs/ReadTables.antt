@@ -1,9 +1,9 @@
 -- What a sheet that is accepted gives: a table that breaks no rule, for which exactly these octets are written. Assumes nothing.
-use Prim.Native.Nat.{ℕ, _<_}
+use Prim.Native.Nat.{ℕ, _≤_, _<_}
 use mathlib.Core.Path.{_≡_, refl, sym, ap, _∙_}
 use mathlib.Core.Bool.{true}
 use mathlib.Core.List.{List}
-use lib.ListN.{getD}
+use lib.ListN.{length, getD}
 use Rattle.laws.specs.Got.{Got, got, wrong}
 use Rattle.laws.proofs.Gots.{found-is}
 use Rattle.laws.proofs.Picks.{by-bool}
@@ -21,7 +21,7 @@ use Rattle.forms.specs.Form.{form1}
 use Rattle.forms.specs.Sheet.{Sheet, sheetOctets, sheetIn}
 use Rattle.forms.proofs.Fits.{form1-short}
 use Rattle.forms.proofs.Sheets.{Allowed, sheet-allowed, allowed-packed}
-use Rattle.forms.proofs.Accepted.{sheet-only}
+use Rattle.forms.proofs.Accepted.{sheet-only, accepted-form1}
 use Rattle.sheets.specs.Sheets.{readSheet}
 use Rattle.sheets.proofs.Tables.{tableFrom}
 
@@ -77,6 +77,10 @@ module _ (access s : List ℕ) (accepted : readSheet access s .told ≡ tells tt
       sheet-only s small form1 sheet (was .next) (was .found)
       ∙ ap (λ (last : ℕ). sheetOctets form1 last (sheet .instances)) (sym (ap (λ (t : Table). t .last) table-is))
       ∙ ap (sheetOctets form1 (readSheet access s .table .last)) (sym instances-are)
+
+  -- of which there are at most 1,613
+  pub accepted-size : ((i : ℕ) → getD s i 0 < 256) → length s ≤ 1613
+  accepted-size small = accepted-form1 s small sheet (was .next) (was .found)
 
   -- and the table breaks no rule
   pub read-good : tableGood instancesMost (accessRead access .profile) (readSheet access s .table) ≡ true

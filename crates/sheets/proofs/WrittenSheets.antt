@@ -1,14 +1,17 @@
 -- What `write_sheet` writes: its refusals, lowest first, and the sheet. Assumes nothing.
 use Prim.Native.Nat.{ℕ, _≤_, _<_}
 use mathlib.Core.Path.{_≡_, sym, _∙_}
-use mathlib.Core.Bool.{true, false}
+use mathlib.Core.Bool.{true, false, not}
 use mathlib.Core.List.{List}
 use native.Mathlib.Nat.{zero-add}
 use native.Mathlib.Omega.{arith}
 use lib.ListN.{length}
-use borrow.Author.Tests.{lt-ltb, le-ltb}
+use lib.Dec.{ltb}
+use borrow.Author.Tests.{lt-ltb, le-ltb, not-false}
 use Rattle.laws.specs.Over.{Wrote}
 use Rattle.laws.proofs.Over.{over-nil}
+use Rattle.laws.proofs.Picks.{pick-ind}
+use Rattle.laws.proofs.Eaches.{Each}
 use Rattle.refusals.specs.declared.refusal.Refusal.{Refusal}
 use Rattle.refusals.specs.declared.refusal.Refusal.the-variants.{ShortOutput, BadProfile, BadTable}
 use Rattle.profile.specs.Access.{accessRead}
@@ -22,13 +25,13 @@ use Rattle.exchange.proofs.Tables.{table-good}
 use Rattle.forms.specs.Form.{form1}
 use Rattle.forms.specs.Size.{sheetMost}
 use Rattle.forms.specs.Sheet.{sheetOctets}
-use Rattle.refusals.specs.Handling.{notMade, made}
+use Rattle.refusals.specs.Handling.{Made, notMade, made}
 use Rattle.forms.specs.inner.Refused.{notWritten}
 use Rattle.refusals.specs.declared.handling.Handling.the-variants.{Done}
 use Rattle.refusals.specs.declared.handling.Written.{Written}
 use Rattle.sheets.specs.Sheets.{wroteSheet, WritesSheet}
 use Rattle.sheets.specs.inner.Write.{Space, AllWritable}
-use Rattle.sheets.proofs.WrittenTables.{instances-few, instances-count, table-writable}
+use Rattle.sheets.proofs.WrittenTables.{Arrays, instances-few, instances-count, table-writable, sheet-fits}
 
 module _ (access : List ℕ) (t : Table) (size : ℕ) where
   pub writes-short : size < sheetMost form1 → wroteSheet access t size ≡ notMade ShortOutput
@@ -51,6 +54,19 @@ module _ (access : List ℕ) (t : Table) (size : ℕ) where
           wroteSheet access t size ≡ made (sheetOctets form1 (t .last) (instancesOf (t .run)))
       unfolding wroteSheet
       writes-sheet good = rw (le-ltb size (sheetMost form1) enough, ok, good)
+
+-- "under .. 1,613 (sheet)": every sheet that is written fits there
+pub written-most :
+    (access : List ℕ) (t : Table) (size : ℕ) → Each Arrays (instancesOf (t .run)) →
+    length (wroteSheet access t size .octets) ≤ sheetMost form1
+unfolding wroteSheet
+written-most access t size arrays =
+    let p = accessRead access .profile in
+    let P : Made → Type 0 = λ m. length (m .octets) ≤ sheetMost form1 in
+    pick-ind P (ltb size (sheetMost form1)) (λ _. omega arith) (λ _.
+    pick-ind P (not (accessRead access .ok)) (λ _. omega arith) (λ ok.
+    pick-ind P (not (tableGood instancesMost p t)) (λ _. omega arith) (λ good.
+    sheet-fits p t (not-false _ good) (access-good access (not-false _ ok)) arrays)))
 
 -- what is refused writes nothing
 pub refused-writes :
