@@ -2,6 +2,7 @@ pub mod Records
 pub mod Instances
 pub mod Onwards
 pub mod Comings
+pub mod HandedOns
 pub mod Courses
 pub mod Limits
 pub mod Withheld

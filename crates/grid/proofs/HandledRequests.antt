@@ -23,7 +23,7 @@ use Rattle.lists.specs.Entries.{instancesMost}
 use Rattle.lists.specs.declared.entry.Entry.{Entry}
 use Rattle.answers.specs.declared.answer.Answer.the-variants as answer
 use Rattle.rules.proofs.Judges.{kind-known, subscribed-flag}
-use Rattle.grid.specs.Grid.{gridProcedures, rowAt}
+use Rattle.grid.specs.Grid.{GridShaped, gridProcedures, rowAt}
 use Rattle.grid.specs.Judge.{gridApplied, gridJudge}
 use Rattle.grid.specs.Row.{Row, cellGood, cellOf, codeOfPlace, gridEntries, gridSelected, places, rowGood}
 use Rattle.grid.specs.Selection.{cellPlaces}
@@ -33,34 +33,34 @@ use Rattle.grid.proofs.Cells.{not-selected}
 use Rattle.grid.proofs.Judges.{applied-ind, judge-activation, judge-subscribed}
 use Rattle.grid.proofs.Rows.{cell-good, good-clear, good-put}
 use Rattle.grid.proofs.Selections.{places-good, places-only}
-use Rattle.grid.proofs.Shapes.{GridShaped, cells-applied, shaped-moved, shaped-row}
+use Rattle.grid.proofs.Shapes.{cells-applied, shaped-moved, shaped-row}
 use Rattle.grid.proofs.Tables.{moved-good, row-replaced, table-row}
 
 -- ---- the row of a request that passes
+
+module _ (p : Profile) (r : Request) where
+  -- an instance at a place that it selects breaks no rule
+  pub place-good :
+      profileGood p ≡ true → length (p .services) ≡ servicesMost → getD (p .subscribed) (r .procedure) 0 ≡ 1 →
+      addressGood (r .to .address) ≡ true →
+      (j : ℕ) → j < places → gridSelected (cellPlaces p r) j ≡ true →
+      cellGood p (r .procedure) j (cellOf (codeOfPlace (cellPlaces p r) j) (r .to .address)) ≡ true
+  place-good profile long flag address j h chosen =
+      let marked : codeOfPlace (cellPlaces p r) j ≡ 0 → ⊥ = λ blank. false≢true (sym (not-selected (cellPlaces p r) j blank) ∙ chosen) in
+      let at = places-good p r (good-profile p profile .rises) long j h (places-only p r j h marked) in
+      cell-good p (r .procedure) j (codeOfPlace (cellPlaces p r) j) (r .to .address) flag (at .number) (at .service) (at .code) address
 
 module _ (most : ℕ) (p : Profile) (operation : ℕ) (r : Request) (row : Row) where
   abbrev Judged : Option ℕ → Type 0
   Judged v = gridJudge most p operation r (cellPlaces p r) row ≡ v
 
   -- its procedure is subscribed
-  subscribed :
+  pub subscribed :
       profileGood p ≡ true → r .procedure < gridProcedures → Judged none →
       getD (p .subscribed) (r .procedure) 0 ≡ 1
   subscribed profile known passes =
       let flag = subscribed-flag p (r .procedure) (judge-subscribed most p operation r (cellPlaces p r) row passes .subscribed) in
       omega (arith, good-profile p profile .flags (r .procedure) known, flag)
-
-  -- an instance at a place that it selects breaks no rule
-  place-good :
-      profileGood p ≡ true → length (p .services) ≡ servicesMost → r .procedure < gridProcedures → Judged none →
-      addressGood (r .to .address) ≡ true →
-      (j : ℕ) → j < places → gridSelected (cellPlaces p r) j ≡ true →
-      cellGood p (r .procedure) j (cellOf (codeOfPlace (cellPlaces p r) j) (r .to .address)) ≡ true
-  place-good profile long known passes address j h chosen =
-      let marked : codeOfPlace (cellPlaces p r) j ≡ 0 → ⊥ = λ blank. false≢true (sym (not-selected (cellPlaces p r) j blank) ∙ chosen) in
-      let at = places-good p r (good-profile p profile .rises) long j h (places-only p r j h marked) in
-      cell-good p (r .procedure) j (codeOfPlace (cellPlaces p r) j) (r .to .address) (subscribed profile known passes)
-      (at .number) (at .service) (at .code) address
 
   applied-good :
       profileGood p ≡ true → length (p .services) ≡ servicesMost → r .procedure < gridProcedures → Judged none →
@@ -72,7 +72,7 @@ module _ (most : ℕ) (p : Profile) (operation : ℕ) (r : Request) (row : Row) 
       (λ e.
       let told = judge-activation most p r (cellPlaces p r) row (rw e at passes) in
       good-put most p (r .procedure) (cellPlaces p r) (r .to .address) row good cells
-      (place-good profile long known passes (to e (kind-known (r .to .address .number) (told .kind))))
+      (place-good p r profile long (subscribed profile known passes) (to e (kind-known (r .to .address .number) (told .kind))))
       (told .room))
       (λ _. good-clear most p (r .procedure) (cellPlaces p r) row good)
       good

@@ -17,7 +17,7 @@ use Rattle.instances.specs.declared.instance.Instance.{Instance}
 use Rattle.instances.proofs.Counts.{count-cons}
 use Rattle.grid.specs.Grid.{Grid, gridProcedures, rowAt}
 use Rattle.grid.specs.Row.{Row, active, places}
-use Rattle.grid.specs.Sheets.{gridInstances, placeInstances, rowInstances}
+use Rattle.grid.specs.Holds.{holds, placeInstances, rowInstances}
 use Rattle.grid.proofs.RowInstances.{rowOf, rows-all, rowsTo}
 
 count-empty : (q : ℕ) → countOf q [] ≡ 0
@@ -77,9 +77,9 @@ module _ (grid : Grid) (q : ℕ) where
       omega (arith, parts, earlier-rows n less, other-row q n (rowAt grid n) (λ e. omega (arith, less, e))))
       (eq-or-lt-of-le (omega arith))
 
-  pub procedure-count : q < gridProcedures → countOf q (gridInstances grid) ≡ countTo (active (rowAt grid q)) places
+  pub procedure-count : q < gridProcedures → countOf q (holds grid) ≡ countTo (active (rowAt grid q)) places
   procedure-count lt = rw (rows-all grid) (earlier-rows gridProcedures lt)
 
   -- there are no other procedures
-  pub procedure-none : gridProcedures ≤ q → countOf q (gridInstances grid) ≡ 0
+  pub procedure-none : gridProcedures ≤ q → countOf q (holds grid) ≡ 0
   procedure-none le = rw (rows-all grid) (later-rows gridProcedures le)

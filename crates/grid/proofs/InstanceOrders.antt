@@ -16,13 +16,12 @@ use Rattle.profile.specs.Profile.{profileGood, servicesMost, subscribedServices
 use Rattle.profile.specs.declared.profile.Profile.{Profile}
 use Rattle.profile.proofs.Profiles.{good-profile}
 use Rattle.profile.proofs.Rising.{rising-later}
-use Rattle.lists.specs.Entries.{instancesMost}
 use Rattle.instances.specs.Instance.{keyOf}
 use Rattle.instances.specs.declared.instance.Instance.{Instance}
 use Rattle.instances.proofs.Keys.{key-more, key-number, key-procedure, key-some}
 use Rattle.grid.specs.Grid.{gridProcedures, rowAt}
 use Rattle.grid.specs.Row.{Row, active, cellAt, numberOfPlace, places, serviceOfPlace}
-use Rattle.grid.specs.Sheets.{gridInstances, placeInstances, rowInstances}
+use Rattle.grid.specs.Holds.{holds, placeInstances, rowInstances}
 use Rattle.grid.specs.Table.{GridTable, gridTableGood}
 use Rattle.grid.proofs.Cells.{active-some}
 use Rattle.grid.proofs.RowInstances.{rowOf, rows-all, service-small}
@@ -108,9 +107,9 @@ module _ (k m : ℕ) (row later : Row) (less : k < m)
       gathered-ind (λ is. AllAhead is (rowInstances m later)) tt (λ is js. all-ahead-both is js (rowInstances m later))
       (placeInstances k row) places place-ahead
 
--- ---- a table that breaks no rule
+-- ---- a table that breaks no rule, over any limit
 
-module _ (p : Profile) (t : GridTable) (good : gridTableGood instancesMost p t ≡ true) (profile : profileGood p ≡ true)
+module _ (most : ℕ) (p : Profile) (t : GridTable) (good : gridTableGood most p t ≡ true) (profile : profileGood p ≡ true)
     (long : length (p .services) ≡ servicesMost) where
   -- a later service of the profile has a higher code
   later-service : (a b : ℕ) → a < b → b < p .servicecount → getD (p .services) a 0 < getD (p .services) b 0
@@ -130,13 +129,13 @@ module _ (p : Profile) (t : GridTable) (good : gridTableGood instancesMost p t �
 
     its-small : (j : ℕ) → j < places → active row j ≡ true → cellAt row j .service < 256
     its-small j lt there =
-        let rules = active-rules instancesMost p k row (table-row instancesMost p t good k h) j lt there in
-        omega (arith, service-small p t good profile long k j (cellAt row j) rules)
+        let rules = active-rules most p k row (table-row most p t good k h) j lt there in
+        omega (arith, service-small p profile long k j (cellAt row j) rules)
 
     places-ahead : (i j : ℕ) → i < j → j < places → AllAhead (placeInstances k row i) (placeInstances k row j)
     unfolding AllAhead Ahead
     places-ahead i j less lt =
-        let rules = active-rules instancesMost p k row (table-row instancesMost p t good k h) in
+        let rules = active-rules most p k row (table-row most p t good k h) in
         pick-ind (λ is. AllAhead is (placeInstances k row j)) (active row i)
         (λ here. (
           pick-ind (Ahead _) (active row j)
@@ -163,14 +162,14 @@ module _ (p : Profile) (t : GridTable) (good : gridTableGood instancesMost p t �
     row-ascending : Ascending (rowInstances k row)
     row-ascending = ascending-gathered (placeInstances k row) places (λ j lt. place-ascending j) places-ahead
 
-  pub instances-ascend : Ascending (gridInstances (t .grid))
+  pub instances-ascend : Ascending (holds (t .grid))
   instances-ascend =
       rw (rows-all (t .grid))
       (ascending-gathered (rowOf (t .grid)) gridProcedures row-ascending
       (λ k m less lt. row-ahead k m (rowAt (t .grid) k) (rowAt (t .grid) m) less (its-small k (omega arith))))
 
   -- every key is above 0
-  keys-some : Each (λ i. 0 < keyOf i) (gridInstances (t .grid))
+  keys-some : Each (λ i. 0 < keyOf i) (holds (t .grid))
   keys-some =
       let Some : List Instance → Type 0 = Each (λ i. 0 < keyOf i) in
       let both = each-append (λ i. 0 < keyOf i) in
@@ -182,5 +181,5 @@ module _ (p : Profile) (t : GridTable) (good : gridTableGood instancesMost p t �
       (λ _. tt))))
 
   -- so they ascend as a run of instances does
-  pub instances-up : Up keyOf 0 (gridInstances (t .grid))
-  instances-up = ascending-up 0 (gridInstances (t .grid)) keys-some instances-ascend
+  pub instances-up : Up keyOf 0 (holds (t .grid))
+  instances-up = ascending-up 0 (holds (t .grid)) keys-some instances-ascend

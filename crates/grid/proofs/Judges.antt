@@ -44,11 +44,11 @@ passes-both true e v h = absurd (apart e (sym h))
 passes-both false e v h = (refl, h)
 
 -- no test holds
-abbrev NoneHolds : List (Test ℕ) → Type 0
+abbrev pub NoneHolds : List (Test ℕ) → Type 0
 NoneHolds [] = Unit {0}
 NoneHolds (t ∷ ts) = (t .holds ≡ false) × NoneHolds ts
 
-none-holds : (ts : List (Test ℕ)) → firstError ts ≡ none → NoneHolds ts
+pub none-holds : (ts : List (Test ℕ)) → firstError ts ≡ none → NoneHolds ts
 none-holds [] h = tt
 none-holds (t ∷ ts) h =
     let b = passes-both (t .holds) (t .number) (firstError ts) h in (b .0, none-holds ts (b .1))

@@ -1,3 +1,4 @@
+pub mod Gathers
 pub mod Cells
 pub mod Rows
 pub mod Listings
@@ -17,7 +18,22 @@ pub mod InstanceOrders
 pub mod InstanceCounts
 pub mod PlacedCells
 pub mod PlacedOrders
+pub mod PlacedGoods
 pub mod WrittenInstances
 pub mod ReadTables
 pub mod TableTrips
 pub mod WrittenSheets
+pub mod ProfilePlaces
+pub mod FoundCells
+pub mod HeldGoods
+pub mod HeldChanges
+pub mod HeldListings
+pub mod HeldRequests
+pub mod SameSelections
+pub mod SameJudges
+pub mod SameSteps
+pub mod SameArrivals
+pub mod SameTables
+pub mod SameCalls
+pub mod SameSheets
+pub mod Equals

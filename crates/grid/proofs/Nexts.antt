@@ -27,13 +27,13 @@ use Rattle.answers.specs.declared.answer.Whose.the-variants.{Null, Own}
 use Rattle.answers.proofs.Fits.{answer-most}
 use Rattle.exchange.proofs.Nexts.{Moves, error, result}
 use Rattle.exchange.proofs.Questions.{AtOnce, reject, silence}
+use Rattle.grid.specs.Grid.{GridShaped}
 use Rattle.grid.specs.Arrive.{GridDone, gridAnswered, gridDone, gridRefused}
 use Rattle.grid.specs.Step.{GridStep, gridStep}
 use Rattle.grid.specs.Table.{GridTable, gridTableGood}
 use Rattle.grid.proofs.Arrivals.{step-fits}
 use Rattle.grid.proofs.HandledRequests.{gridChanged, handled-good, handled-ind, handled-shaped}
 use Rattle.grid.proofs.Questions.{step-ind}
-use Rattle.grid.proofs.Shapes.{GridShaped}
 use Rattle.grid.proofs.Tables.{moved-grid, moved-last}
 
 -- silence and rejects are no such answers as move the last handled identifier

@@ -11,15 +11,16 @@ use borrow.Author.Tests.{eq-eqb, eqb-false, eqb-true, lt-ltb, ltb-true}
 use Rattle.laws.specs.Tests.{all}
 use Rattle.laws.proofs.Picks.{by-bool, pick-last, pick-then}
 use Rattle.codes.specs.Codes.{placeOf}
+use Rattle.numbers.specs.Address.{addressGood}
 use Rattle.profile.specs.Profile.{profileGood, servicesMost, subscribedServices}
 use Rattle.profile.specs.declared.profile.Profile.{Profile}
 use Rattle.profile.proofs.Profiles.{good-profile}
 use Rattle.instances.specs.declared.instance.Instance.{Instance}
-use Rattle.grid.specs.Grid.{Grid, gridProcedures, noGrid, rowAt}
+use Rattle.grid.specs.Grid.{Grid, GridShaped, gridProcedures, noGrid, rowAt}
 use Rattle.grid.specs.Row.{Row, active, cellAt, cellOf, noCell, numberOfPlace, outside, places, serviceOfPlace}
 use Rattle.grid.specs.Sheets.{gridAllIn, gridInProfile, placeOfInstance, gridPlaced}
 use Rattle.grid.proofs.Cells.{not-active}
-use Rattle.grid.proofs.Shapes.{GridShaped, none-row}
+use Rattle.grid.proofs.Shapes.{none-row}
 
 -- ---- instances of a profile
 
@@ -54,6 +55,13 @@ pub all-parts :
     (p : Profile) (i : Instance) (is : List Instance) → gridAllIn p (i ∷ is) ≡ true → (gridInProfile p i ≡ true) × (gridAllIn p is ≡ true)
 unfolding gridAllIn
 all-parts p i is h = pick-then (gridInProfile p i) (gridAllIn p is) h
+
+-- what an instance must be to stand in a cell, whatever the profile
+pub record Holdable (i : Instance) : Type 0 where
+  pub procedure : i .procedure < gridProcedures
+  pub some : i .service ≡ 0 → ⊥
+  pub small : i .service < 256
+  pub address : addressGood (i .address) ≡ true
 
 -- a good profile has few numbers and services
 module _ (p : Profile) (profile : profileGood p ≡ true) (i : Instance) (fits : Fitting p i) where

@@ -1,73 +1,33 @@
 -- The instances of a grid on which instances were placed in their order: exactly these. Assumes nothing.
-use Prim.Native.Nat.{_*_, _+_, _<_, _≤_, suc, zero, ℕ}
-use mathlib.Core.Bool.{false≢true, not, true}
+use Prim.Native.Nat.{_*_, _+_, _<_, _≤_, suc, ℕ}
+use mathlib.Core.Bool.{false≢true, true}
 use mathlib.Core.List.{List, [], _++_, _∷_, append-assoc, append-nil}
 use mathlib.Core.Logic.{⊎-elim}
 use mathlib.Core.Path.{_∙_, _≡_, ap, refl, sym}
-use native.Mathlib.Nat.{eq-or-lt-of-le}
 use native.Mathlib.Omega.{arith}
 use lib.Dec.{eqb}
 use lib.ListN.{length, length-take}
 use borrow.Author.Tests.{eqb-false, eqb-true, ne-eqb}
-use Rattle.laws.specs.Places.{gathered}
 use Rattle.laws.proofs.Chosen.{gathered-same}
 use Rattle.laws.proofs.Eaches.{Each, Up}
-use Rattle.laws.proofs.Picks.{by-bool, not-passed, pick-ind, pick-then}
-use Rattle.laws.proofs.Walks.{gathered-ind, gathered-more}
+use Rattle.laws.proofs.Picks.{by-bool, pick-ind}
 use Rattle.profile.specs.Profile.{profileGood, servicesMost, subscribedServices}
 use Rattle.profile.specs.declared.profile.Profile.{Profile}
 use Rattle.profile.proofs.Profiles.{good-profile}
 use Rattle.profile.proofs.Rising.{rising-order}
 use Rattle.instances.specs.Instance.{keyOf}
 use Rattle.instances.specs.declared.instance.Instance.{Instance}
-use Rattle.forms.specs.Form.{form1}
-use Rattle.forms.proofs.Fits.{FieldsFit}
-use Rattle.forms.proofs.Readers.{service-few}
 use Rattle.instances.proofs.Keys.{key-earlier}
-use Rattle.grid.specs.Grid.{Grid, gridProcedures, noGrid, rowAt}
+use Rattle.grid.specs.Grid.{Grid, GridShaped, gridProcedures, noGrid, rowAt}
 use Rattle.grid.specs.Row.{active, numberOfPlace, places}
-use Rattle.grid.specs.Sheets.{allPlaced, gridAllIn, gridInstances, placeInstances, placeOfInstance, gridPlaced}
+use Rattle.grid.specs.Holds.{holds, placeInstances}
+use Rattle.grid.specs.Sheets.{allPlaced, gridAllIn, placeOfInstance, gridPlaced}
 use Rattle.grid.proofs.Cells.{active-same}
-use Rattle.grid.proofs.PlacedCells.{Fitting, all-parts, cell-else, cell-here, few-numbers, few-services, fitting, none-there, place-inside}
-use Rattle.grid.proofs.PlacedCells.{place-number, placed-shaped}
+use Rattle.grid.proofs.Gathers.{gathered-last, gathered-nothing}
+use Rattle.grid.proofs.PlacedCells.{Fitting, Holdable, all-parts, cell-else, cell-here, few-numbers}
+use Rattle.grid.proofs.PlacedCells.{few-services, fitting, none-there, place-inside, place-number, placed-shaped}
 use Rattle.grid.proofs.RowInstances.{cellInstances, place-same, rowOf, rows-all}
-use Rattle.grid.proofs.Shapes.{GridShaped, shaped-none}
-
--- ---- what is gathered
-
--- one place gives something more at its end, and the places after it give nothing
-gathered-last :
-    {A : Type 0} (f g : ℕ → List A) (n m : ℕ) (xs : List A) → m < n → ((j : ℕ) → j < n → (j ≡ m → ⊥) → g j ≡ f j) →
-    g m ≡ f m ++ xs →
-    ((j : ℕ) → m < j → j < n → f j ≡ []) →
-    gathered g n ≡ gathered f n ++ xs
-gathered-last f g zero m xs lt same here silent = absurd (omega arith)
-gathered-last f g (suc n) m xs lt same here silent =
-    ⊎-elim
-    (λ (last : m ≡ n).
-    gathered-more g n
-    ∙ rw (
-      gathered-same g f n (λ j less. same j (omega arith) (λ e. omega arith)),
-      rw last at here,
-      gathered-more f n,
-      append-assoc (gathered f n) (f n) xs,
-    ))
-    (λ (less : m < n).
-    let none : f n ≡ [] = silent n less (omega arith) in
-    gathered-more g n
-    ∙ rw (
-      gathered-last f g n m xs less (λ j h. same j (omega arith)) here (λ j up h. silent j up (omega arith)),
-      same n (omega arith) (λ e. omega arith),
-      none,
-      gathered-more f n,
-      none,
-      append-nil (gathered f n ++ xs),
-      append-nil (gathered f n),
-    ))
-    (eq-or-lt-of-le (omega arith))
-
-gathered-nothing : {A : Type 0} (f : ℕ → List A) (n : ℕ) → ((j : ℕ) → j < n → f j ≡ []) → gathered f n ≡ []
-gathered-nothing f n h = gathered-ind (λ xs. xs ≡ []) refl (λ xs ys a b. rw (a, b)) f n h
+use Rattle.grid.proofs.Shapes.{shaped-none}
 
 -- ---- places in the order of procedures
 
@@ -86,11 +46,18 @@ silent grid n k j behind h lt after =
     (λ there. absurd (omega (arith, after, behind k j h lt there)))
     (λ _. refl)
 
-nothing-placed : (grid : Grid) → Behind grid 0 → gridInstances grid ≡ []
+nothing-placed : (grid : Grid) → Behind grid 0 → holds grid ≡ []
 nothing-placed grid behind =
     rows-all grid
     ∙ gathered-nothing (rowOf grid) gridProcedures (λ k h.
     gathered-nothing (placeInstances k (rowAt grid k)) places (λ j lt. silent grid 0 k j behind h lt (omega arith)))
+
+-- a fresh grid holds none
+none-behind : Behind noGrid 0
+none-behind k j h lt there = absurd (false≢true (sym (none-there k j h lt) ∙ there))
+
+pub fresh-none : holds noGrid ≡ []
+fresh-none = nothing-placed noGrid none-behind
 
 -- ---- one instance more, after all others
 
@@ -140,7 +107,7 @@ module _ (p : Profile) (profile : profileGood p ≡ true) (grid : Grid) (shaped 
       same-place l j (λ e. absurd (other e)))
 
   -- it comes last
-  one-more : gridInstances more ≡ gridInstances grid ++ (i ∷ [])
+  one-more : holds more ≡ holds grid ++ (i ∷ [])
   one-more =
       rows-all more
       ∙ gathered-last (rowOf grid) (rowOf more) gridProcedures k (i ∷ []) inside (λ l _. other-row l) its-row
@@ -166,11 +133,19 @@ module _ (p : Profile) (profile : profileGood p ≡ true) where
   Lined n [] = Unit {0}
   Lined n (i ∷ is) = Fitting p i × (i .service ≡ 0 → ⊥) × (n ≤ rank p i) × Lined (suc (rank p i)) is
 
+  -- the grid of fitting instances is whole
+  lined-shaped : (grid : Grid) (n : ℕ) (is : List Instance) → GridShaped grid → Lined n is → GridShaped (allPlaced p grid is)
+  unfolding allPlaced
+  lined-shaped grid n [] shaped lined = shaped
+  lined-shaped grid n (i ∷ is) shaped lined =
+      lined-shaped (gridPlaced p grid i) (suc (rank p i)) is
+      (placed-shaped p grid shaped i (lined .0 .procedure) (place-inside p profile i (lined .0))) (lined .3)
+
   lined-placed :
       (grid : Grid) (n : ℕ) (is : List Instance) → GridShaped grid → Behind grid n → Lined n is →
-      gridInstances (allPlaced p grid is) ≡ gridInstances grid ++ is
+      holds (allPlaced p grid is) ≡ holds grid ++ is
   unfolding allPlaced
-  lined-placed grid n [] shaped behind lined = sym (append-nil (gridInstances grid))
+  lined-placed grid n [] shaped behind lined = sym (append-nil (holds grid))
   lined-placed grid n (i ∷ is) shaped behind lined =
       let fits = lined .0 in
       let its-room = place-inside p profile i fits in
@@ -178,11 +153,11 @@ module _ (p : Profile) (profile : profileGood p ≡ true) where
       lined-placed (gridPlaced p grid i) (suc (rank p i)) is (placed-shaped p grid shaped i (fits .procedure) its-room)
       (behind-more p profile grid shaped i fits (lined .1) up) (lined .3)
       ∙ ap (λ (l : List Instance). l ++ is) (one-more p profile grid shaped i fits (lined .1) up)
-      ∙ append-assoc (gridInstances grid) (i ∷ []) is
+      ∙ append-assoc (holds grid) (i ∷ []) is
 
   module _ (long : length (p .services) ≡ servicesMost) where
     -- of two of the profile, the one with the lower key has the earlier place
-    rank-order : (i k : Instance) → Fitting p i → Fitting p k → k .service ≤ 42 → keyOf i < keyOf k → rank p i < rank p k
+    rank-order : (i k : Instance) → Fitting p i → Fitting p k → k .service < 256 → keyOf i < keyOf k → rank p i < rank p k
     rank-order i k a b code first =
         let so = good-profile p profile in
         let count : length (subscribedServices p) ≡ p .servicecount =
@@ -204,31 +179,28 @@ module _ (p : Profile) (profile : profileGood p ≡ true) where
         (key-earlier (i .procedure) (i .number) (i .service) (k .procedure) (k .number) (k .service)
         (omega (arith, few-numbers p profile k b)) (omega (arith, code)) first)
 
-    service-some : (i : Instance) → FieldsFit form1 i → i .service ≡ 0 → ⊥
-    service-some i fits e =
-        eqb-false (i .service) 0 (not-passed _ (pick-then (not (eqb (i .service) 0)) _ (fits .service) .0)) e
-
     lined-after :
-        (i : Instance) (is : List Instance) → Fitting p i → Up keyOf (keyOf i) is → Each (FieldsFit form1) is → gridAllIn p is ≡ true →
+        (i : Instance) (is : List Instance) → Fitting p i → Up keyOf (keyOf i) is → Each Holdable is → gridAllIn p is ≡ true →
         Lined (suc (rank p i)) is
     lined-after i [] fits asc each all = tt
     lined-after i (k ∷ ks) fits asc each all =
         let parts = all-parts p k ks all in
         let next = fitting p k (each .0 .procedure) (parts .0) in
-        let code = service-few (k .service) (each .0 .service) in
-        (next, service-some k (each .0), rank-order i k fits next code (asc .0), lined-after k ks next (asc .1) (each .1) (parts .1))
+        (next, each .0 .some, rank-order i k fits next (each .0 .small) (asc .0), lined-after k ks next (asc .1) (each .1) (parts .1))
 
-    lined : (is : List Instance) → Up keyOf 0 is → Each (FieldsFit form1) is → gridAllIn p is ≡ true → Lined 0 is
+    lined : (is : List Instance) → Up keyOf 0 is → Each Holdable is → gridAllIn p is ≡ true → Lined 0 is
     lined [] asc each all = tt
     lined (i ∷ is) asc each all =
         let parts = all-parts p i is all in
         let first = fitting p i (each .0 .procedure) (parts .0) in
-        (first, service-some i (each .0), omega arith, lined-after i is first (asc .1) (each .1) (parts .1))
+        (first, each .0 .some, omega arith, lined-after i is first (asc .1) (each .1) (parts .1))
 
     -- instances that ascend and are in the profile are those of the grid on which they are placed
     pub placed-instances :
-        (is : List Instance) → Up keyOf 0 is → Each (FieldsFit form1) is → gridAllIn p is ≡ true → gridInstances (allPlaced p noGrid is) ≡ is
+        (is : List Instance) → Up keyOf 0 is → Each Holdable is → gridAllIn p is ≡ true → holds (allPlaced p noGrid is) ≡ is
     placed-instances is asc each all =
-        let behind : Behind noGrid 0 = λ k j h lt there. absurd (false≢true (sym (none-there k j h lt) ∙ there)) in
-        lined-placed noGrid 0 is shaped-none behind (lined is asc each all)
-        ∙ ap (λ (l : List Instance). l ++ is) (nothing-placed noGrid behind)
+        lined-placed noGrid 0 is shaped-none none-behind (lined is asc each all) ∙ ap (λ (l : List Instance). l ++ is) fresh-none
+
+    pub all-shaped :
+        (is : List Instance) → Up keyOf 0 is → Each Holdable is → gridAllIn p is ≡ true → GridShaped (allPlaced p noGrid is)
+    all-shaped is asc each all = lined-shaped noGrid 0 is shaped-none (lined is asc each all)

@@ -26,7 +26,7 @@ use Rattle.answers.specs.Answer.{answerNo, answerValues}
 use Rattle.answers.specs.declared.answer.Answer.{Answer}
 use Rattle.answers.specs.declared.answer.Answer.the-variants.{Error, Listing, Result}
 use Rattle.rules.specs.Judge.{everyTests, firstError}
-use Rattle.grid.specs.Grid.{Grid, gridProcedures, rowAt}
+use Rattle.grid.specs.Grid.{Grid, GridShaped, gridProcedures, rowAt}
 use Rattle.grid.specs.Judge.{gridApplied, gridJudge}
 use Rattle.grid.specs.Row.{Row, active, entryOfPlace, gridSelected, held, places}
 use Rattle.grid.specs.Selection.{cellPlaces, gridConcerns, gridSelects}
@@ -38,7 +38,7 @@ use Rattle.grid.proofs.Judges.{applied-activation, applied-deactivation
 use Rattle.grid.proofs.Listings.{active-none, entries-places, none-active}
 use Rattle.grid.proofs.Rows.{held-clear, held-put}
 use Rattle.grid.proofs.Selections.{selected-selects}
-use Rattle.grid.proofs.Shapes.{GridShaped, row-set}
+use Rattle.grid.proofs.Shapes.{row-set}
 use Rattle.grid.proofs.Tables.{moved-grid}
 
 pick-each :

@@ -1,32 +1,32 @@
 -- The instances that a grid gives a night sheet, place by place and row by row; and of a table that breaks no rule: at most 24, each of
 -- one of the sixteen services. Assumes nothing.
-use Prim.Native.Nat.{_*_, _<_, _≤_, suc, zero, ℕ}
-use mathlib.Core.Bool.{Bool, true}
+use Prim.Native.Nat.{_*_, _<_, _≤_, ℕ}
+use mathlib.Core.Bool.{true}
 use mathlib.Core.List.{List, [], _∷_, map}
-use mathlib.Core.Path.{_≡_, refl}
-use native.Mathlib.Nat.{mul-suc}
+use mathlib.Core.Path.{_∙_, _≡_, ap, refl, sym}
 use native.Mathlib.Omega.{arith}
 use lib.Dec.{eqb}
-use lib.ListN.{getD, length, length-append, length-take}
+use lib.ListN.{getD, length, length-take}
 use lib.Seq.{getD-take}
 use borrow.Author.Tests.{eqb-false, eqb-true}
 use Rattle.laws.specs.Pick.{pick}
 use Rattle.laws.specs.Places.{countTo, gathered, placesWhere}
 use Rattle.laws.proofs.Chosen.{gathered-places}
-use Rattle.laws.proofs.Picks.{pick-ind, pick-map}
-use Rattle.laws.proofs.Walks.{count-more, count-none, gathered-more, gathered-none}
+use Rattle.laws.proofs.Picks.{pick-ind}
+use Rattle.codes.specs.Codes.{placeOf, serviceCode}
 use Rattle.codes.proofs.Tables.{service-most}
 use Rattle.profile.specs.Profile.{profileGood, servicesMost, subscribedServices}
 use Rattle.profile.specs.declared.profile.Profile.{Profile}
 use Rattle.profile.proofs.Profiles.{good-profile}
-use Rattle.profile.proofs.Rising.{rising-code}
+use Rattle.profile.proofs.Rising.{rising-code, rising-place}
 use Rattle.lists.specs.Entries.{instancesMost}
 use Rattle.instances.specs.declared.instance.Instance.{Instance}
 use Rattle.grid.specs.Grid.{Grid, gridProcedures, rowAt}
 use Rattle.grid.specs.Row.{Cell, Row, active, cellAt, numberOfPlace, places, serviceOfPlace}
-use Rattle.grid.specs.Sheets.{gridInstances, placeInstances, rowInstances}
+use Rattle.grid.specs.Holds.{holds, placeInstances, rowInstances}
 use Rattle.grid.specs.Table.{GridTable, gridTableGood}
 use Rattle.grid.proofs.Cells.{is-active, not-active}
+use Rattle.grid.proofs.Gathers.{gathered-count, gathered-each}
 use Rattle.grid.proofs.Rows.{Ruled, good-few}
 use Rattle.grid.proofs.Tables.{table-row}
 
@@ -54,19 +54,6 @@ place-same procedure row j = place-cell row j _
 
 -- ---- how many instances there are
 
--- as many things as places that pass a test
-gathered-count :
-    {A : Type 0} (f : ℕ → Bool) (g : ℕ → A) (n : ℕ) → length (gathered (λ j. pick (f j) (g j ∷ []) []) n) ≡ countTo f n
-gathered-count f g zero = rw (gathered-none (λ j. pick (f j) (g j ∷ []) []), count-none f)
-gathered-count f g (suc n) =
-    rw (
-      gathered-more (λ j. pick (f j) (g j ∷ []) []) n,
-      length-append (gathered (λ j. pick (f j) (g j ∷ []) []) n) (pick (f n) (g n ∷ []) []),
-      gathered-count f g n,
-      count-more f n,
-      pick-map length (f n) (g n ∷ []) [],
-    )
-
 pub row-count : (procedure : ℕ) (row : Row) → length (rowInstances procedure row) ≡ countTo (active row) places
 row-count procedure row = gathered-count (active row) _ places
 
@@ -77,8 +64,8 @@ rowOf grid k = rowInstances k (rowAt grid k)
 abbrev pub rowsTo : Grid → ℕ → List Instance
 rowsTo grid = gathered (rowOf grid)
 
-pub rows-all : (grid : Grid) → gridInstances grid ≡ rowsTo grid gridProcedures
-unfolding gridInstances
+pub rows-all : (grid : Grid) → holds grid ≡ rowsTo grid gridProcedures
+unfolding holds
 rows-all grid = refl
 
 -- one for each place that is active, in order
@@ -90,11 +77,29 @@ pub row-places :
     (placesWhere (active row) places)
 row-places k row = gathered-places (active row) _ places
 
-gathered-each : {A : Type 0} (c : ℕ) (f : ℕ → List A) (n : ℕ) → ((k : ℕ) → k < n → length (f k) ≤ c) → length (gathered f n) ≤ c * n
-gathered-each c f zero h = rw (gathered-none f) (omega arith)
-gathered-each c f (suc n) h =
-    rw (gathered-more f n, mul-suc c n)
-    (omega (arith, length-append (gathered f n) (f n), h n (omega arith), gathered-each c f n (λ k lt. h k (omega arith))))
+-- ---- the service of an instance that the rules allow
+
+module _ (p : Profile) (profile : profileGood p ≡ true) (long : length (p .services) ≡ servicesMost) where
+  module _ (k j : ℕ) (x : Cell) (ruled : Ruled p k j x) where
+    pub slot-inside : serviceOfPlace j < length (subscribedServices p)
+    slot-inside = omega (arith, long, ruled .slot, good-profile p profile .services-few, length-take (p .servicecount) (p .services))
+
+    -- it stands among those subscribed at the slot of its place ..
+    pub code-is : getD (subscribedServices p) (serviceOfPlace j) 0 ≡ x .service
+    code-is = getD-take (p .servicecount) (p .services) (serviceOfPlace j) 0 (ruled .slot) ∙ sym (ruled .service)
+
+    -- .. and nowhere else
+    pub slot-is : placeOf (x .service) (subscribedServices p) ≡ serviceOfPlace j
+    slot-is =
+        ap (λ (c : ℕ). placeOf c (subscribedServices p)) (sym code-is)
+        ∙ rising-place 0 (subscribedServices p) (serviceOfPlace j) (good-profile p profile .rises) slot-inside
+
+    -- it is one of the sixteen
+    pub service-known : serviceCode (x .service) ≡ true
+    service-known = rw code-is at (rising-code 0 (subscribedServices p) (serviceOfPlace j) (good-profile p profile .rises) slot-inside)
+
+    pub service-small : x .service < 128
+    service-small = omega (arith, service-most (x .service) service-known)
 
 -- ---- a table that breaks no rule
 
@@ -104,19 +109,8 @@ SubOctets t = (k j i : ℕ) → getD (cellAt (rowAt (t .grid) k) j .address .sub
 
 module _ (p : Profile) (t : GridTable) (good : gridTableGood instancesMost p t ≡ true) where
   -- "at most 8 for each procedure": at most 24
-  pub instances-few : length (gridInstances (t .grid)) ≤ instancesMost * gridProcedures
+  pub instances-few : length (holds (t .grid)) ≤ instancesMost * gridProcedures
   instances-few =
       rw (rows-all (t .grid))
       (gathered-each instancesMost (rowOf (t .grid)) gridProcedures (λ k h.
       omega (arith, row-count k (rowAt (t .grid) k), good-few instancesMost p k (rowAt (t .grid) k) (table-row instancesMost p t good k h))))
-
-  module _ (profile : profileGood p ≡ true) (long : length (p .services) ≡ servicesMost) where
-    -- the service of an instance is one of the sixteen
-    pub service-small : (k j : ℕ) (x : Cell) → Ruled p k j x → x .service < 128
-    service-small k j x ruled =
-        let so = good-profile p profile in
-        let slot : ℕ = serviceOfPlace j in
-        let here : getD (subscribedServices p) slot 0 ≡ getD (p .services) slot 0 = getD-take (p .servicecount) (p .services) slot 0 (ruled .slot) in
-        let inside : slot < length (subscribedServices p) =
-        omega (arith, ruled .slot, so .services-few, length-take (p .servicecount) (p .services)) in
-        omega (arith, here, ruled .service, service-most (getD (subscribedServices p) slot 0) (rising-code 0 (subscribedServices p) slot (so .rises) inside))

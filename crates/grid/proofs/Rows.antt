@@ -113,7 +113,7 @@ module _ (w : Places) (address : Address) (row : Row) where
 
 -- ---- a row that is cleared
 
-pick-same : {A : Type 0} (b : Bool) (x : A) → x ≡ pick b x x
+pub pick-same : {A : Type 0} (b : Bool) (x : A) → x ≡ pick b x x
 pick-same true x = refl
 pick-same false x = refl
 

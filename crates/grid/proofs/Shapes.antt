@@ -12,18 +12,13 @@ use Rattle.laws.specs.Pick.{pick}
 use Rattle.laws.proofs.Picks.{pick-ind}
 use Rattle.requests.specs.declared.request.Request.{Request}
 use Rattle.profile.specs.declared.profile.Profile.{Profile}
-use Rattle.grid.specs.Grid.{Grid, gridProcedures, noGrid, noRow, rowAt}
+use Rattle.grid.specs.Grid.{GridShaped, gridProcedures, noGrid, noRow, rowAt}
 use Rattle.grid.specs.Judge.{gridApplied}
 use Rattle.grid.specs.Row.{Places, Row, places}
 use Rattle.grid.specs.Step.{gridMoved}
 use Rattle.grid.specs.Table.{GridTable, gridWithRow}
 use Rattle.grid.proofs.Judges.{applied-ind}
 use Rattle.grid.proofs.Rows.{cells-clear, cells-put}
-
--- a row for each procedure, a cell for each place
-pub record GridShaped (grid : Grid) : Type 0 where
-  pub rows : length (grid .rows) ≡ gridProcedures
-  pub cells : (k : ℕ) → k < gridProcedures → length (rowAt grid k .cells) ≡ places
 
 -- a grid that holds nothing
 pub none-row : (k : ℕ) → k < gridProcedures → rowAt noGrid k ≡ noRow

@@ -27,14 +27,15 @@ use Rattle.forms.specs.Form.{form1}
 use Rattle.forms.specs.Sheet.{sheetOctets}
 use Rattle.forms.proofs.Fits.{form1-short, tidy-twice, tidyInstance}
 use Rattle.forms.proofs.Trips.{sheet-back}
-use Rattle.grid.specs.Grid.{Grid, gridProcedures, noGrid, rowAt}
+use Rattle.grid.specs.Grid.{Grid, GridShaped, gridProcedures, noGrid, rowAt}
 use Rattle.grid.specs.Row.{Cell, Row, active, cellAt, held, places}
-use Rattle.grid.specs.Sheets.{GridTableRead, allPlaced, gridInstance, gridInstances, gridReadSheet, placeInstances, placeOfInstance, gridPlaced}
+use Rattle.grid.specs.Holds.{gridInstance, holds, placeInstances}
+use Rattle.grid.specs.Sheets.{GridTableRead, allPlaced, gridReadSheet, placeOfInstance, gridPlaced}
 use Rattle.grid.specs.Table.{GridTable, gridTableGood}
 use Rattle.grid.proofs.Cells.{active-some, held-none, held-same, held-some, is-active}
 use Rattle.grid.proofs.PlacedCells.{cell-else, cell-here, none-there, placed-shaped}
 use Rattle.grid.proofs.RowInstances.{rowOf, rows-all}
-use Rattle.grid.proofs.Shapes.{GridShaped, shaped-none}
+use Rattle.grid.proofs.Shapes.{shaped-none}
 use Rattle.grid.proofs.WrittenInstances.{GridArrays, one-place, table-all, table-sheeted}
 
 -- ---- places in the order of procedures
@@ -167,14 +168,14 @@ module _ (p : Profile) (t : GridTable) (good : gridTableGood instancesMost p t �
       (rw (add-zero (places * k)) so)
       (λ j g lt now. copied-place k j h lt g now))
 
-  copied-all : Copied t (places * gridProcedures) (allPlaced p noGrid (map tidyInstance (gridInstances (t .grid))))
+  copied-all : Copied t (places * gridProcedures) (allPlaced p noGrid (map tidyInstance (holds (t .grid))))
   copied-all =
       rw (rows-all (t .grid))
       (placed-gathered p (λ k g. Copied t (places * k) g) (rowOf (t .grid)) gridProcedures noGrid (copied-none t) copied-row)
 
   all-held :
       (k j : ℕ) → k < gridProcedures → j < places →
-      held (rowAt (allPlaced p noGrid (map tidyInstance (gridInstances (t .grid)))) k) j ≡ held (rowAt (t .grid) k) j
+      held (rowAt (allPlaced p noGrid (map tidyInstance (holds (t .grid)))) k) j ≡ held (rowAt (t .grid) k) j
   all-held k j h lt =
       copied-all .holds k j h lt ∙ rw (lt-ltb (places * k + j) (places * gridProcedures) (omega (arith, h, lt)))
 
@@ -194,17 +195,17 @@ pub record GridReadsAs (access s : List ℕ) (t : GridTable) : Type 0 where
 pub table-back :
     (access : List ℕ) (t : GridTable) → accessRead access .ok ≡ true → gridTableGood instancesMost (accessRead access .profile) t ≡ true →
     GridArrays t →
-    GridReadsAs access (sheetOctets form1 (t .last) (gridInstances (t .grid))) t
+    GridReadsAs access (sheetOctets form1 (t .last) (holds (t .grid))) t
 unfolding gridReadSheet
 table-back access t ok good arrays =
     let p : Profile = accessRead access .profile in
     let profile = access-good access ok in
     let long = access-services access in
-    let s : List ℕ = sheetOctets form1 (t .last) (gridInstances (t .grid)) in
+    let s : List ℕ = sheetOctets form1 (t .last) (holds (t .grid)) in
     let so = table-sheeted p t good profile long arrays in
     let found =
-    sheet-back form1 form1-short (t .last) (gridInstances (t .grid)) s (so .last) (so .each) (so .order) (stands-whole s) refl in
-    let again : GridTable = record { last = t .last; grid = allPlaced p noGrid (map tidyInstance (gridInstances (t .grid))) } in
+    sheet-back form1 form1-short (t .last) (holds (t .grid)) s (so .last) (so .each) (so .order) (stands-whole s) refl in
+    let again : GridTable = record { last = t .last; grid = allPlaced p noGrid (map tidyInstance (holds (t .grid))) } in
     let is : gridReadSheet access s ≡ record { told = tells tt; table = again } = rw (ok, found, table-all p t good profile long) in
     record {
       accepted = ap (λ (r : GridTableRead). r .told) is;

@@ -3,21 +3,17 @@
 use Prim.Native.Nat.{_<_, _≤_, ℕ}
 use mathlib.Core.Bool.{true}
 use mathlib.Core.List.{List, [], _++_, _∷_, map, map-append}
-use mathlib.Core.Path.{_∙_, _≡_, ap, refl, sym}
+use mathlib.Core.Path.{_≡_, refl}
 use native.Mathlib.Omega.{arith}
-use lib.ListN.{getD, length, length-take}
-use lib.Seq.{getD-take}
+use lib.ListN.{length}
 use borrow.Author.Tests.{lt-ltb, ne-eqb}
 use Rattle.laws.proofs.Eaches.{Each, each-append}
 use Rattle.laws.proofs.Picks.{pick-ind, pick-then}
 use Rattle.laws.proofs.Walks.{gathered-ind}
-use Rattle.codes.specs.Codes.{placeOf, serviceCode}
 use Rattle.codes.proofs.Tables.{service-most}
 use Rattle.numbers.specs.Number.{most}
-use Rattle.profile.specs.Profile.{profileGood, servicesMost, subscribedServices}
+use Rattle.profile.specs.Profile.{profileGood, servicesMost}
 use Rattle.profile.specs.declared.profile.Profile.{Profile}
-use Rattle.profile.proofs.Profiles.{good-profile}
-use Rattle.profile.proofs.Rising.{rising-code, rising-place}
 use Rattle.lists.specs.Entries.{instancesMost}
 use Rattle.instances.specs.Run.{countOf}
 use Rattle.instances.specs.declared.instance.Instance.{Instance}
@@ -31,14 +27,15 @@ use Rattle.forms.proofs.Fits.{FieldsFit, form1-short, held-is, order-is, tidyIn
 use Rattle.forms.proofs.Sheets.{Allowed}
 use Rattle.forms.proofs.Sizes.{sheet-most}
 use Rattle.grid.specs.Grid.{gridProcedures, rowAt}
-use Rattle.grid.specs.Row.{active, cellAt, places, serviceOfPlace}
-use Rattle.grid.specs.Sheets.{gridAllIn, gridInProfile, gridInstance, gridInstances, placeInstances, placeOfInstance}
+use Rattle.grid.specs.Row.{active, cellAt, places}
+use Rattle.grid.specs.Holds.{gridInstance, holds, placeInstances}
+use Rattle.grid.specs.Sheets.{gridAllIn, gridInProfile, placeOfInstance}
 use Rattle.grid.specs.Table.{GridTable, gridTableGood}
 use Rattle.grid.proofs.Cells.{active-some}
 use Rattle.grid.proofs.InstanceCounts.{procedure-count}
 use Rattle.grid.proofs.InstanceOrders.{instances-up}
 use Rattle.grid.proofs.PlacedCells.{Fitting, fitting-in}
-use Rattle.grid.proofs.RowInstances.{SubOctets, instances-few, rowOf, rows-all}
+use Rattle.grid.proofs.RowInstances.{SubOctets, instances-few, rowOf, rows-all, service-known, slot-is}
 use Rattle.grid.proofs.Rows.{Ruled, active-rules, good-few}
 use Rattle.grid.proofs.Tables.{good-last, table-row}
 
@@ -67,32 +64,20 @@ module _ (p : Profile) (t : GridTable) (good : gridTableGood instancesMost p t �
     rules : Ruled p k j (cellAt (rowAt (t .grid) k) j)
     rules = active-rules instancesMost p k (rowAt (t .grid) k) (table-row instancesMost p t good k h) j lt there
 
-    slot-inside : serviceOfPlace j < length (subscribedServices p)
-    slot-inside = omega (arith, long, rules .slot, good-profile p profile .services-few, length-take (p .servicecount) (p .services))
-
-    code-is : getD (subscribedServices p) (serviceOfPlace j) 0 ≡ one .service
-    code-is = getD-take (p .servicecount) (p .services) (serviceOfPlace j) 0 (rules .slot) ∙ sym (rules .service)
-
-    pub slot-is : placeOf (one .service) (subscribedServices p) ≡ serviceOfPlace j
-    slot-is =
-        ap (λ (c : ℕ). placeOf c (subscribedServices p)) (sym code-is)
-        ∙ rising-place 0 (subscribedServices p) (serviceOfPlace j) (good-profile p profile .rises) slot-inside
-
     pub one-place : placeOfInstance p one ≡ j
-    one-place = omega (arith, slot-is)
+    one-place = omega (arith, slot-is p profile long k j (cellAt (rowAt (t .grid) k) j) rules)
 
     pub one-fitting : Fitting p one
     one-fitting = record {
       procedure = h;
       subscribed = rules .subscribed;
       number = rules .number;
-      slot = omega (arith, slot-is, rules .slot);
+      slot = omega (arith, slot-is p profile long k j (cellAt (rowAt (t .grid) k) j) rules, rules .slot);
     }
 
     one-service : serviceOf (one .service) ≡ true
     one-service =
-        let code : serviceCode (one .service) ≡ true =
-        rw code-is at (rising-code 0 (subscribedServices p) (serviceOfPlace j) (good-profile p profile .rises) slot-inside) in
+        let code = service-known p profile long k j (cellAt (rowAt (t .grid) k) j) rules in
         rw (
           ne-eqb (one .service) 0 (active-some (rowAt (t .grid) k) j there),
           lt-ltb (one .service) 256 (omega (arith, service-most (one .service) code)),
@@ -109,7 +94,7 @@ module _ (p : Profile) (t : GridTable) (good : gridTableGood instancesMost p t �
 
   -- ---- all of them
 
-  all-fit : GridArrays t → Each (FieldsFit form1) (gridInstances (t .grid))
+  all-fit : GridArrays t → Each (FieldsFit form1) (holds (t .grid))
   all-fit arrays =
       let AllFit : List Instance → Type 0 = Each (FieldsFit form1) in
       let both = each-append (FieldsFit form1) in
@@ -118,29 +103,29 @@ module _ (p : Profile) (t : GridTable) (good : gridTableGood instancesMost p t �
       gathered-ind AllFit tt both (placeInstances k (rowAt (t .grid) k)) places (λ j lt.
       pick-ind AllFit (active (rowAt (t .grid) k) j) (λ there. (one-fits k j h lt there arrays, tt)) (λ _. tt))))
 
-  few : (q : ℕ) → q < gridProcedures → countOf q (gridInstances (t .grid)) ≤ form1 .perprocedure
+  few : (q : ℕ) → q < gridProcedures → countOf q (holds (t .grid)) ≤ form1 .perprocedure
   few q lt =
       omega (arith, procedure-count (t .grid) q lt, good-few instancesMost p q (rowAt (t .grid) q) (table-row instancesMost p t good q lt))
 
   -- they are such as a sheet may hold
-  pub table-sheeted : GridArrays t → Allowed form1 (record { last = t .last; instances = gridInstances (t .grid) })
+  pub table-sheeted : GridArrays t → Allowed form1 (record { last = t .last; instances = holds (t .grid) })
   table-sheeted arrays =
-      let is : List Instance = gridInstances (t .grid) in
+      let is : List Instance = holds (t .grid) in
       record {
         last = good-last instancesMost p t good;
         each = all-fit arrays;
-        order = order-is form1 is (up-ascending 0 is (instances-up p t good profile long))
+        order = order-is form1 is (up-ascending 0 is (instances-up instancesMost p t good profile long))
             (few-is (form1 .perprocedure) is (few 0 (omega arith), few 1 (omega arith), few 2 (omega arith)));
       }
 
   -- "under .. 1,613 (sheet)": every sheet fits there
-  pub sheet-fits : GridArrays t → length (sheetOctets form1 (t .last) (gridInstances (t .grid))) ≤ sheetMost form1
+  pub sheet-fits : GridArrays t → length (sheetOctets form1 (t .last) (holds (t .grid))) ≤ sheetMost form1
   sheet-fits arrays =
-      sheet-most form1 form1-short (t .last) (gridInstances (t .grid)) (good-last instancesMost p t good) (all-fit arrays)
+      sheet-most form1 form1-short (t .last) (holds (t .grid)) (good-last instancesMost p t good) (all-fit arrays)
       (omega (arith, instances-few p t good))
 
   -- and in the profile, with zeros past their digits and octets too
-  pub table-all : gridAllIn p (map tidyInstance (gridInstances (t .grid))) ≡ true
+  pub table-all : gridAllIn p (map tidyInstance (holds (t .grid))) ≡ true
   unfolding gridAllIn gridInProfile
   table-all =
       let P : List Instance → Type 0 = λ is. gridAllIn p (map tidyInstance is) ≡ true in

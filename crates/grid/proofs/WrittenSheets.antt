@@ -18,7 +18,8 @@ use Rattle.forms.specs.Form.{form1}
 use Rattle.refusals.specs.Handling.{Made, made, notMade}
 use Rattle.forms.specs.Sheet.{sheetOctets}
 use Rattle.forms.specs.Size.{sheetMost}
-use Rattle.grid.specs.Sheets.{gridInstances, gridReadSheet, gridWroteSheet}
+use Rattle.grid.specs.Holds.{holds}
+use Rattle.grid.specs.Sheets.{gridReadSheet, gridWroteSheet}
 use Rattle.grid.specs.Table.{GridTable, gridTableGood}
 use Rattle.grid.proofs.ReadTables.{accepted-table, read-good, read-ok}
 use Rattle.grid.proofs.TableTrips.{GridReadsAs, table-back}
@@ -42,7 +43,7 @@ module _ (access : List ℕ) (t : GridTable) (size : ℕ) where
 
       pub writes-sheet :
           gridTableGood instancesMost (accessRead access .profile) t ≡ true →
-          gridWroteSheet access t size ≡ made (sheetOctets form1 (t .last) (gridInstances (t .grid)))
+          gridWroteSheet access t size ≡ made (sheetOctets form1 (t .last) (holds (t .grid)))
       unfolding gridWroteSheet
       writes-sheet good = rw (le-ltb size (sheetMost form1) room, ok, good)
 
@@ -66,7 +67,7 @@ module _ (access : List ℕ) (t : GridTable) (size : ℕ) (told : gridWroteSheet
       by-bool _ (gridTableGood instancesMost (accessRead access .profile) t) (λ e. e)
       (λ e. absurd (refuses-not _ tt (sym (ap (λ (w : Made). w .told) (writes-table access t size written-room written-ok e)) ∙ told)))
 
-  written-octets : gridWroteSheet access t size .octets ≡ sheetOctets form1 (t .last) (gridInstances (t .grid))
+  written-octets : gridWroteSheet access t size .octets ≡ sheetOctets form1 (t .last) (holds (t .grid))
   written-octets = ap (λ (w : Made). w .octets) (writes-sheet access t size written-room written-ok written-good)
 
   -- its sheet fits

@@ -1,9 +1,10 @@
 -- What a table or a picture holds in the first layout: a row for each procedure, and which grids break no rule (document 01, "Profile
 -- and table").
-use Prim.Native.Nat.{ℕ}
+use Prim.Native.Nat.{_<_, ℕ}
 use mathlib.Core.Bool.{Bool}
 use mathlib.Core.List.{List, []}
-use lib.ListN.{getD, replicate}
+use mathlib.Core.Path.{_≡_}
+use lib.ListN.{getD, length, replicate}
 use Rattle.laws.specs.Places.{everyTo}
 use Rattle.profile.specs.declared.profile.Profile.{Profile}
 use Rattle.grid.specs.Row.{Row, noCell, places, rowGood}
@@ -25,6 +26,11 @@ noGrid = record { rows = replicate gridProcedures noRow }
 -- the row of a procedure
 abbrev pub rowAt : Grid → ℕ → Row
 rowAt grid procedure = getD (grid .rows) procedure (record { cells = [] })
+
+-- the arrays of a machine's grid are whole: a row for each procedure, a cell for each place
+pub record GridShaped (grid : Grid) : Type 0 where
+  pub rows : length (grid .rows) ≡ gridProcedures
+  pub cells : (k : ℕ) → k < gridProcedures → length (rowAt grid k .cells) ≡ places
 
 -- every procedure's row breaks no rule
 unfoldable pub gridGood : ℕ → Profile → Grid → Bool

@@ -6,4 +6,6 @@ pub mod Table
 pub mod Step
 pub mod Arrive
 pub mod Calls
+pub mod Holds
 pub mod Sheets
+pub mod Equal

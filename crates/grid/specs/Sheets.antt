@@ -1,5 +1,5 @@
--- Night sheets of tables in the first layout: the instances of a grid, a table written as a sheet, and a sheet read as a table against a
--- profile (document 01, "Night sheet", "Local refusals").
+-- Night sheets of tables in the first layout: a table written as a sheet, and a sheet read as a table against a profile (document 01,
+-- "Night sheet", "Local refusals").
 use Prim.Native.Nat.{_*_, _+_, ℕ}
 use mathlib.Core.Bool.{Bool, false, not, true}
 use mathlib.Core.List.{List, [], _∷_}
@@ -7,7 +7,6 @@ use lib.Dec.{eqb, ltb}
 use lib.ListN.{getD, set}
 use Rattle.laws.specs.Got.{Got, got, wrong}
 use Rattle.laws.specs.Pick.{pick}
-use Rattle.laws.specs.Places.{gathered}
 use Rattle.laws.specs.Tests.{all, first, test}
 use Rattle.refusals.specs.Refusal.{Told, refusalNo, refuses, tells}
 use Rattle.refusals.specs.declared.refusal.Refusal.{Refusal}
@@ -22,39 +21,10 @@ use Rattle.forms.specs.Form.{form1}
 use Rattle.refusals.specs.Handling.{Made, made, notMade}
 use Rattle.forms.specs.Sheet.{Sheet, sheetIn, sheetOctets}
 use Rattle.forms.specs.Size.{sheetMost}
-use Rattle.grid.specs.Grid.{Grid, gridProcedures, noGrid, rowAt}
-use Rattle.grid.specs.Row.{Row, active, cellAt, cellOf, numberOfPlace, places}
+use Rattle.grid.specs.Grid.{Grid, noGrid, rowAt}
+use Rattle.grid.specs.Holds.{holds}
+use Rattle.grid.specs.Row.{cellOf}
 use Rattle.grid.specs.Table.{GridTable, gridFresh, gridTableGood}
-
--- ---- the instances of a grid
-
--- the instance at a place of a procedure's row
-abbrev pub gridInstance : Grid → ℕ → ℕ → Instance
-gridInstance grid k j = record {
-  procedure = k;
-  number = numberOfPlace j;
-  service = cellAt (rowAt grid k) j .service;
-  address = cellAt (rowAt grid k) j .address;
-}
-
--- those of a row: each active one, a row's places going by number, then service code
-abbrev pub placeInstances : ℕ → Row → ℕ → List Instance
-placeInstances procedure row j =
-    pick (active row j)
-    (record {
-      procedure = procedure;
-      number = numberOfPlace j;
-      service = cellAt row j .service;
-      address = cellAt row j .address;
-    } ∷ [])
-    []
-
-abbrev pub rowInstances : ℕ → Row → List Instance
-rowInstances procedure row = gathered (placeInstances procedure row) places
-
--- every active instance, by procedure, number and service
-unfoldable pub gridInstances : Grid → List Instance
-gridInstances grid = gathered (λ k. rowInstances k (rowAt grid k)) gridProcedures
 
 -- ---- a table is written
 
@@ -67,7 +37,7 @@ gridWroteSheet access t size =
     ∷ test (not (gridTableGood instancesMost (accessRead access .profile) t)) BadTable
     ∷ [])
     notMade
-    (made (sheetOctets form1 (t .last) (gridInstances (t .grid))))
+    (made (sheetOctets form1 (t .last) (holds (t .grid))))
 
 -- ---- a sheet is read
 

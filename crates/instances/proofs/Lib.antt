@@ -9,5 +9,6 @@ pub mod Fits
 pub mod Keys
 pub mod Goods
 pub mod Finds
+pub mod Founds
 pub mod Listings
 pub mod Listeds
