@@ -6,3 +6,4 @@ pub mod Trips
 pub mod Writers
 pub mod Spellings
 pub mod Shortests
+pub mod Firsts

@@ -4,3 +4,5 @@ pub mod Lengths
 pub mod Elements
 pub mod Slices
 pub mod Spellings
+pub mod Bads
+pub mod Firsts

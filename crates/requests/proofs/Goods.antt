@@ -1,10 +1,11 @@
 -- What it means that the end may send a request: `sendable`, `servedGood` and `toGood` part by part.
 -- Assumes nothing.
-use Prim.Native.Nat.{ℕ}
+use Prim.Native.Nat.{ℕ, _≤_}
 use mathlib.Core.Path.{_≡_}
 use mathlib.Core.Bool.{Bool, true, false}
 use mathlib.Core.List.{[], _∷_}
 use mathlib.Core.Logic.{_⊎_, inl, inr}
+use native.Mathlib.Omega.{arith}
 use lib.Dec.{eqb}
 use borrow.Author.Tests.{eq-eqb, eqb-true, eqb-false}
 use Rattle.laws.specs.Pick.{pick}
@@ -17,6 +18,7 @@ use Rattle.numbers.specs.declared.address.Forwarded.{Forwarded}
 use Rattle.codes.proofs.Tables.{service-all}
 use Rattle.requests.specs.Request.{activation, deactivation, interrogation}
 use Rattle.requests.specs.Sent.{servedGood, toGood, partsGood, sendable}
+use Rattle.requests.specs.Spelt.{Known, activation-is, deactivation-is, interrogation-is}
 use Rattle.requests.specs.declared.request.Served.{Served}
 use Rattle.requests.specs.declared.request.Request.{Request}
 
@@ -149,3 +151,30 @@ unfolding sendable
 good-request operation r h =
     let p = pick-then (procedureCode (r .procedure)) (all (partsGood operation r ∷ [])) h in
     good-parts operation r (p .0) (pick-then (partsGood operation r) true (p .1) .0)
+
+-- ---- requests that are read, whoever sends them
+
+-- the three operations are at most 11
+pub known-most : {operation : ℕ} → Known operation → operation ≤ 11
+known-most (activation-is e) = omega arith
+known-most (deactivation-is e) = omega arith
+known-most (interrogation-is e) = omega arith
+
+-- codes of document 01, and numbers that a table holds: the end interrogates only all of them, but others may name some
+pub record Readable (operation : ℕ) (r : Request) : Type 0 where
+  pub procedure : procedureCode (r .procedure) ≡ true
+  pub service : serviceCode (r .service) ≡ true
+  pub to : ToFits operation (r .to)
+  pub served : servedGood (r .served) ≡ true
+  pub known : Known operation
+
+asked-known : {operation : ℕ} {r : Request} → Asked operation r → Known operation
+asked-known (activates e) = activation-is e
+asked-known (deactivates e) = deactivation-is e
+asked-known (interrogates e zero every) = interrogation-is e
+
+-- what may be sent is one of those
+pub readable : (operation : ℕ) (r : Request) → sendable operation r ≡ true → Readable operation r
+readable operation r h =
+    let g = good-request operation r h in
+    record { procedure = g .procedure; service = g .service; to = g .to; served = g .served; known = asked-known (g .asked) }

@@ -2,7 +2,17 @@ pub mod Goods
 pub mod Sizes
 pub mod Readers
 pub mod Arguments
+pub mod Privates
+pub mod Heards
+pub mod Invokes
+pub mod Founds
+pub mod ContentsOnly
+pub mod RequestOnly
+pub mod Written
 pub mod Trips
+pub mod Shortests
+pub mod Omitted
+pub mod Followed
 pub mod Tags
 pub mod Numbers
 pub mod Ranges

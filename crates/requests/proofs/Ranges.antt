@@ -28,7 +28,7 @@ HeardRanges (NoOperation identifier) = mag identifier < 32768
 HeardRanges (Asks identifier operation at end) = mag identifier < 32768
 
 -- what holds of what is made of the thing found, and where nothing is
-or-else :
+pub or-else :
     {A B : Type 0} (P : B → Type 0) (d : B) (g : Got A) (f : A → ℕ → Got B) → P d →
     ((a : A) (place : ℕ) → g ≡ got a place → P (orElse d (f a place))) →
     P (orElse d (andThen g f))

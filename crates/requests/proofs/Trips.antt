@@ -1,86 +1,169 @@
--- What the end writes for a request is heard with its identifier and its operation, and its argument reads back.
+-- Whatever spells a request is heard with its identifier and its operation, and its argument is read as it; what the end writes does.
 -- Assumes nothing.
-use Prim.Native.Nat.{ℕ, _+_, _<_}
-use mathlib.Core.Path.{_≡_, refl}
+use Prim.Native.Nat.{ℕ, suc, _+_, _≤_, _<_}
+use mathlib.Core.Path.{_≡_, sym, ap, _∙_}
 use mathlib.Core.Bool.{true}
-use mathlib.Core.List.{List, _++_}
+use mathlib.Core.List.{List, [], _++_, append-nil}
 use native.Mathlib.Omega.{arith}
 use lib.IntN.{ℤ, pos}
 use lib.Signed.{mag}
-use lib.ListN.{length, length-append}
-use borrow.Author.Tests.{eq-eqb}
+use lib.ListN.{length, getD, length-append}
 use Rattle.laws.specs.Got.{got}
 use Rattle.laws.specs.Stands.{Stands}
-use Rattle.laws.proofs.Stands.{stands-whole, stands-left, stands-right}
+use Rattle.laws.proofs.Stands.{stands-left, stands-right}
 use Rattle.octets.specs.Element.{element}
+use Rattle.octets.specs.Spelt.{Spells}
+use Rattle.octets.proofs.Elements.{length-element, length-most}
+use Rattle.octets.proofs.Spellings.{spells-length, spells-contents, element-spells}
 use Rattle.values.specs.Ident.{identOctets}
-use Rattle.octets.proofs.Elements.{Inside, inside-element}
-use Rattle.values.proofs.Idents.{ident-back}
-use Rattle.requests.specs.Heard.{insideDepth, componentDepth, replyTag, local, operationAt, identifierAt, heard}
-use Rattle.requests.specs.Request.{argumentAt}
+use Rattle.values.proofs.Idents.{ident-most}
+use Rattle.skip.specs.Spelt.{none}
+use Rattle.requests.specs.Heard.{local, heard, heardValues}
+use Rattle.requests.specs.Request.{contentsIn, argumentAt}
 use Rattle.requests.specs.Sent.{sendable, contentsOctets, requestOctets, tidyRequest}
+use Rattle.requests.specs.Invoke.{invokeInside, invokeOctets}
+use Rattle.requests.specs.Spelt.{SignedSpelt, Known, KnownSpelt, ContentsSpelt, RequestSpelt}
 use Rattle.requests.specs.declared.heard.Heard.the-variants.{Asks}
 use Rattle.requests.specs.declared.request.Request.{Request}
-use Rattle.requests.proofs.Goods.{good-request}
-use Rattle.requests.proofs.Sizes.{operation-most, componentOctets, inside-most}
-use Rattle.requests.proofs.Arguments.{argument-back}
+use Rattle.requests.proofs.Goods.{known-most, readable}
+use Rattle.requests.proofs.Sizes.{inside-most}
+use Rattle.requests.proofs.Arguments.{contents-then, argument-back}
+use Rattle.requests.proofs.Privates.{privates-back}
+use Rattle.requests.proofs.Invokes.{Holds, holds, heard-asks}
+use Rattle.requests.proofs.Founds.{same-found}
+use Rattle.requests.proofs.Written.{signed-spells, contents-spells}
 
--- octets that are heard as an operation with its identifier, and whose argument is read as the request
-pub record ReadsBack (identifier : ℤ) (operation : ℕ) (r : Request) (s : List ℕ) : Type 0 where
+-- ---- components that ask, whatever the contents of their argument
+
+-- octets that are heard as an operation with its identifier, and whose argument has these contents
+pub record Invoked (identifier : ℤ) (operation : ℕ) (contents s : List ℕ) : Type 0 where
   pub at : ℕ
+  pub start : ℕ
   pub hears : heard s ≡ Asks identifier (local (pos operation)) at (length s)
-  pub asks : argumentAt (local (pos operation)) s at (length s) ≡ got (tidyRequest operation r) (length s)
+  pub asks : argumentAt (local (pos operation)) s at (length s) ≡ contentsIn operation s start (length s)
+  pub stands : Stands s start contents
+  pub fits : start + length contents ≡ length s
 
--- a component that fills its octets
-heard-in :
-    (identifier : ℤ) (operation : ℕ) (r : Request) (s : List ℕ) → mag identifier < 32768 →
-    sendable operation r ≡ true → Inside componentDepth s 0 (length s) 0xA1 (componentOctets identifier operation r) →
-    length (element 0xA1 (componentOctets identifier operation r)) ≡ length s → ReadsBack identifier operation r s
-unfolding heard identifierAt operationAt replyTag
-heard-in identifier operation r s range h i fit =
-    let a : List ℕ = identOctets identifier in
-    let b : List ℕ = identOctets (pos operation) in
-    let c : List ℕ = element 0x30 (contentsOctets operation r) in
-    let first : ℕ = i .start + length a in
-    let ab = length-append a (b ++ c) in
-    let bc = length-append b c in
-    let most = operation-most (good-request operation r h .asked) in
-    let stop : i .start + length (a ++ (b ++ c)) ≡ length s = omega (arith, i .stop) in
-    let rest : Stands s first (b ++ c) = stands-right s (i .start) a (b ++ c) (i .stands) in
+-- whatever spells one
+pub invoked-spelt :
+    (identifier : ℤ) (operation : ℕ) (first second argument : List ℕ) {contents s : List ℕ} → SignedSpelt identifier first →
+    SignedSpelt (pos operation) second → Spells 0x30 contents argument → Spells 0xA1 (first ++ (second ++ argument)) s →
+    Invoked identifier operation contents s
+invoked-spelt identifier operation first second argument {contents} {s} v w arg sp =
+    let i : Holds (first ++ (second ++ argument)) s = holds sp in
+    let at : ℕ = i .start + length first + length second in
+    let after = stands-right s (i .start) first (second ++ argument) (i .stands) in
+    let here : Stands s at argument = stands-right s (i .start + length first) second argument after in
+    let ends : at + length argument ≡ length s =
+    omega (arith, i .ends, length-append first (second ++ argument), length-append second argument) in
     record {
-      at = first + length b;
-      hears =
-          rw (
-            i .is,
-            stop,
-            eq-eqb (length s) (length s) refl,
-            ident-back insideDepth identifier s (i .start) (length s) (λ e. omega arith) range
-                (stands-left s (i .start) a (b ++ c) (i .stands)) (omega arith) (omega arith),
-            ident-back insideDepth (pos operation) s first (length s) (λ e. omega arith) (omega arith)
-                (stands-left s first b c rest) (omega arith) (omega arith),
-          );
-      asks =
-          argument-back operation r s (first + length b) (length s) h (stands-right s first b c rest)
-          (omega arith) (omega arith);
+      at = at;
+      start = at + suc (suc (arg .k));
+      hears = heard-asks identifier (pos operation) first second argument s v w i;
+      asks = argument-back operation s at (length s) arg here ends (omega arith);
+      stands = spells-contents s at arg here;
+      fits = omega (arith, ends, spells-length arg);
     }
 
--- octets that are all of a request's
-pub heard-back :
-    (identifier : ℤ) (operation : ℕ) (r : Request) (s : List ℕ) → mag identifier < 32768 →
-    sendable operation r ≡ true → Stands s 0 (requestOctets identifier operation r) →
-    length (requestOctets identifier operation r) ≡ length s → ReadsBack identifier operation r s
-unfolding requestOctets
-heard-back identifier operation r s range h st fit =
-    let most = inside-most identifier operation r range h in
-    heard-in identifier operation r s range h
-    (inside-element componentDepth s 0 (length s) 0xA1 (componentOctets identifier operation r) (λ e. omega arith) (λ e. omega arith)
-    (omega arith) st (omega arith) (omega arith))
-    fit
+-- what is written as one
+pub invoked :
+    (identifier : ℤ) (operation : ℕ) (contents : List ℕ) → mag identifier < 32768 → operation < 32768 →
+    length (invokeInside identifier operation contents) < 65536 →
+    Invoked identifier operation contents (invokeOctets identifier operation contents)
+invoked identifier operation contents range known small =
+    let a : List ℕ = identOctets identifier in
+    let b : List ℕ = identOctets (pos operation) in
+    let c : List ℕ = element 0x30 contents in
+    let few : length contents < 65536 = omega (arith, length-append a (b ++ c), length-append b c, length-element 0x30 contents) in
+    invoked-spelt identifier operation a b c (signed-spells identifier range) (signed-spells (pos operation) known)
+    (element-spells 0x30 contents few) (element-spells 0xA1 (a ++ (b ++ c)) small)
+
+-- what stands in it is at most 12 octets more than those contents: a head and two numbers of at most four octets each
+pub invoke-most :
+    (identifier : ℤ) (operation : ℕ) (contents : List ℕ) → mag identifier < 32768 → operation < 32768 →
+    length (invokeInside identifier operation contents) ≤ length contents + 12
+invoke-most identifier operation contents range known =
+    omega (
+      arith,
+      length-append (identOctets identifier) (identOctets (pos operation) ++ element 0x30 contents),
+      length-append (identOctets (pos operation)) (element 0x30 contents),
+      ident-most identifier range,
+      ident-most (pos operation) known,
+      length-most 0x30 contents,
+    )
+
+-- ---- requests
+
+-- octets that are heard as an operation with its identifier, and whose argument is read as this very request
+pub record ReadAs (identifier : ℤ) (operation : ℕ) (r : Request) (s : List ℕ) : Type 0 where
+  pub at : ℕ
+  pub hears : heard s ≡ Asks identifier (local (pos operation)) at (length s)
+  pub asks : argumentAt (local (pos operation)) s at (length s) ≡ got r (length s)
+
+-- where the contents of the argument are read as a request, the component is
+pub invoked-reads :
+    {identifier : ℤ} {operation : ℕ} {contents s : List ℕ} {r : Request} (i : Invoked identifier operation contents s) →
+    contentsIn operation s (i .start) (length s) ≡ got r (length s) → ReadAs identifier operation r s
+invoked-reads i e = record { at = i .at; hears = i .hears; asks = i .asks ∙ e }
+
+-- and whatever spells those contents is
+pub contents-reads :
+    {identifier : ℤ} {operation : ℕ} {contents s : List ℕ} {r : Request} → Invoked identifier operation contents s →
+    Known operation → ContentsSpelt operation r contents → ReadAs identifier operation r s
+contents-reads {identifier} {operation} {contents} {s} {r} i known c =
+    let st : Stands s (i .start) (c .first ++ c .rest) = rw (c .is) at (i .stands) in
+    let at : ℕ = i .start + length (c .first) in
+    let ends : at + length (c .rest) ≡ length s =
+    omega (arith, i .fits, ap length (c .is), length-append (c .first) (c .rest)) in
+    invoked-reads i
+    (contents-then operation r s (i .start) (length s) known (c .knowns) (stands-left s (i .start) (c .first) (c .rest) st)
+    (omega (arith, ends)) (omega arith)
+    ∙ rw (privates-back s (c .rest) at (length s) (c .privates) (stands-right s (i .start) (c .first) (c .rest) st) ends (omega arith)))
+
+-- known elements alone are such contents
+pub known-alone : {operation : ℕ} {r : Request} {ws : List ℕ} → KnownSpelt operation r ws → ContentsSpelt operation r ws
+known-alone {ws = ws} k = record { first = ws; rest = []; is = sym (append-nil ws); knowns = k; privates = none }
+
+-- whatever spells a request is read as it
+pub request-spelt-back :
+    (identifier : ℤ) (operation : ℕ) (r : Request) (s : List ℕ) → RequestSpelt identifier operation r s →
+    ReadAs identifier operation r s
+request-spelt-back identifier operation r s q =
+    let a = q .arguments in
+    contents-reads
+    (invoked-spelt identifier operation (q .first) (q .second) (q .third) (q .identifiers) (q .operations) (a .spells) (q .spells))
+    (a .known) (a .inside)
+
+-- so the same octets spell no other
+pub request-spelt-same :
+    (identifier other : ℤ) (operation code : ℕ) (r x : Request) (s : List ℕ) → RequestSpelt identifier operation r s →
+    RequestSpelt other code x s → (identifier ≡ other) × (operation ≡ code) × (r ≡ x)
+request-spelt-same identifier other operation code r x s p q =
+    let a = request-spelt-back identifier operation r s p in
+    let b = request-spelt-back other code x s q in
+    let same : Asks identifier (local (pos operation)) (a .at) (length s) ≡ Asks other (local (pos code)) (b .at) (length s) =
+    sym (a .hears) ∙ b .hears in
+    let values = ap heardValues same in
+    let codes : operation ≡ code = ap (λ (vs : List ℤ). mag (getD vs 1 (pos 0))) values in
+    let places : a .at ≡ b .at = ap (λ (vs : List ℤ). mag (getD vs 2 (pos 0))) values in
+    let asked : argumentAt (local (pos operation)) s (a .at) (length s) ≡ argumentAt (local (pos code)) s (b .at) (length s) =
+    ap (λ (n : ℕ). argumentAt (local (pos n)) s (a .at) (length s)) codes
+    ∙ ap (λ (n : ℕ). argumentAt (local (pos code)) s n (length s)) places in
+    (ap (λ (vs : List ℤ). getD vs 0 (pos 0)) values, codes, same-found (sym (a .asks) ∙ asked ∙ b .asks) .0)
+
+-- ---- requests as the end sends them
+
+-- the request that a component reads back as, with zeros where the record carries no meaning
+abbrev pub ReadsBack : ℤ → ℕ → Request → List ℕ → Type 0
+ReadsBack identifier operation r s = ReadAs identifier operation (tidyRequest operation r) s
 
 -- a request that was written is heard as it, and its argument reads back as it
 pub request-back :
     (identifier : ℤ) (operation : ℕ) (r : Request) → mag identifier < 32768 → sendable operation r ≡ true →
     ReadsBack identifier operation r (requestOctets identifier operation r)
+unfolding requestOctets
 request-back identifier operation r range h =
-    let s : List ℕ = requestOctets identifier operation r in
-    heard-back identifier operation r s range h (stands-whole s) refl
+    let g = readable operation r h in
+    let size = inside-most identifier operation r range h in
+    contents-reads (invoked identifier operation (contentsOctets operation r) range (omega (arith, known-most (g .known))) (omega arith))
+    (g .known) (known-alone (contents-spells operation r g))

@@ -1,1 +1,4 @@
 pub mod Skips
+pub mod Runs
+pub mod Depths
+pub mod Spellings
