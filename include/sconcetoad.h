@@ -1,6 +1,8 @@
-/* The border to C of the proved library, for x86-64. `./sconcetoad library` builds it as lib/libsconcetoad.a, and nothing deletes that:
-       gcc -c -I include program.c
-       gcc -o program program.o lib/libsconcetoad.a
+/* The border to C of the proved library. The library, for x86-64, is built and linked by
+     ./sconcetoad library
+     cc -I include -o program program.c lib/libsconcetoad.a
+   and examples/ has programs that use it; nothing deletes lib/libsconcetoad.a.
+
    A pointer must be valid for the length that goes with it, and what is lent must not overlap; where the length is 0 the pointer is not
    followed, and NULL will do. Nothing is kept after a call, nothing is allocated, and no call takes more than SCONCETOAD_STACK octets of
    stack. docs/RECORDS.md has every record octet by octet.
