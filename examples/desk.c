@@ -86,8 +86,9 @@ static int give_up(struct desk *desk)
 
 static int take(struct desk *desk, const uint8_t *component, size_t length)
 {
-    struct sconcetoad_moving moving = sconcetoad_arrived(desk->end, desk->access, sizeof desk->access, component, length);
-    return moved(desk, moving.refusal, &moving.end);
+    struct sconcetoad_end next = desk->end;
+    uint8_t refusal = sconcetoad_arrived(&next, desk->access, sizeof desk->access, component, length);
+    return moved(desk, refusal, &next);
 }
 
 /* Says what closed the request: `before` is the end to which the reply came. */

@@ -371,7 +371,8 @@ struct sconcetoad_octets sconcetoad_list_sheet(const uint8_t *sheet, size_t shee
 
 /* The customer end: the last used identifier, 0 to 32,767; whether the request with that identifier is `outstanding` (1), and then its
    operation (7, 8 or 11), its procedure's mark from before sending, and the request itself; a mark for each procedure, cfu, cfb, cfnr; and
-   the picture of the table's instances. An end is made by sconcetoad_fresh_end and handed from call to call. */
+   the picture of the table's instances. An end is made by sconcetoad_fresh_end and handed from call to call; what arrives changes it where
+   it stands. */
 struct sconcetoad_end {
     uint16_t used;
     uint8_t outstanding;
@@ -417,15 +418,17 @@ struct sconcetoad_sending sconcetoad_deactivate(struct sconcetoad_end end, const
 struct sconcetoad_sending sconcetoad_interrogate(struct sconcetoad_end end, const uint8_t *access, size_t access_length,
                                                  uint8_t procedure, uint8_t *out, size_t out_length);
 
+/* A component arrives at the end that is lent: the next end stands there afterwards, and the number of the refusal is answered, SCONCETOAD_ANSWERED
+   where there is none. The refusals are SCONCETOAD_LONG_COMPONENT, SCONCETOAD_BAD_PROFILE and SCONCETOAD_BAD_TABLE; the lowest that applies is told,
+   and then the same end stands there. The access record and the component are not altered. */
+uint8_t sconcetoad_arrived(struct sconcetoad_end *end, const uint8_t *access, size_t access_length, const uint8_t *component,
+                           size_t component_length);
+
 /* The next end: the same one where it is refused. */
 struct sconcetoad_moving {
     uint8_t refusal;
     struct sconcetoad_end end;
 };
-
-/* A component arrives at the end. Its refusals are SCONCETOAD_LONG_COMPONENT, SCONCETOAD_BAD_PROFILE and SCONCETOAD_BAD_TABLE. Alters nothing. */
-struct sconcetoad_moving sconcetoad_arrived(struct sconcetoad_end end, const uint8_t *access, size_t access_length,
-                                            const uint8_t *component, size_t component_length);
 
 /* The end waits no longer. Its refusals are SCONCETOAD_BAD_PROFILE and SCONCETOAD_BAD_TABLE. Alters nothing. */
 struct sconcetoad_moving sconcetoad_give_up(struct sconcetoad_end end, const uint8_t *access, size_t access_length);

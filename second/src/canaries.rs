@@ -11,10 +11,10 @@ pub const FOR_A_COMPONENT: usize = 3;
 pub const FOR_A_CALL: usize = 3;
 pub const FOR_A_SHEET: usize = 2;
 
-/// Those of the end: an access record, and what else is read or written to. Showing lends the
-/// access record once more for each entry.
+/// Those of the end: an access record, and what else is read or written to. An arrival lends the
+/// end itself too. Showing lends the access record once more for each entry.
 pub const FOR_A_SENDING: usize = 2;
-pub const FOR_AN_ARRIVAL: usize = 2;
+pub const FOR_AN_ARRIVAL: usize = 3;
 pub const FOR_A_GIVING_UP: usize = 1;
 pub const FOR_SHOWING: usize = 1;
 

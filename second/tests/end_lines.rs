@@ -110,7 +110,8 @@ fn things(canaries: &str) -> Vec<usize> {
     lines.map(|line| line.split(' ').count() - 1).collect()
 }
 
-/// A giving up lends one thing, a showing one and one more for each entry, the others two.
+/// A giving up lends one thing, a showing one and one more for each entry, an arrival three, the end
+/// itself among them, a sending two.
 #[test]
 fn the_canaries_are_those_of_the_lines() {
     let lines = end_cases(5, 3_000).lines;
@@ -120,6 +121,7 @@ fn the_canaries_are_those_of_the_lines() {
         .zip(lines.expected.lines())
         .map(|(word, printed)| match word {
             "give-up" => 1,
+            "arrived" => 3,
             "shown" if printed.starts_with("known ") => printed.split(' ').count() - 1,
             "shown" => 1,
             _ => 2,

@@ -100,22 +100,17 @@ int desk_refuses(uint8_t procedure)
     return asking(procedure, &component).refusal;
 }
 
-static void moved(const struct sconcetoad_moving *moving)
-{
-    must(moving->refusal == SCONCETOAD_ANSWERED, "the end refuses what arrives");
-    end = moving->end;
-}
-
 void desk_takes(const struct octets *reply)
 {
-    struct sconcetoad_moving moving = sconcetoad_arrived(end, access_record, sizeof access_record, reply->at, reply->count);
-    moved(&moving);
+    must(sconcetoad_arrived(&end, access_record, sizeof access_record, reply->at, reply->count) == SCONCETOAD_ANSWERED,
+         "the end refuses what arrives");
 }
 
 void desk_gives_up(void)
 {
     struct sconcetoad_moving moving = sconcetoad_give_up(end, access_record, sizeof access_record);
-    moved(&moving);
+    must(moving.refusal == SCONCETOAD_ANSWERED, "the end refuses to give up");
+    end = moving.end;
 }
 
 struct sconcetoad_page desk_page(uint8_t procedure)

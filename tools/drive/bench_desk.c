@@ -37,9 +37,11 @@ static int bench_send(long turns)
 
 static int bench_arrived(long turns)
 {
-    for (long i = 0; i < turns; i++)
-        if (sconcetoad_arrived(end, occasion.access, sizeof occasion.access, component, size).end.outstanding)
+    for (long i = 0; i < turns; i++) {
+        struct sconcetoad_end standing = end;
+        if (sconcetoad_arrived(&standing, occasion.access, sizeof occasion.access, component, size) || standing.outstanding)
             return 1;
+    }
     return 0;
 }
 

@@ -72,23 +72,30 @@ static int sends(const char *text, struct lent *access_record, struct lent *outp
     return 0;
 }
 
-static void say_moving(const struct sconcetoad_moving *moving, const char *done, int kept)
+static void say_moving(uint8_t refusal, const struct sconcetoad_end *next, const char *done, int kept)
 {
     static char line[LINE_MOST];
-    char *at = line + sprintf(line, "%s", moving->refusal == SCONCETOAD_ANSWERED ? done : refusal_said(moving->refusal));
-    say_end(line, at, kept, &moving->end);
+    char *at = line + sprintf(line, "%s", refusal == SCONCETOAD_ANSWERED ? done : refusal_said(refusal));
+    say_end(line, at, kept, next);
 }
 
 static int arrived(const char *text, struct lent *access_record, struct lent *component)
 {
     if (set_octets(component, text, COMPONENT_MOST, "a component has 0 to 1100 octets, in upper-case hexadecimal"))
         return 1;
+    /* Lent octets begin at a multiple of eight, so a record may stand there. */
+    static struct lent standing;
+    struct sconcetoad_end next;
+    standing.size = sizeof end;
+    memcpy(lent_octets(&standing), &end, sizeof end);
     lend(access_record);
     lend(component);
-    struct sconcetoad_moving moving =
-        sconcetoad_arrived(end, lent_octets(access_record), access_record->size, lent_octets(component), component->size);
-    int kept = came_back(access_record, 0) && came_back(component, 0);
-    say_moving(&moving, "taken", kept);
+    lend(&standing);
+    uint8_t refusal = sconcetoad_arrived((struct sconcetoad_end *)lent_octets(&standing), lent_octets(access_record), access_record->size,
+                                         lent_octets(component), component->size);
+    int kept = came_back(access_record, 0) && came_back(component, 0) && came_back(&standing, written_of(refusal, standing.size));
+    memcpy(&next, lent_octets(&standing), sizeof next);
+    say_moving(refusal, &next, "taken", kept);
     return 0;
 }
 
@@ -97,7 +104,7 @@ static int gives_up(struct lent *access_record)
     lend(access_record);
     struct sconcetoad_moving moving = sconcetoad_give_up(end, lent_octets(access_record), access_record->size);
     int kept = came_back(access_record, 0);
-    say_moving(&moving, "gave-up", kept);
+    say_moving(moving.refusal, &moving.end, "gave-up", kept);
     return 0;
 }
 

@@ -67,7 +67,11 @@ void try_sending(void)
 /* The one place that hands an end over to what arrives at it. */
 static struct sconcetoad_moving arrives(const uint8_t *access, const uint8_t *component)
 {
-    return sconcetoad_arrived(world.end, access, world.access.size, component, world.given.size);
+    struct sconcetoad_moving moving;
+    memset(&moving, 0, sizeof moving);
+    moving.end = world.end;
+    moving.refusal = sconcetoad_arrived(&moving.end, access, world.access.size, component, world.given.size);
+    return moving;
 }
 
 static int taken(const struct sconcetoad_end *next)

@@ -27,6 +27,7 @@ class Function:
     ensures: list = field(default_factory=list)  # the tokens of each
     labelled: bool = False
     odd: list = field(default_factory=list)  # what its signature has that is not read
+    types: set = field(default_factory=set)  # the words of its types
     # What the checks find out about it.
     crate: str = ""
     file: str = ""
@@ -40,11 +41,11 @@ class Function:
 
 
 class File:
-    """A file's `ghost use` lines, and its functions that others can call."""
+    """A file's `ghost use` lines, its functions that others can call, and its types that hold a reference."""
 
     def __init__(self, source):
         self.reader = Reader(source)
-        self.uses, self.functions, self.refused = [], [], []
+        self.uses, self.functions, self.holders, self.refused = [], [], [], []
         self.blocks = []  # for each open brace, the type of the `impl` that it opened, or nothing
         self.forget()
         while self.reader.text:
@@ -71,10 +72,11 @@ class File:
         elif word == "fn":
             self.read_function()
         else:
+            public = self.public
             self.forget()
-            self.read_other(word)
+            self.read_other(word, public)
 
-    def read_other(self, word):
+    def read_other(self, word, public):
         reader, line = self.reader, self.reader.token_line
         reader.advance()
         if word == "ghost" and reader.text == "use":
@@ -84,8 +86,11 @@ class File:
         elif word == "mod" and self.opens_block():
             self.refused.append((line, "a module within a file: the checks read one module to a file"))
         elif word in ("struct", "enum", "type"):
-            if "&" in self.read_type_item():
-                self.refused.append((line, f"a `{word}` that holds a reference: the checks cannot see what of it is lent"))
+            name = reader.text
+            if any(part[0] in "&'" for part in self.read_type_item()):
+                self.holders.append(name)
+                fault = f"a `{word}` that holds a reference and is not its crate's own: the checks cannot see what of it is lent"
+                self.refused += [(line, fault)] if public else []
         elif word == "{":
             self.blocks.append("")
         elif word == "}" and self.blocks:
@@ -119,13 +124,14 @@ class File:
         if reader.kind != "word":
             return
         owner = next((block for block in reversed(self.blocks) if block), "")
-        made = Function(reader.text, reader.token_line, owner, self.exported)
+        made = Function(reader.text, reader.token_line, owner, self.exported, types={owner})
         kept = self.public or self.exported
         self.forget()
         reader.advance()
         if reader.text == "<":
             made.odd += [word for word in reader.group()[1:-1] if word != "," and not word.startswith("'")]
         listed = reader.group()
+        made.types.update(listed)
         made.requires += listed.count("requires")
         made.parameters = [read_parameter(part, made) for part in parts_of(listed[1:-1])]
         self.read_result(made)
@@ -140,6 +146,7 @@ class File:
             self.reader.advance()
             while self.reader.text not in ("requires", "ensures", "ghost", "where", "#", "{", ";", ""):
                 words += self.reader.group() if self.reader.text in OPENERS else [self.reader.take()]
+        made.types.update(words)
         lent, changed, odd = type_of(words)
         made.result = "nothing" if words in ([], ["(", ")"]) else "lent" if lent else "value"
         if changed or odd:

@@ -103,6 +103,7 @@ class Tree:
         """Every function of the libraries that others can call."""
         found = []
         for crate in self.libraries:
+            functions, holders = [], set()
             for file in self.sources(f"crates/{crate}/src/**/*.rt"):
                 try:
                     read = rattle.File(self.text(file))
@@ -113,7 +114,11 @@ class Tree:
                 scope = Scope(read.uses)
                 for function in read.functions:
                     function.crate, function.file, function.scope = crate, file, scope
-                    found.append(function)
+                    functions.append(function)
+                holders.update(read.holders)
                 for line, text in read.refused:
                     self.breach(file, line, text)
+            for function in functions:
+                function.odd += [f"the type `{name}`, in which a reference is held" for name in sorted(holders & function.types)]
+            found += functions
         return found

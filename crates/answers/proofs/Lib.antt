@@ -6,3 +6,4 @@ pub mod Rest
 pub mod Fits
 pub mod Unread
 pub mod Dropped
+pub mod Filled

@@ -1,6 +1,7 @@
 // What an arriving component says to the end that waits for an answer (document 01, "The customer end").
 use octets::Head;
 use octets::head_at;
+use reader::one_element;
 use requests::ARGUMENTDEPTH;
 use requests::COMPONENTDEPTH;
 use requests::INSIDEDEPTH;
@@ -157,16 +158,13 @@ fn own_at(identifier: i16, operation: u8, tag: u8, s: &[u8], at: usize, end: usi
 pub fn reply_to(s: &[u8], identifier: i16, operation: u8) -> Reply
     ensures { λ r. ⌜ ReplyTo identifier operation (now (s .entry)) r ⌝ }
 {
-    match head_at(s, 0, s.len(), COMPONENTDEPTH) {
+    match one_element(s, COMPONENTDEPTH) {
         Head::Is {
             tag,
             start,
             stop,
-            next,
+            next: _,
         } => {
-            if next != s.len() {
-                return Reply::Dropped;
-            }
             if !reply_tag(tag) {
                 return Reply::Dropped;
             }

@@ -15,3 +15,4 @@ pub mod Goods
 pub mod Waitings
 pub mod Closings
 pub mod GoodLists
+pub mod Standing

@@ -13,6 +13,7 @@ use Rattle.laws.specs.Tests.{test, first}
 use Rattle.refusals.specs.Refusal.{refusalNo, Told, refuses, tells, componentMost}
 use Rattle.refusals.specs.Handling.{handlingTold}
 use Rattle.refusals.specs.declared.refusal.Refusal.{Refusal}
+use Rattle.refusals.specs.declared.handling.Handling.{Handling}
 use Rattle.refusals.specs.declared.refusal.Refusal.the-variants.{LongComponent, BadProfile, BadTable}
 use Rattle.profile.specs.Access.{accessRead}
 use Rattle.profile.specs.declared.profile.Profile.{Profile}
@@ -103,9 +104,10 @@ pub record MovesBy (done : Moves) (r : Moved) : Type 0 where
   pub end : r .end ≡ done .end
   pub told : handlingTold (r .outcome) ≡ done .told
 
--- what `arrived` and `give_up` promise
-abbrev pub Takes : List ℕ → End → List ℕ → Moved → Type 0
-Takes access e s r = MovesBy (takes access e s) r
+-- what `arrived` promises: what is told, and that the next end, no more and no less, stands where the end stood
+abbrev pub Takes : List ℕ → End → List ℕ → Handling → End → Type 0
+Takes access e s r next = MovesBy (takes access e s) (record { end = next; outcome = r })
 
+-- what `give_up` promises
 abbrev pub GivesUp : List ℕ → End → Moved → Type 0
 GivesUp access e r = MovesBy (givesUp access e) r

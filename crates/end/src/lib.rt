@@ -1,5 +1,6 @@
 // The customer end: what it shows of the table, and how it learns it (document 01, "The customer end").
 mod end;
+mod lent;
 mod list;
 mod picture;
 mod send;
@@ -8,6 +9,7 @@ mod take;
 
 pub use end::End;
 pub use end::fresh_end;
+pub use lent::arrived;
 pub use send::Sent;
 pub use show::EntryShown;
 pub use show::Shown;

@@ -22,7 +22,7 @@ ghost use mathlib.Core.Path.{_≡_};
 ghost use Prim.Native.Nat.{_≤_};
 ghost use Rattle.lists.specs.Entries.{instancesMost, entriesFrom};
 ghost use Rattle.end.specs.End.{usedMost, closed};
-ghost use Rattle.end.specs.Taking.{doubted, appliedBy, learnedBy, took, Takes, GivesUp};
+ghost use Rattle.end.specs.Taking.{doubted, appliedBy, learnedBy, took, takes, MovesBy, GivesUp};
 ghost use Rattle.end.specs.inner.Refused.{moveRefused};
 ghost use Rattle.instances.specs.Run.{instancesOf};
 ghost use Rattle.rules.specs.Judge.{judge};
@@ -125,9 +125,9 @@ fn refuses(end: End, refusal: Refusal) -> Moved
 }
 
 impl End {
-    // What an arriving component does.
-    pub fn arrived(self, access: &[u8], component: &[u8]) -> Moved
-        ensures { λ r. ⌜ Takes (now (access .entry)) self (now (component .entry)) r ⌝ }
+    // The step of an arriving component, by value; others have `lent`.
+    pub(crate) fn take(self, access: &[u8], component: &[u8]) -> Moved
+        ensures { λ r. ⌜ MovesBy (takes (now (access .entry)) self (now (component .entry))) r ⌝ }
     {
         if COMPONENTMOST < component.len() {
             return refuses(self, Refusal::LongComponent);

@@ -14,6 +14,7 @@ pub mod OnlyLists
 pub mod OnlySheets
 pub mod OnlyNumbers
 pub mod OnlyOctets
+pub mod OnlyReader
 pub mod OnlyRules
 pub mod OnlySkip
 pub mod OnlyInstances

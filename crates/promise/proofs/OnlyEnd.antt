@@ -59,6 +59,12 @@ pub only-interrogate :
     (r ≡ q) × (ys ≡ zs)
 only-interrogate access procedure e xs = sends-same _ xs
 
+pub only-arrived :
+    (access : List ℕ) (e : End) (s : List ℕ) {r q : Handling} {next other : End} →
+    Takes access e s r next → Takes access e s q other →
+    (r ≡ q) × (next ≡ other)
+only-arrived access e s {r} {q} a b = (handling-same r q (both (a .told) (b .told)), both (a .end) (b .end))
+
 abbrev movedOf : End → Handling → Moved
 movedOf end outcome = record { end = end; outcome = outcome }
 
@@ -66,10 +72,6 @@ moves-same : (done : Moves) {r q : Moved} → MovesBy done r → MovesBy done q 
 moves-same done {r} {q} a b =
     ap (λ (e : End). movedOf e (r .outcome)) (both (a .end) (b .end))
     ∙ ap (movedOf (q .end)) (handling-same (r .outcome) (q .outcome) (both (a .told) (b .told)))
-
-pub only-arrived :
-    (access : List ℕ) (e : End) (s : List ℕ) {r q : Moved} → Takes access e s r → Takes access e s q → r ≡ q
-only-arrived access e s = moves-same _
 
 pub only-give-up : (access : List ℕ) (e : End) {r q : Moved} → GivesUp access e r → GivesUp access e q → r ≡ q
 only-give-up access e = moves-same _

@@ -104,13 +104,13 @@ fixedCounter counter = inventedCounter (λ _ _ _. counter)
 
 -- ---- the customer end
 
--- what an end makes of an access record, itself, and what arrives
+-- what an end makes of an access record, itself, and what arrives: what stands there afterwards, and what is told
 abbrev pub Taker : Type 0
 Taker = List ℕ → End → List ℕ → Moved
 
 -- whether it keeps the promise of `arrived` there
 abbrev pub TakesBy : Taker → List ℕ → End → List ℕ → Type 0
-TakesBy x access e s = Takes access e s (x access e s)
+TakesBy x access e s = Takes access e s (x access e s .outcome) (x access e s .end)
 
 -- and everywhere
 abbrev pub Keeps : Taker → Type 0

@@ -19,3 +19,4 @@ pub mod Ranges
 pub mod Requests
 pub mod Senders
 pub mod SentBack
+pub mod Filled

@@ -2,7 +2,7 @@
 use crate::carried::COMPONENTDEPTH;
 use crate::carried::INSIDEDEPTH;
 use octets::Head;
-use octets::head_at;
+use reader::one_element;
 use values::Ident;
 use values::ident_at;
 ghost use mathlib.Core.Path.{_≡_};
@@ -72,16 +72,13 @@ fn identifier_at(s: &[u8], at: usize, end: usize) -> Heard
 pub fn hear(s: &[u8]) -> Heard
     ensures { λ r. ⌜ Hears (now (s .entry)) r ⌝ }
 {
-    match head_at(s, 0, s.len(), COMPONENTDEPTH) {
+    match one_element(s, COMPONENTDEPTH) {
         Head::Is {
             tag,
             start,
             stop,
-            next,
+            next: _,
         } => {
-            if next != s.len() {
-                return Heard::NotOne;
-            }
             if reply_tag(tag) {
                 return Heard::Silent;
             }

@@ -51,6 +51,12 @@ pub only-sconcetoad-interrogate :
     (r ≡ q) × (ys ≡ zs)
 only-sconcetoad-interrogate access procedure e xs = sent-same _ xs
 
+pub only-sconcetoad-arrived :
+    (access : List ℕ) (e : End) (s : List ℕ) {r q : ℕ} {next other : End} →
+    TakenBy access e s r next → TakenBy access e s q other →
+    (r ≡ q) × (next ≡ other)
+only-sconcetoad-arrived access e s a b = (both (a .refusal) (b .refusal), both (a .end) (b .end))
+
 abbrev movingOf : ℕ → End → Moving
 movingOf refusal end = record { refusal = refusal; end = end }
 
@@ -58,10 +64,6 @@ moved-same : (done : Moves) {r q : Moving} → MovedTo done r → MovedTo done q
 moved-same done {r} {q} a b =
     ap (λ (n : ℕ). movingOf n (r .end)) (both (a .refusal) (b .refusal))
     ∙ ap (movingOf (q .refusal)) (both (a .end) (b .end))
-
-pub only-sconcetoad-arrived :
-    (access : List ℕ) (e : End) (s : List ℕ) {r q : Moving} → TakenBy access e s r → TakenBy access e s q → r ≡ q
-only-sconcetoad-arrived access e s = moved-same _
 
 pub only-sconcetoad-give-up :
     (access : List ℕ) (e : End) {r q : Moving} → GivenUpBy access e r → GivenUpBy access e q → r ≡ q

@@ -43,10 +43,11 @@ pub record MovedTo (done : Moves) (r : Moving) : Type 0 where
   pub refusal : r .refusal ≡ refusalIn (done .told)
   pub end : r .end ≡ done .end
 
--- what `sconcetoad_arrived` and `sconcetoad_give_up` promise
-abbrev pub TakenBy : List ℕ → End → List ℕ → Moving → Type 0
-TakenBy access e s r = MovedTo (takes access e s) r
+-- what `sconcetoad_arrived` promises: the refusal, and the next end where the end stood
+abbrev pub TakenBy : List ℕ → End → List ℕ → ℕ → End → Type 0
+TakenBy access e s r next = MovedTo (takes access e s) (record { refusal = r; end = next })
 
+-- what `sconcetoad_give_up` promises
 abbrev pub GivenUpBy : List ℕ → End → Moving → Type 0
 GivenUpBy access e r = MovedTo (givesUp access e) r
 

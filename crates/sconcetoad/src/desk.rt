@@ -1,6 +1,7 @@
 // The customer end, as C drives it.
 use end::End;
 use end::Shown;
+use end::arrived;
 use end::fresh_end;
 use lists::Entry;
 use refusals::Handling;
@@ -128,18 +129,12 @@ pub extern "C" fn sconcetoad_interrogate(
     }
 }
 
-// What `end` becomes when `component` arrives.
+// What `end` becomes, where it stands, when `component` arrives; the number of the refusal, 0 where there is none. Walked by hand, as `arrived` is.
 #[no_mangle]
-pub extern "C" fn sconcetoad_arrived(end: End, access: &[u8], component: &[u8]) -> Moving
-    ensures { λ r. ⌜ TakenBy (now (access .entry)) end (now (component .entry)) r ⌝ }
+pub extern "C" fn sconcetoad_arrived(end: &mut End, access: &[u8], component: &[u8]) -> u8
+    ensures { λ r. ⌜ TakenBy (now (access .entry)) (now (end .entry)) (now (component .entry)) r (now (end .exit)) ⌝ }
 {
-    let moved = end.arrived(access, component);
-    let outcome = moved.outcome;
-    let next = moved.end;
-    Moving {
-        refusal: refusal_in(outcome),
-        end: next,
-    }
+    refusal_in(arrived(end, access, component))
 }
 
 // What `end` becomes when it gives up.

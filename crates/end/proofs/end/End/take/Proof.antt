@@ -8,10 +8,10 @@ use borrow.Author.Tests.{not-true, not-false}
 use native.Mathlib.Omega.{arith}
 use mathlib.Core.Path.{sym, ap, _∙_}
 use borrow.Author.Needs.{needs}
-use Rattle.end.proofs.end.End.arrived.Statement.{statement}
-use Rattle.end.proofs.end.End.arrived.Tie as tie
-use Rattle.end.proofs.end.End.arrived.Reads as reads
-use Rattle.end.proofs.end.End.arrived.Lts as lts
+use Rattle.end.proofs.end.End.take.Statement.{statement}
+use Rattle.end.proofs.end.End.take.Tie as tie
+use Rattle.end.proofs.end.End.take.Reads as reads
+use Rattle.end.proofs.end.End.take.Lts as lts
 use Rattle.end.proofs.end.End.good.Reads as good-reads
 use Rattle.end.proofs.take.refuses.Reads as refuses-reads
 use Rattle.end.proofs.take.took.Reads as took-reads
@@ -57,8 +57,8 @@ took-requires c κs = used-most instancesMost _ _ (sym (c .before .good2 .ensure
 returns-4 : tie.Need-returns-4
 returns-4 c = let a = c .before .before .before .before .before .before .before .before .before .before .args in all-moves (takes (a .access .now) (a .self) (a .component .now)) _ _ (takes-all (a .access .now) (a .self) (a .component .now) (omega (arith, c .before .before .before .before .before .before .before .if1 .left)) (ap (λ (q : AccessRead). q .ok) (sym (c .before .before .before .before .before .before .read-access .ensures)) ∙ not-false _ (c .before .before .before .before .if2 .left)) (rw (c .before .before .before .before .before .before .read-access .ensures) at (sym (c .before .before .good2 .ensures) ∙ not-false _ (c .before .if3 .left)))) (rw (c .before .before .before .before .before .before .read-access .ensures) at (c .took .ensures))
 
-pub arrived-spec : {M : Type 1} → statement M
-arrived-spec =
+pub take-spec : {M : Type 1} → statement M
+take-spec =
     tie.close
     (tie.spec
     refuses-requires
