@@ -9,8 +9,8 @@ use Rattle.calls.specs.Call.{callFrom}
 use Rattle.calls.specs.Divert.{comes}
 use Rattle.calls.specs.Original.{goesOn, handedOn, originalIn}
 
-pub original-goes :
+pub original-on :
     (access : List ℕ) (t : Table) (s : List ℕ) → goesOn (comes access t s .told) ≡ true →
     originalIn access t s ≡ handedOn access s (accessRead access .profile) (callFrom s)
 unfolding originalIn
-original-goes access t s h = rw h
+original-on access t s h = rw h

@@ -62,10 +62,10 @@ pub refused-made :
 refused-made m xs refusal w is e = record { told = rw (is, e); lent = rw (is, e) (puts-all (omega arith) wrote-none) }
 
 -- what is put there is what is told
-pub put-made :
+pub written-made :
     (m : Made) (xs : List ℕ) (w : Written) (ws : List ℕ) (n : ℕ) (ys : List ℕ) → m ≡ made ws → w ≡ allWritten n →
     Puts xs 0 ws n ys → MadeIn m xs w ys
-put-made m xs w ws n ys is e put = record { told = rw (is, e); lent = rw (is, e) put }
+written-made m xs w ws n ys is e put = record { told = rw (is, e); lent = rw (is, e) put }
 
 -- a request that may be sent is put whole: it has at most 95 octets
 pub request-put :

@@ -7,7 +7,7 @@ use Rattle.profile.specs.Access.{accessRead}
 use Rattle.exchange.specs.Table.{freshTable}
 use Rattle.exchange.specs.declared.table.Table.{Table}
 use Rattle.sheets.specs.Sheets.{readSheet}
-use Rattle.grid.specs.Equal.{Alike, Component, Same, gridAfter, runAfter}
+use Rattle.grid.specs.Equal.{Alike, Component, SameTable, gridAfter, runAfter}
 use Rattle.grid.specs.Sheets.{gridReadSheet}
 use Rattle.grid.specs.Table.{GridTable, gridFresh}
 use Rattle.grid.proofs.SameArrivals.{sequence-same}
@@ -16,9 +16,9 @@ use Rattle.grid.proofs.SameSheets.{read-same, wrote-same}
 use Rattle.grid.proofs.SameTables.{fresh-same}
 
 -- tables that are the same
-pub same-alike : (access : List ℕ) (g : GridTable) (t : Table) → Same (accessRead access .profile) g t → Alike access g t
+pub same-alike : (access : List ℕ) (g : GridTable) (t : Table) → SameTable (accessRead access .profile) g t → Alike access g t
 same-alike access g t so =
-    let after : (cs : List Component) → Same (accessRead access .profile) (gridAfter access g cs) (runAfter access t cs) =
+    let after : (cs : List Component) → SameTable (accessRead access .profile) (gridAfter access g cs) (runAfter access t cs) =
     λ cs. sequence-same access cs g t so .1 in
     record {
       replies = λ cs. sequence-same access cs g t so .0;

@@ -32,12 +32,12 @@ use Rattle.grid.proofs.RowInstances.{rowOf, rows-all, slot-is}
 use Rattle.grid.proofs.Rows.{Ruled, active-rules}
 
 -- the address at a place of a row, and that of a procedure, number and service, as it stands in its cell
-abbrev pub addressAt : Row → ℕ → Option Address
-addressAt row j = pick (active row j) (some (cellAt row j .address)) none
+abbrev pub cellAddress : Row → ℕ → Option Address
+cellAddress row j = pick (active row j) (some (cellAt row j .address)) none
 
 abbrev pub foundIn : Profile → Grid → ℕ → ℕ → ℕ → Option Address
 foundIn p grid q n s =
-    pick (ltb q gridProcedures) (pick (hasPlace p n s) (addressAt (rowAt grid q) (placeAt p n s)) none) none
+    pick (ltb q gridProcedures) (pick (hasPlace p n s) (cellAddress (rowAt grid q) (placeAt p n s)) none) none
 
 module _ (q n s : ℕ) where
   abbrev find : List Instance → Option Address
@@ -76,9 +76,9 @@ module _ (q n s : ℕ) where
         (λ e. find-on q n s (one ∷ []) one [] refl (h e) ∙ find-none q n s [] refl)
         (λ _. find-none q n s [] refl)
 
-    place-found : (active row j ≡ true → isAt q n s one ≡ true) → find (placeInstances k row j) ≡ addressAt row j
+    place-found : (active row j ≡ true → isAt q n s one ≡ true) → find (placeInstances k row j) ≡ cellAddress row j
     place-found h =
-        by-bool (find (placeInstances k row j) ≡ addressAt row j) (active row j)
+        by-bool (find (placeInstances k row j) ≡ cellAddress row j) (active row j)
         (λ e. rw e (find-here q n s (one ∷ []) one [] refl (h e)))
         (λ e. rw e (find-none q n s [] refl))
 
@@ -104,7 +104,7 @@ module _ (q n s : ℕ) where
           let its : placeOf s (subscribedServices p) ≡ serviceOfPlace j = ap (λ (c : ℕ). placeOf c (subscribedServices p)) (sym service) ∙ slot in
           (omega (arith, its, number), place-has p whole n s (omega (arith, number, ruled .number)) (omega (arith, its, ruled .slot)))
 
-    own-found : find (rowInstances q row) ≡ pick (hasPlace p n s) (addressAt row (placeAt p n s)) none
+    own-found : find (rowInstances q row) ≡ pick (hasPlace p n s) (cellAddress row (placeAt p n s)) none
     own-found =
         by-bool _ (hasPlace p n s)
         (λ (e : hasPlace p n s ≡ true).

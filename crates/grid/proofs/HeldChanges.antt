@@ -27,7 +27,7 @@ use Rattle.grid.specs.Holds.{holds}
 use Rattle.grid.specs.Row.{Places, Row, cellAt, clearIn, gridSelected, places, putIn}
 use Rattle.grid.specs.Selection.{cellPlaces}
 use Rattle.grid.specs.Table.{GridTable, gridTableGood, gridWithRow}
-use Rattle.grid.proofs.FoundCells.{addressAt, foundIn, found-holds}
+use Rattle.grid.proofs.FoundCells.{cellAddress, foundIn, found-holds}
 use Rattle.grid.proofs.HeldGoods.{good-small, held-good}
 use Rattle.grid.proofs.ProfilePlaces.{WholeProfile, has-place, placeAt}
 use Rattle.grid.proofs.Rows.{active-clear, active-put, cell-clear, cell-put, pick-same}
@@ -69,16 +69,16 @@ module _ (p : Profile) (chosen : Selection) where
 
 module _ (w : Places) (row : Row) (j : ℕ) where
   -- the cells that are selected get the address ..
-  pub address-put :
+  pub found-put :
       (address : Address) → j < length (row .cells) →
-      addressAt (putIn w address row) j ≡ pick (gridSelected w j) (some address) (addressAt row j)
-  address-put address lt =
+      cellAddress (putIn w address row) j ≡ pick (gridSelected w j) (some address) (cellAddress row j)
+  found-put address lt =
       by-bool _ (gridSelected w j)
       (λ (e : gridSelected w j ≡ true). rw (active-put w address row j lt, cell-put w address row j lt, e))
       (λ (e : gridSelected w j ≡ false). rw (active-put w address row j lt, cell-put w address row j lt, e))
 
   -- .. or lose it
-  pub address-clear : addressAt (clearIn w row) j ≡ pick (gridSelected w j) none (addressAt row j)
+  pub address-clear : cellAddress (clearIn w row) j ≡ pick (gridSelected w j) none (cellAddress row j)
   address-clear =
       by-bool _ (gridSelected w j)
       (λ (e : gridSelected w j ≡ true). rw (active-clear w row j, e))
@@ -95,7 +95,7 @@ module _ (p : Profile) (whole : WholeProfile p) (r : Request) (g : GridTable) (s
   row = rowAt (g .grid) (r .procedure)
 
   module _ (now : Option Address) (next : Row)
-      (changes : (j : ℕ) → j < places → addressAt next j ≡ pick (gridSelected (cellPlaces p r) j) now (addressAt row j)) where
+      (changes : (j : ℕ) → j < places → cellAddress next j ≡ pick (gridSelected (cellPlaces p r) j) now (cellAddress row j)) where
     abbrev after : Grid
     after = gridWithRow (r .procedure) next g .grid
 
@@ -105,7 +105,7 @@ module _ (p : Profile) (whole : WholeProfile p) (r : Request) (g : GridTable) (s
     -- a place of the procedure, and one of another
     own-place :
         (q n s : ℕ) → q ≡ r .procedure → hasPlace p n s ≡ true →
-        addressAt (rowAt after q) (placeAt p n s) ≡ pick (names (selectionOf p r) q n s) now (addressAt (rowAt (g .grid) q) (placeAt p n s))
+        cellAddress (rowAt after q) (placeAt p n s) ≡ pick (names (selectionOf p r) q n s) now (cellAddress (rowAt (g .grid) q) (placeAt p n s))
     own-place q n s same here =
         let place = has-place p whole n s here in
         let there : rowAt after q ≡ next = its-row q ∙ rw (eq-eqb q (r .procedure) same) in
@@ -113,7 +113,7 @@ module _ (p : Profile) (whole : WholeProfile p) (r : Request) (g : GridTable) (s
 
     other-place :
         (q n s : ℕ) → (q ≡ r .procedure → ⊥) →
-        addressAt (rowAt after q) (placeAt p n s) ≡ pick (names (selectionOf p r) q n s) now (addressAt (rowAt (g .grid) q) (placeAt p n s))
+        cellAddress (rowAt after q) (placeAt p n s) ≡ pick (names (selectionOf p r) q n s) now (cellAddress (rowAt (g .grid) q) (placeAt p n s))
     other-place q n s other =
         let there : rowAt after q ≡ rowAt (g .grid) q = its-row q ∙ rw (ne-eqb q (r .procedure) other) in
         rw (there, unconcerned p whole r q other)

@@ -28,7 +28,7 @@ use Rattle.grid.specs.Selection.{cellPlaces}
 use Rattle.grid.specs.Table.{GridTable, gridTableGood, gridWithRow}
 use Rattle.grid.proofs.Grids.{grid-rows}
 use Rattle.grid.proofs.HandledRequests.{place-good}
-use Rattle.grid.proofs.HeldChanges.{activated-becomes, address-clear, address-put, becomes-same, deactivated-becomes, grid-becomes}
+use Rattle.grid.proofs.HeldChanges.{activated-becomes, address-clear, found-put, becomes-same, deactivated-becomes, grid-becomes}
 use Rattle.grid.proofs.HeldGoods.{held-good}
 use Rattle.grid.proofs.InstanceCounts.{procedure-count}
 use Rattle.grid.proofs.ProfilePlaces.{WholeProfile, rules}
@@ -89,13 +89,13 @@ module _ (p : Profile) (whole : WholeProfile p) (r : Request) (g : GridTable) (s
         (activated-good p (rules p whole) (selectionOf p r) (r .to .address) (omega (arith, own, known))
         (ap (λ (k : ℕ). getD (p .subscribed) k 0) own ∙ flag) address limit held (held-good limit p whole g good) within)
         (grid-becomes p whole r g shaped known (some (r .to .address)) put
-        (λ j lt. address-put (cellPlaces p r) row j (r .to .address) (omega (arith, lt, shaped .cells q known)))
+        (λ j lt. found-put (cellPlaces p r) row j (r .to .address) (omega (arith, lt, shaped .cells q known)))
         limit limit good kept)
         (activated-becomes p (selectionOf p r) (r .to .address) held)
 
     -- "instances of the procedure afterwards"
-    pub count-same : gridTableGood instancesMost p g ≡ true → countWith (cellPlaces p r) row ≡ afterwards p r held
-    count-same good =
+    pub held-count : gridTableGood instancesMost p g ≡ true → countWith (cellPlaces p r) row ≡ afterwards p r held
+    held-count good =
         let q = r .procedure in
         let mine : ℕ = countWith (cellPlaces p r) row in
         let its : ℕ = countOf (selectionOf p r .procedure) made in
@@ -113,7 +113,7 @@ module _ (p : Profile) (whole : WholeProfile p) (r : Request) (g : GridTable) (s
     pub activation-held :
         gridTableGood instancesMost p g ≡ true → countWith (cellPlaces p r) row ≤ instancesMost → holds (with put .grid) ≡ made
     activation-held good few =
-        put-held instancesMost good few (omega (arith, few, counted, count-same good))
+        put-held instancesMost good few (omega (arith, few, counted, held-count good))
 
   -- ---- a deactivation
 

@@ -23,13 +23,13 @@ use Rattle.exchange.specs.declared.table.Table.{Table}
 use Rattle.exchange.proofs.Arrivals as run
 use Rattle.exchange.proofs.Nexts.{next-good}
 use Rattle.grid.specs.Arrive.{GridDone, gridDone, gridRefused}
-use Rattle.grid.specs.Equal.{BothBreak, Component, DoneSame, HoldSame, Same, gridAfter, gridReplies, runAfter, runReplies}
+use Rattle.grid.specs.Equal.{BothBreak, Component, DoneSame, HoldSame, SameTable, gridAfter, gridReplies, runAfter, runReplies}
 use Rattle.grid.specs.Step.{gridStep}
 use Rattle.grid.specs.Table.{GridTable}
 use Rattle.grid.proofs.Arrivals.{done-answers, done-long, done-profile, done-short, done-table}
 use Rattle.grid.proofs.Nexts.{step-good, step-shaped}
 use Rattle.grid.proofs.ProfilePlaces.{access-whole}
-use Rattle.grid.proofs.SameSteps.{step-same}
+use Rattle.grid.proofs.SameSteps.{steps-same}
 
 -- ---- one component
 
@@ -61,7 +61,7 @@ module _ (access : List ℕ) (g : GridTable) (t : Table) (s : List ℕ) (size : 
 
   -- a refusal of both hands both tables back
   both-refuse :
-      Same p g t → (refusal : Refusal) → gridDone access g s size ≡ gridRefused g refusal → done access t s size ≡ refused t refusal →
+      SameTable p g t → (refusal : Refusal) → gridDone access g s size ≡ gridRefused g refusal → done access t s size ≡ refused t refusal →
       DoneSame p (gridDone access g s size) (done access t s size)
   both-refuse so refusal a b = rw (a, b) (record { told = refl; octets = refl; tables = so })
 
@@ -77,7 +77,7 @@ module _ (access : List ℕ) (g : GridTable) (t : Table) (s : List ℕ) (size : 
     both-answer : DoneSame p (gridDone access g s size) (done access t s size)
     both-answer =
         let whole = access-whole access ok in
-        let same = step-same p whole g t so s in
+        let same = steps-same p whole g t so s in
         rw (done-answers access g s size room fair ok (so .grid-good), is)
         (record {
           told = ap (λ a. tells (answeredBy a)) (same .answer);
@@ -93,7 +93,7 @@ module _ (access : List ℕ) (g : GridTable) (t : Table) (s : List ℕ) (size : 
           });
         })
 
-  by-course : Same p g t → Course → DoneSame p (gridDone access g s size) (done access t s size)
+  by-course : SameTable p g t → Course → DoneSame p (gridDone access g s size) (done access t s size)
   by-course so (refuse refusal a b) = both-refuse so refusal a b
   by-course so (heed room fair ok) =
       ⊎-elim (both-answer room fair ok)
@@ -103,7 +103,7 @@ module _ (access : List ℕ) (g : GridTable) (t : Table) (s : List ℕ) (size : 
       so
 
   -- the same reply or refusal, the same octets, and the same table
-  pub done-same : Same p g t → DoneSame p (gridDone access g s size) (done access t s size)
+  pub done-same : SameTable p g t → DoneSame p (gridDone access g s size) (done access t s size)
   done-same so = by-course so course
 
   -- where the profile breaks a rule any two tables are refused alike, and handed back
@@ -129,8 +129,8 @@ module _ (access : List ℕ) (g : GridTable) (t : Table) (s : List ℕ) (size : 
 
 -- from tables that are the same every sequence of components gets the same replies, octet for octet, and leaves the same table
 pub sequence-same :
-    (access : List ℕ) (cs : List Component) (g : GridTable) (t : Table) → Same (accessRead access .profile) g t →
-    (gridReplies access g cs ≡ runReplies access t cs) × Same (accessRead access .profile) (gridAfter access g cs) (runAfter access t cs)
+    (access : List ℕ) (cs : List Component) (g : GridTable) (t : Table) → SameTable (accessRead access .profile) g t →
+    (gridReplies access g cs ≡ runReplies access t cs) × SameTable (accessRead access .profile) (gridAfter access g cs) (runAfter access t cs)
 unfolding gridReplies runReplies gridAfter runAfter
 sequence-same access [] g t so = (refl, so)
 sequence-same access (c ∷ cs) g t so =

@@ -24,7 +24,7 @@ use Rattle.calls.proofs.Instances.{applying-used}
 use Rattle.calls.proofs.Instances as instances
 use Rattle.calls.proofs.Records.{good-call}
 use Rattle.grid.specs.Calls.{gridApplying, gridComes, gridOriginal, gridPlaceOfCall, gridSlotOf}
-use Rattle.grid.specs.Equal.{BothBreak, HoldSame, Same}
+use Rattle.grid.specs.Equal.{BothBreak, HoldSame, SameTable}
 use Rattle.grid.specs.Grid.{Grid, gridGood, rowAt}
 use Rattle.grid.specs.Holds.{holds}
 use Rattle.grid.specs.Row.{Row, active}
@@ -78,7 +78,7 @@ module _ (p : Profile) (whole : WholeProfile p) (grid : Grid) (good : gridGood i
 
 -- ---- the call
 
-module _ (access : List ℕ) (g : GridTable) (t : Table) (s : List ℕ) (so : Same (accessRead access .profile) g t) where
+module _ (access : List ℕ) (g : GridTable) (t : Table) (s : List ℕ) (so : SameTable (accessRead access .profile) g t) where
   abbrev p : Profile
   p = accessRead access .profile
 

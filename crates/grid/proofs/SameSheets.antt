@@ -33,7 +33,7 @@ use Rattle.sheets.specs.inner.Refused.{sheetRefused}
 use Rattle.sheets.proofs.ReadTables as run
 use Rattle.sheets.proofs.Tables.{reads-form, reads-outside, reads-profile, reads-table}
 use Rattle.sheets.proofs.WrittenSheets as written
-use Rattle.grid.specs.Equal.{BothBreak, HoldSame, ReadSame, Same}
+use Rattle.grid.specs.Equal.{BothBreak, HoldSame, ReadSame, SameTable}
 use Rattle.grid.specs.Grid.{noGrid}
 use Rattle.grid.specs.Holds.{holds}
 use Rattle.grid.specs.Sheets.{GridTableRead, allPlaced, gridAllIn, gridNotRead, gridReadSheet, gridWroteSheet}
@@ -48,7 +48,7 @@ use Rattle.grid.proofs.WrittenSheets.{writes-profile, writes-sheet, wri
 -- ---- written
 
 pub wrote-same :
-    (access : List ℕ) (g : GridTable) (t : Table) (size : ℕ) → Same (accessRead access .profile) g t →
+    (access : List ℕ) (g : GridTable) (t : Table) (size : ℕ) → SameTable (accessRead access .profile) g t →
     gridWroteSheet access g size ≡ wroteSheet access t size
 wrote-same access g t size so =
     let p : Profile = accessRead access .profile in

@@ -150,8 +150,8 @@ module _ (p : Profile) (whole : WholeProfile p) (g : GridTable) (t : Table) (so 
         rw (step-asks p t s identifier operation r e)
         (handled-same identifier operation r (question-asks p (t .last) s identifier operation r e))
 
-    pub step-same : StepSame (gridStep p g s) (step p t s)
-    step-same =
+    pub steps-same : StepSame (gridStep p g s) (step p t s)
+    steps-same =
         let is : gridStep p g s ≡ gridStepOf p g (question p (t .last) s) =
         step-is p g s ∙ ap (λ (last : ℕ). gridStepOf p g (question p last s)) (so .last) in
         rw is (question-same (question p (t .last) s) refl)

@@ -42,15 +42,15 @@ pub record BothBreak (p : Profile) (g : GridTable) (t : Table) : Type 0 where
   pub grid-bad : gridTableGood instancesMost p g ≡ false
   pub run-bad : tableGood instancesMost p t ≡ false
 
-abbrev pub Same : Profile → GridTable → Table → Type 0
-Same p g t = HoldSame p g t ⊎ BothBreak p g t
+abbrev pub SameTable : Profile → GridTable → Table → Type 0
+SameTable p g t = HoldSame p g t ⊎ BothBreak p g t
 
 -- ---- what is done with a component: the same answer or refusal, the same octets, and the same table
 
 pub record DoneSame (p : Profile) (x : GridDone) (y : Done) : Type 0 where
   pub told : x .told ≡ y .told
   pub octets : x .octets ≡ y .octets
-  pub tables : Same p (x .table) (y .table)
+  pub tables : SameTable p (x .table) (y .table)
 
 -- ---- and with any sequence of them
 

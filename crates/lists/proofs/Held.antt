@@ -50,61 +50,61 @@ kept-holds depth s at end to next e =
 
 -- ---- an entry
 
-abbrev pub Held : Entry → Type 0
-Held e = addressGood (e .address) ≡ true
+abbrev pub HoldsAddress : Entry → Type 0
+HoldsAddress e = addressGood (e .address) ≡ true
 
 last-held :
     (served : Number) (service procedure : ℕ) (s : List ℕ) (at end next : ℕ) →
-    Something Held (lastField served service procedure s at end next)
+    Something HoldsAddress (lastField served service procedure s at end next)
 unfolding lastField
 last-held served service procedure s at end next =
-    found-then Held (addressAt fieldDepth s at end) _ (λ to place e.
-    pick-ind (Something Held) (all (eqb place end ∷ kept to ∷ []))
+    found-then HoldsAddress (addressAt fieldDepth s at end) _ (λ to place e.
+    pick-ind (Something HoldsAddress) (all (eqb place end ∷ kept to ∷ []))
     (λ t.
     let is = both-hold (eqb place end) (kept to) t .1 in
     both-hold (eqb (to .user) 0) (addressGood (to .address)) (sym (kept-holds fieldDepth s at end to place e) ∙ is) .1)
     (λ _. tt))
 
-fields-held : (s : List ℕ) (start stop next : ℕ) → Something Held (fieldsIn s start stop next)
+fields-held : (s : List ℕ) (start stop next : ℕ) → Something HoldsAddress (fieldsIn s start stop next)
 unfolding fieldsIn codesIn
 fields-held s start stop next =
-    found-then Held (numberAt fieldDepth s start stop) _ (λ served a _.
-    found-then Held (valueOf (enumeratedAt fieldDepth s a stop)) _ (λ service b _.
-    found-then Held (valueOf (enumeratedAt fieldDepth s b stop)) _ (λ procedure c _.
+    found-then HoldsAddress (numberAt fieldDepth s start stop) _ (λ served a _.
+    found-then HoldsAddress (valueOf (enumeratedAt fieldDepth s a stop)) _ (λ service b _.
+    found-then HoldsAddress (valueOf (enumeratedAt fieldDepth s b stop)) _ (λ procedure c _.
     last-held served service procedure s c stop next)))
 
 -- an entry that is read has an address that a table holds
 pub entry-held : (s : List ℕ) (at end : ℕ) (e : Entry) (next : ℕ) → entryAt s at end ≡ got e next → addressGood (e .address) ≡ true
 unfolding entryAt
 entry-held s at end e next is =
-    found-is Held is
-    (found-then Held (partAt entryDepth s at end) _ (λ part next _.
-    pick-ind (Something Held) (eqb (part .tag) 0x30) (λ _. fields-held s (part .start) (part .stop) next) (λ _. tt)))
+    found-is HoldsAddress is
+    (found-then HoldsAddress (partAt entryDepth s at end) _ (λ part next _.
+    pick-ind (Something HoldsAddress) (eqb (part .tag) 0x30) (λ _. fields-held s (part .start) (part .stop) next) (λ _. tt)))
 
 -- ---- a list
 
-first-held : (e : Entry) → Held e → (g : Got (List Entry)) → Something (Each Held) g → Something (Each Held) (withFirst e g)
+first-held : (e : Entry) → HoldsAddress e → (g : Got (List Entry)) → Something (Each HoldsAddress) g → Something (Each HoldsAddress) (withFirst e g)
 first-held e h (got es next) each = (h, each)
 first-held e h wrong each = tt
 
-entries-each : (left : ℕ) (s : List ℕ) (at end : ℕ) → Something (Each Held) (entriesFrom left s at end)
+entries-each : (left : ℕ) (s : List ℕ) (at end : ℕ) → Something (Each HoldsAddress) (entriesFrom left s at end)
 unfolding entriesFrom
-entries-each zero s at end = pick-ind (Something (Each Held)) (eqb at end) {x = got [] end} (λ _. tt) (λ _. tt)
+entries-each zero s at end = pick-ind (Something (Each HoldsAddress)) (eqb at end) {x = got [] end} (λ _. tt) (λ _. tt)
 entries-each (suc left) s at end =
-    pick-ind (Something (Each Held)) (eqb at end) {x = got [] end} (λ _. tt) (λ _.
-    found-then (Each Held) (entryAt s at end) _ (λ e next is.
+    pick-ind (Something (Each HoldsAddress)) (eqb at end) {x = got [] end} (λ _. tt) (λ _.
+    found-then (Each HoldsAddress) (entryAt s at end) _ (λ e next is.
     first-held e (entry-held s at end e next is) (entriesFrom left s next end) (entries-each left s next end)))
 
 -- and so has each entry of a list that is read
-pub entries-held :
-    (left : ℕ) (s : List ℕ) (at end : ℕ) (es : List Entry) (next : ℕ) → entriesFrom left s at end ≡ got es next → Each Held es
-entries-held left s at end es next is = found-is (Each Held) is (entries-each left s at end)
+pub list-held :
+    (left : ℕ) (s : List ℕ) (at end : ℕ) (es : List Entry) (next : ℕ) → entriesFrom left s at end ≡ got es next → Each HoldsAddress es
+list-held left s at end es next is = found-is (Each HoldsAddress) is (entries-each left s at end)
 
 -- what `entries_at` accepts
 pub accepted-held :
-    (s : List ℕ) (at end : ℕ) (r : EntriesRead) → EntriesAt s at end r → r .ok ≡ true → Each Held (entriesIn (r .list))
+    (s : List ℕ) (at end : ℕ) (r : EntriesRead) → EntriesAt s at end r → r .ok ≡ true → Each HoldsAddress (entriesIn (r .list))
 accepted-held s at end r told = each (entriesFrom instancesMost s at end) (entries-each instancesMost s at end) told
   where
-    each : (g : Got (List Entry)) → Something (Each Held) g → r ≡ entriesRead g → r .ok ≡ true → Each Held (entriesIn (r .list))
+    each : (g : Got (List Entry)) → Something (Each HoldsAddress) g → r ≡ entriesRead g → r .ok ≡ true → Each HoldsAddress (entriesIn (r .list))
     each (got es next) held e ok = rw (e, take-append-seam es _) held
     each wrong held e ok = absurd (false≢true (sym (ap (λ (x : EntriesRead). x .ok) e) ∙ ok))

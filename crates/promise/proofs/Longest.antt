@@ -15,7 +15,7 @@ use Rattle.exchange.specs.declared.table.Table.{Table}
 use Rattle.exchange.proofs.Nexts.{reply-fits}
 use Rattle.sheets.specs.Sheets.{wroteSheet}
 use Rattle.sheets.proofs.WrittenTables.{Arrays}
-use Rattle.sheets.proofs.WrittenSheets.{written-most}
+use Rattle.sheets.proofs.WrittenSheets.{sheet-written-most}
 use Rattle.promise.specs.Longest.{wideAccess, fullTable, lastInterrogation}
 use Rattle.promise.proofs.Samples.{row}
 
@@ -32,4 +32,4 @@ longest-reply = (reply-fits, row 46 .0 .1)
 pub longest-sheet :
     ((access : List ℕ) (t : Table) (size : ℕ) → Each Arrays (instancesOf (t .run)) → length (wroteSheet access t size .octets) ≤ 1613)
     × (length (wroteSheet wideAccess fullTable 1613 .octets) ≡ 1613)
-longest-sheet = (written-most, row 47 .0)
+longest-sheet = (sheet-written-most, row 47 .0)

@@ -86,17 +86,17 @@ heard-not-one s small none = by-head (headAt componentDepth s 0 (length s)) refl
 
 module _ {tag : ℕ} {contents s : List ℕ} (sp : Spells tag contents s) where
   -- what is heard of one element is heard in it
-  pub heard-one :
+  pub heard-within :
       (tag % 32 ≡ 31 → ⊥) →
       heard s ≡ heardIn s (record { tag = tag; start = suc (suc (sp .k)); stop = length s })
-  heard-one low =
+  heard-within low =
       let e = spells-back componentDepth s 0 (length s) sp (λ z. omega arith) low (stands-whole s) (omega arith) (omega arith) in
       heard-filled s (rw (zero-add (length s), zero-add (suc (suc (sp .k)))) at e) refl
 
   -- "outer tag A2, A3, A4": whatever it holds
   pub heard-silent : replyTag tag ≡ true → heard s ≡ Silent
   heard-silent reply =
-      heard-one
+      heard-within
       (λ ones.
       false≢true
       (sym (no-reply-tag tag (λ e. omega arith) (λ e. omega arith) (λ e. omega arith)) ∙ reply))
@@ -104,4 +104,4 @@ module _ {tag : ℕ} {contents s : List ℕ} (sp : Spells tag contents s) where
 
   -- "another outer tag but A1"
   pub heard-other : (tag % 32 ≡ 31 → ⊥) → replyTag tag ≡ false → (tag ≡ 0xA1 → ⊥) → heard s ≡ OtherTag
-  heard-other low reply other = heard-one low ∙ rw (reply, ne-eqb tag 0xA1 other)
+  heard-other low reply other = heard-within low ∙ rw (reply, ne-eqb tag 0xA1 other)

@@ -23,7 +23,7 @@ use Rattle.values.proofs.Spellings.{ident-only}
 use Rattle.requests.specs.Heard.{insideDepth, local, replyTag, operationAt, identifierAt, heard}
 use Rattle.requests.specs.Spelt.{SignedSpelt, NoneFirst}
 use Rattle.requests.specs.declared.heard.Heard.the-variants.{NoIdentifier, NoOperation, Asks}
-use Rattle.requests.proofs.Heards.{heard-one}
+use Rattle.requests.proofs.Heards.{heard-within}
 
 -- ---- a value that stands first, or none
 
@@ -87,7 +87,7 @@ pub holds : {contents s : List ℕ} → Spells 0xA1 contents s → Holds content
 unfolding replyTag
 holds {contents} {s} sp = record {
   start = suc (suc (sp .k));
-  says = heard-one sp (λ e. omega arith);
+  says = heard-within sp (λ e. omega arith);
   stands = rw (zero-add (suc (suc (sp .k)))) at (spells-contents s 0 sp (stands-whole s));
   ends = omega (arith, spells-length sp);
 }

@@ -11,13 +11,13 @@ use Rattle.instances.specs.Instance.{everyNumber, named}
 use Rattle.rules.specs.Judge.{selectedSame}
 
 module _ (p : Profile) (asked : ℕ) (to : Number) (from : ℕ) where
-  pub same-none : selectedSame p asked to from [] ≡ false
+  pub selected-none : selectedSame p asked to from [] ≡ false
   unfolding selectedSame
-  same-none = refl
+  selected-none = refl
 
-  pub same-more :
+  pub selected-more :
       (n : Number) (ns : List Number) →
       selectedSame p asked to from (n ∷ ns)
       ≡ any (all (named everyNumber asked from ∷ same p n to ∷ []) ∷ selectedSame p asked to (1 + from) ns ∷ [])
   unfolding selectedSame
-  same-more n ns = refl
+  selected-more n ns = refl

@@ -28,7 +28,7 @@ use Rattle.instances.specs.Run.{instancesOf}
 use Rattle.sheets.specs.Sheets.{wroteSheet, WritesSheet, readSheet, ReadsSheet}
 use Rattle.sheets.specs.declared.read.SheetRead.{SheetRead}
 use Rattle.sheets.proofs.WrittenTables.{Arrays}
-use Rattle.sheets.proofs.WrittenSheets.{writes-short, writes-profile, writes-table, writes-sheet, written-most}
+use Rattle.sheets.proofs.WrittenSheets.{writes-short, writes-profile, writes-table, writes-sheet, sheet-written-most}
 use Rattle.sheets.proofs.ReadTables.{read-ok, accepted-table, accepted-size, read-good}
 use Rattle.sheets.proofs.TableTrips.{SameInstances, ReadsAs, table-back}
 
@@ -56,7 +56,7 @@ module _ (access : List ℕ) (t : Table) (size : ℕ) (done : wroteSheet access 
   module _ (arrays : Each Arrays (instancesOf (t .run))) where
     -- there was room for the sheet
     written-fits : length (wroteSheet access t size .octets) ≤ size
-    written-fits = omega (arith, written-room, written-most access t size arrays)
+    written-fits = omega (arith, written-room, sheet-written-most access t size arrays)
 
     -- its octets are read as that table
     pub octets-back : ReadsAs access (wroteSheet access t size .octets) t

@@ -56,11 +56,11 @@ module _ (access : List ℕ) (t : Table) (size : ℕ) where
       writes-sheet good = rw (le-ltb size (sheetMost form1) enough, ok, good)
 
 -- "under .. 1,613 (sheet)": every sheet that is written fits there
-pub written-most :
+pub sheet-written-most :
     (access : List ℕ) (t : Table) (size : ℕ) → Each Arrays (instancesOf (t .run)) →
     length (wroteSheet access t size .octets) ≤ sheetMost form1
 unfolding wroteSheet
-written-most access t size arrays =
+sheet-written-most access t size arrays =
     let p = accessRead access .profile in
     let P : Made → Type 0 = λ m. length (m .octets) ≤ sheetMost form1 in
     pick-ind P (ltb size (sheetMost form1)) (λ _. omega arith) (λ _.

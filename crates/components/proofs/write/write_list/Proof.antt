@@ -2,7 +2,7 @@ use mir.Facts.{toZ-ofZ}
 use native.Mathlib.Omega.{arith}
 use lib.ListN.{length}
 use Rattle.refusals.specs.declared.refusal.Refusal.the-variants.{ShortOutput, BadTable}
-use Rattle.components.proofs.Writings.{list-short, list-many, list-few, refused-made, put-made}
+use Rattle.components.proofs.Writings.{list-short, list-many, list-few, refused-made, written-made}
 use borrow.Author.Needs.{needs}
 use Rattle.components.proofs.write.write_list.Statement.{statement}
 use Rattle.components.proofs.write.write_list.Tie as tie
@@ -39,7 +39,7 @@ same-length c = search needs
 returns-3 : tie.Need-returns-3
 returns-3 c =
     let a = c .before .before .before .before .before .before .before .before .before .args in
-    put-made _ (a .out .now) _ _ _ _ (list-few _ (a .list) (length (a .out .now)) (omega (arith, c .before .before .before .before .before .before .before .if1 .left)) (omega (arith, c .before .before .before .before .before .if2 .left)))
+    written-made _ (a .out .now) _ _ _ _ (list-few _ (a .list) (length (a .out .now)) (omega (arith, c .before .before .before .before .before .before .before .if1 .left)) (omega (arith, c .before .before .before .before .before .if2 .left)))
     (c .done .ensures) (rw (toZ-ofZ (c .before .before .before .before .before .before .before .before .before .fits .identifier)) at (c .before .before .before .put-list .ensures))
 
 pub write-list-spec : {M : Type 1} → statement M

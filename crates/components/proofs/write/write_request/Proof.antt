@@ -6,7 +6,7 @@ use lib.ListN.{length}
 use borrow.Author.Tests.{not-true, not-false}
 use Rattle.refusals.specs.Refusal.{outputLeast}
 use Rattle.refusals.specs.declared.refusal.Refusal.the-variants.{ShortOutput, BadRequest}
-use Rattle.components.proofs.Writings.{request-short, request-unfit, request-fit, refused-made, put-made, request-put}
+use Rattle.components.proofs.Writings.{request-short, request-unfit, request-fit, refused-made, written-made, request-put}
 use borrow.Author.Needs.{needs}
 use Rattle.components.proofs.write.write_request.Statement.{statement}
 use Rattle.components.proofs.write.write_request.Tie as tie
@@ -47,7 +47,7 @@ returns-3 c =
     let range = c .before .before .before .before .before .before .before .before .before .fits .identifier in
     let enough : outputLeast ≤ length (a .out .now) = omega (arith, c .before .before .before .before .before .before .before .if1 .left) in
     let fit = sym (c .before .before .before .before .before .before .is-sendable .ensures) ∙ not-false _ (c .before .before .before .before .before .if2 .left) in
-    put-made _ (a .out .now) _ _ _ _ (request-fit _ (a .operation) (a .r) (length (a .out .now)) enough fit) (c .done .ensures)
+    written-made _ (a .out .now) _ _ _ _ (request-fit _ (a .operation) (a .r) (length (a .out .now)) enough fit) (c .done .ensures)
     (request-put (a .out .now) _ (a .operation) (a .r) _ _ (range .sfits) enough fit (rw (toZ-ofZ range) at (c .before .before .before .put-request .ensures)))
 
 pub write-request-spec : {M : Type 1} → statement M
