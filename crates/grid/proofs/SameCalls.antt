@@ -109,5 +109,5 @@ module _ (access : List ℕ) (g : GridTable) (t : Table) (s : List ℕ) (so : Sa
   original-same =
       let same : goesOn (gridComes access g s .told) ≡ goesOn (comes access t s .told) = ap (λ (x : Comes). goesOn (x .told)) comes-same in
       by-bool (gridOriginal access g s ≡ originalIn access t s) (goesOn (comes access t s .told))
-      (λ goes. original-goes access g s (same ∙ goes) ∙ sym (handed.original-goes access t s goes))
+      (λ goes. original-goes access g s (same ∙ goes) ∙ sym (handed.original-on access t s goes))
       (λ stays. original-none access g s (same ∙ stays) ∙ sym (run.original-none access t s stays))

@@ -55,11 +55,11 @@ module _ (p : Profile) (whole : WholeProfile p) (r : Request) where
   own-same :
       (from : ℕ) (ns : List Number) →
       gridSelectedSame p r from ns ≡ selectedSame p (numberAsked p (r .served)) (r .to .address .number) from ns
-  own-same from [] = same-none p r from ∙ sym (run.same-none p (numberAsked p (r .served)) (r .to .address .number) from)
+  own-same from [] = same-none p r from ∙ sym (run.selected-none p (numberAsked p (r .served)) (r .to .address .number) from)
   own-same from (n ∷ ns) =
       rw (
         same-more p r from n ns,
-        run.same-more p (numberAsked p (r .served)) (r .to .address .number) from n ns,
+        run.selected-more p (numberAsked p (r .served)) (r .to .address .number) from n ns,
         number-same p whole r from,
         own-same (1 + from) ns,
       )
