@@ -121,15 +121,27 @@ struct sconcetoad_request {
     struct sconcetoad_forwarded to;
 };
 
-/* What a component asks for: `asks` is 1 where it is a request that can be read, and then the rest is that request. */
+/* The row of document 01's table of replies at which the reading of a component stops. */
+enum {
+    SCONCETOAD_ROW_NOT_ONE = 1,       /* not one element filling the input */
+    SCONCETOAD_ROW_REPLY = 2,         /* outer tag A2, A3, A4 */
+    SCONCETOAD_ROW_OTHER_TAG = 3,
+    SCONCETOAD_ROW_NO_IDENTIFIER = 4,
+    SCONCETOAD_ROW_NO_OPERATION = 5,  /* its identifier is told */
+    SCONCETOAD_ROW_ASKS = 6           /* none of these: identifier and operation are told */
+};
+
+/* What a component says. `asks` is 1 where it is a request that can be read, and then `request` is that; else `request` is all zeros. Identifier and
+   operation are 0 where they were not read. */
 struct sconcetoad_said {
+    uint8_t row;
     uint8_t asks;
     int16_t identifier;
     int16_t operation;
     struct sconcetoad_request request;
 };
 
-/* Reads any octets; alters nothing. */
+/* Reads any octets; refuses and alters nothing. */
 struct sconcetoad_said sconcetoad_said(const uint8_t *component, size_t length);
 
 /* An active instance as a list tells it. */

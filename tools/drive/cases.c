@@ -1,4 +1,4 @@
-/* The cases of components and lists that C has a function for (docs/ARCHITECTURE.md, "Cases"). */
+/* The cases of components and lists (docs/ARCHITECTURE.md, "Cases"). */
 #include <stdio.h>
 #include <string.h>
 #include "drive.h"
@@ -71,6 +71,24 @@ static char *again_said(char *at, const struct sconcetoad_said *said)
     return spaced_to(at + sprintf(at, " again"), lent_octets(&output), put.count);
 }
 
+/* Why it is no request that can be read. */
+static char *row_said(char *at, const struct sconcetoad_said *said)
+{
+    uint8_t row = said->row;
+    if (row == SCONCETOAD_ROW_NO_OPERATION)
+        return at + sprintf(at, "no operation %d", said->identifier);
+    if (row == SCONCETOAD_ROW_ASKS) {
+        int known = strcmp(operation_said(said->operation), "?") != 0;
+        return at + sprintf(at, "asks %d operation %d%s", said->identifier, said->operation, known ? " wrong" : "");
+    }
+    return at + sprintf(at, "%s",
+                        row == SCONCETOAD_ROW_NOT_ONE         ? "not one"
+                        : row == SCONCETOAD_ROW_REPLY         ? "silent"
+                        : row == SCONCETOAD_ROW_OTHER_TAG     ? "other tag"
+                        : row == SCONCETOAD_ROW_NO_IDENTIFIER ? "no identifier"
+                                                              : "?");
+}
+
 static int read_request(void)
 {
     static char line[LINE_MOST];
@@ -78,7 +96,7 @@ static int read_request(void)
     struct sconcetoad_said said = sconcetoad_said(lent_octets(&component), component.size);
     if (!came_back(&component, 0))
         return wrong("an octet changed that should not");
-    end_line(line, said.asks == 1 ? again_said(request_said(line, &said), &said) : line + sprintf(line, "no request"));
+    end_line(line, said.asks == 1 ? again_said(request_said(line, &said), &said) : row_said(line, &said));
     return 0;
 }
 
@@ -178,7 +196,7 @@ static int obey(char *line)
         return 1;
     if (strcmp(line, "component") == 0)
         return read_request() || say_canaries();
-    if (strcmp(line, "list-read") == 0)
+    if (strcmp(line, "list-read") == 0 || strcmp(line, "reply-11") == 0)
         return read_reply(SCONCETOAD_INTERROGATION) || say_canaries();
     if (strcmp(line, "reply-7") == 0)
         return read_reply(SCONCETOAD_ACTIVATION) || say_canaries();
@@ -186,7 +204,7 @@ static int obey(char *line)
         return read_reply(SCONCETOAD_DEACTIVATION) || say_canaries();
     if (strcmp(line, "list-write") == 0)
         return write_list() || say_canaries();
-    return wrong("this is no case that C has a function for");
+    return wrong("this is no case");
 }
 
 int cases(void)

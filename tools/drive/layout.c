@@ -68,7 +68,8 @@ FIELD(request, served, 2, 24);
 FIELD(request, to, 26, 45);
 
 RECORD(said, 78);
-FIELD(said, asks, 0, 1);
+FIELD(said, row, 0, 1);
+FIELD(said, asks, 1, 1);
 FIELD(said, identifier, 2, 2);
 FIELD(said, operation, 4, 2);
 FIELD(said, request, 6, 71);

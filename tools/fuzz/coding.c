@@ -21,8 +21,9 @@ static void try_said(void)
     struct sconcetoad_said said = sconcetoad_said(lend_room(GIVEN_ROOM, &world.given), world.given.size);
     must(room_back(GIVEN_ROOM, &world.given, 0), "a component is altered");
     must(said.asks == 1 || (said.asks == 0 && zeros(&said.request, sizeof said.request)), "no request, and yet one");
+    must(said.asks == 0 || said.row == SCONCETOAD_ROW_ASKS, "a request at a row at which there is none");
     must(said.asks == 0 || said.operation == SCONCETOAD_ACTIVATION || said.operation == SCONCETOAD_DEACTIVATION || said.operation == SCONCETOAD_INTERROGATION, "a request of another operation");
-    reached(SAID, said.asks == 1 ? YES : NO);
+    reached(SAID, said.asks == 1 ? YES : said.row);
 }
 
 static void try_reply(void)

@@ -8,7 +8,7 @@ static const struct {
     const char *name;
     int answers[24]; /* ended by -1 */
 } may[ASKED] = {
-    {"said", {NO, YES, -1}},
+    {"said", {1, 2, 3, 4, 5, 6, YES, -1}},
     {"reply_to", {KIND + 0, KIND + 1, KIND + 2, KIND + 3, KIND + 4, KIND + 5, -1}},
     {"put_request", {0, 1, 10, -1}},
     {"put_list", {0, 1, 4, -1}},

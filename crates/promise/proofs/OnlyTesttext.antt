@@ -5,12 +5,9 @@ use mathlib.Core.Bool.{Bool}
 use mathlib.Core.List.{List}
 use lib.IntN.{ℤ}
 use Rattle.laws.proofs.Picks.{both}
-use Rattle.numbers.specs.declared.number.Number.{Number}
-use Rattle.numbers.specs.declared.address.Address.{Address}
 use Rattle.testtext.specs.Hex.{HexDigit, OctetOf, HexCharacter}
 use Rattle.testtext.specs.Line.{Find, LastNumber}
 use Rattle.testtext.specs.Outside.{AllOutside}
-use Rattle.testtext.specs.Record.{NumberOf, AddressOf}
 use Rattle.testtext.specs.Signed.{BelowZero, LastIdentifier, WithoutSign}
 use Rattle.testtext.specs.Words.{OctetsFrom}
 
@@ -32,12 +29,6 @@ only-last-number s = both
 pub only-all-outside :
     (s : List ℕ) (from to octet : ℕ) {a b : Bool} → AllOutside s from to octet a → AllOutside s from to octet b → a ≡ b
 only-all-outside s from to octet = both
-
-pub only-number-of : (s : List ℕ) {a b : Number} → NumberOf s a → NumberOf s b → a ≡ b
-only-number-of s = both
-
-pub only-address-of : (s : List ℕ) {a b : Address} → AddressOf s a → AddressOf s b → a ≡ b
-only-address-of s = both
 
 pub only-below-zero : (n : ℕ) {a b : ℤ} → BelowZero n a → BelowZero n b → a ≡ b
 only-below-zero n = both

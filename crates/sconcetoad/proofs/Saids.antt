@@ -6,13 +6,13 @@ use Rattle.laws.specs.Got.{Got, got, wrong}
 use Rattle.requests.specs.Request.{requestRead}
 use Rattle.requests.specs.declared.request.Request.{Request}
 use Rattle.requests.specs.declared.request.RequestRead.{RequestRead}
-use Rattle.sconcetoad.specs.Said.{nothingSaid, asked}
+use Rattle.sconcetoad.specs.Said.{nothingAsked, asked}
 use Rattle.sconcetoad.specs.declared.said.Said.{Said}
 
 -- a request that was read is told
 pub asked-found :
     (identifier operation : ℤ) (g : Got Request) (r : RequestRead) → r ≡ requestRead g → r .ok ≡ true →
-    _≡_ {A = Said} record { asks = 1; identifier = identifier; operation = operation; request = r .request }
+    _≡_ {A = Said} record { row = 6; asks = 1; identifier = identifier; operation = operation; request = r .request }
     (asked identifier operation g)
 asked-found identifier operation (got request next) r e h = rw e
 asked-found identifier operation wrong r e h =
@@ -21,7 +21,7 @@ asked-found identifier operation wrong r e h =
 -- an argument that is wrong is not
 pub asked-none :
     (identifier operation : ℤ) (g : Got Request) (r : RequestRead) → r ≡ requestRead g → r .ok ≡ false →
-    nothingSaid ≡ asked identifier operation g
+    nothingAsked 6 identifier operation ≡ asked identifier operation g
 asked-none identifier operation (got request next) r e h =
     absurd (false≢true (sym h ∙ ap (λ (x : RequestRead). x .ok) e))
 asked-none identifier operation wrong r e h = refl

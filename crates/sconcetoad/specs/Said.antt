@@ -11,20 +11,21 @@ use Rattle.requests.specs.declared.heard.Heard.the-variants.{NotOne, Silent, Ot
 use Rattle.requests.specs.declared.request.Request.{Request}
 use Rattle.sconcetoad.specs.declared.said.Said.{Said}
 
--- nothing is asked
-abbrev pub nothingSaid : Said
-nothingSaid = record { asks = 0; identifier = pos 0; operation = pos 0; request = noRequest }
+-- no request that can be read: the row at which reading stops, and what was read until then
+abbrev pub nothingAsked : ℕ → ℤ → ℤ → Said
+nothingAsked row identifier operation = record { row = row; asks = 0; identifier = identifier; operation = operation; request = noRequest }
 
 abbrev pub asked : ℤ → ℤ → Got Request → Said
-asked identifier operation (got request next) = record { asks = 1; identifier = identifier; operation = operation; request = request }
-asked identifier operation wrong = nothingSaid
+asked identifier operation (got request next) =
+    record { row = 6; asks = 1; identifier = identifier; operation = operation; request = request }
+asked identifier operation wrong = nothingAsked 6 identifier operation
 
 abbrev pub saidOf : List ℕ → Heard → Said
-saidOf s NotOne = nothingSaid
-saidOf s Silent = nothingSaid
-saidOf s OtherTag = nothingSaid
-saidOf s NoIdentifier = nothingSaid
-saidOf s (NoOperation identifier) = nothingSaid
+saidOf s NotOne = nothingAsked 1 (pos 0) (pos 0)
+saidOf s Silent = nothingAsked 2 (pos 0) (pos 0)
+saidOf s OtherTag = nothingAsked 3 (pos 0) (pos 0)
+saidOf s NoIdentifier = nothingAsked 4 (pos 0) (pos 0)
+saidOf s (NoOperation identifier) = nothingAsked 5 identifier (pos 0)
 saidOf s (Asks identifier operation at end) = asked identifier (operation .value) (argumentAt operation s at end)
 
 -- what `sconcetoad_said` promises

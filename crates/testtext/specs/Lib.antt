@@ -1,6 +1,5 @@
 pub mod Hex
 pub mod Line
 pub mod Outside
-pub mod Record
 pub mod Signed
 pub mod Words

@@ -1,8 +1,7 @@
-// What the programs share that run cases: lines, their numbers and their octets in hexadecimal, records, and octets that must stay.
+// What a program shares that runs cases: lines, their numbers and their octets in hexadecimal, and octets that must stay.
 mod hex;
 mod line;
 mod outside;
-mod record;
 mod signed;
 mod words;
 
@@ -12,8 +11,6 @@ pub use hex::octet_of;
 pub use line::find;
 pub use line::last_number;
 pub use outside::all_outside;
-pub use record::address_of;
-pub use record::number_of;
 pub use signed::below_zero;
 pub use signed::last_identifier;
 pub use signed::without_sign;
