@@ -41,9 +41,9 @@ octetsOf refusal count = record { refusal = refusal; count = count }
 octets-same : (r q : Octets) → r .refusal ≡ q .refusal → r .count ≡ q .count → r ≡ q
 octets-same r q refusal count = ap (λ (n : ℕ). octetsOf n (r .count)) refusal ∙ ap (octetsOf (q .refusal)) count
 
-only-made :
+made-once :
     (m : Made) (xs : List ℕ) {r q : Octets} {ys zs : List ℕ} → MadeBy m xs r ys → MadeBy m xs q zs → (r ≡ q) × (ys ≡ zs)
-only-made m xs {r} {q} a b =
+made-once m xs {r} {q} a b =
     let lent = only-puts (a .lent) (b .lent) in
     (octets-same r q (both (a .refusal) (b .refusal)) (lent .0), lent .1)
 
@@ -51,13 +51,13 @@ pub only-sconcetoad-put-request :
     (identifier : ℤ) (operation : ℕ) (r : Request) (xs : List ℕ) {a b : Octets} {ys zs : List ℕ} →
     RequestWrittenBy identifier operation r xs a ys → RequestWrittenBy identifier operation r xs b zs →
     (a ≡ b) × (ys ≡ zs)
-only-sconcetoad-put-request identifier operation r xs = only-made _ xs
+only-sconcetoad-put-request identifier operation r xs = made-once _ xs
 
 pub only-sconcetoad-put-list :
     (identifier : ℤ) (list : Entries) (xs : List ℕ) {a b : Octets} {ys zs : List ℕ} →
     ListWrittenBy identifier list xs a ys → ListWrittenBy identifier list xs b zs →
     (a ≡ b) × (ys ≡ zs)
-only-sconcetoad-put-list identifier list xs = only-made _ xs
+only-sconcetoad-put-list identifier list xs = made-once _ xs
 
 pub only-sconcetoad-fresh-table : {a b : Table} → FreshTable a → FreshTable b → a ≡ b
 only-sconcetoad-fresh-table = both
