@@ -121,6 +121,9 @@ fn lists_to_write(random: &mut Random) -> Vec<(i32, Vec<Entry>)> {
     }
     lists.push((1, list_of(random, 8, 0..1, &[5], &[0])));
     lists.push((32_767, list_of(random, 8, 1..KINDS, &[20], &[20])));
+    // Two entries without a subaddress, which none of the above is.
+    let random = &mut Random::seeded(12);
+    lists.push((1, list_of(random, 2, 0..KINDS, &DIGIT_COUNTS, &[0])));
     lists
 }
 

@@ -12,11 +12,20 @@ static int unlike(const char *what, size_t octets)
     return 1;
 }
 
-/* A list of eight unknown five-digit numbers: 207 octets. */
-static struct sconcetoad_entries eight(void)
+/* The empty list, and one of eight unknown five-digit numbers. */
+#define LIST_EMPTY 12
+#define LIST_EIGHT 207
+
+static struct sconcetoad_entries none(void)
 {
     struct sconcetoad_entries list;
     memset(&list, 0, sizeof list);
+    return list;
+}
+
+static struct sconcetoad_entries eight(void)
+{
+    struct sconcetoad_entries list = none();
     list.count = SCONCETOAD_ENTRIES;
     for (int i = 0; i < SCONCETOAD_ENTRIES; i++) {
         struct sconcetoad_entry *e = &list.entries[i];
@@ -30,19 +39,23 @@ static struct sconcetoad_entries eight(void)
     return list;
 }
 
-static int bench_list(const char *what, long turns)
+static int bench_write_list(const char *what, struct sconcetoad_entries list, size_t length, long turns)
 {
-    struct sconcetoad_entries list = eight();
     uint8_t out[SCONCETOAD_OUTPUT];
-    size_t length = sconcetoad_put_list(out, sizeof out, 1, list).count;
-    if (length != 207)
-        return unlike(what, length);
     for (long i = 0; i < turns; i++) {
-        if (strcmp(what, "write-list") == 0)
-            seen = (uint8_t)sconcetoad_put_list(out, sizeof out, 1, list).count;
-        else
-            seen = sconcetoad_reply(out, length, 1, SCONCETOAD_INTERROGATION).list.entries[7].address.number.digits[4];
+        size_t count = sconcetoad_put_list(out, sizeof out, 1, list).count;
+        if (count != length)
+            return unlike(what, count);
     }
+    return 0;
+}
+
+static int bench_read_list(long turns)
+{
+    uint8_t out[SCONCETOAD_OUTPUT];
+    size_t length = sconcetoad_put_list(out, sizeof out, 1, eight()).count;
+    for (long i = 0; i < turns; i++)
+        seen = sconcetoad_reply(out, length, 1, SCONCETOAD_INTERROGATION).list.entries[7].address.number.digits[4];
     return 0;
 }
 
@@ -149,8 +162,12 @@ int bench(const char *what, long turns)
         return bench_call(what, &occasion, 2, turns);
     if (strcmp(what, "original-full") == 0 && occasion_named("arrive-activation-full", &occasion))
         return bench_original(what, &occasion, turns);
-    if (strcmp(what, "write-list") == 0 || strcmp(what, "read-list") == 0)
-        return bench_list(what, turns);
+    if (strcmp(what, "write-empty-list") == 0)
+        return bench_write_list(what, none(), LIST_EMPTY, turns);
+    if (strcmp(what, "write-list") == 0)
+        return bench_write_list(what, eight(), LIST_EIGHT, turns);
+    if (strcmp(what, "read-list") == 0)
+        return bench_read_list(turns);
     if (strcmp(what, "read-activation") == 0)
         return bench_request(turns);
     if (occasion_named(what, &occasion) || scale_named(what, &occasion))

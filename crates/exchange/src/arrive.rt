@@ -121,9 +121,8 @@ impl Table {
             Verdict::Passes => {
                 if operation == INTERROGATION {
                     let sel = selection_of(p, r);
-                    let list = run.entries(p, sel);
                     let answer = Answer::Listing { identifier };
-                    let count = put_answer(out, answer, list);
+                    let count = run.put_listed(out, identifier, p, sel);
                     return Arrived {
                         table: Table { last, run },
                         outcome: Arriving::Answers { answer },

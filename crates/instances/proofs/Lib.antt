@@ -12,3 +12,4 @@ pub mod Finds
 pub mod Founds
 pub mod Listings
 pub mod Listeds
+pub mod Picked

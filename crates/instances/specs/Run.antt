@@ -6,6 +6,7 @@ use mathlib.Core.List.{List, [], _∷_, _++_, map}
 use mathlib.Core.Option.{Option, none, some}
 use lib.ListN.{length, take, getD, replicate}
 use lib.Dec.{ltb, leb, eqb}
+use lib.IntN.{ℤ}
 use Rattle.laws.specs.Pick.{pick}
 use Rattle.laws.specs.Tests.{all}
 use Rattle.laws.specs.Those.{those}
@@ -17,6 +18,7 @@ use Rattle.profile.specs.Profile.{numbersMost, noNumber}
 use Rattle.profile.specs.declared.profile.Profile.{Profile}
 use Rattle.lists.specs.Entry.{entryOf}
 use Rattle.lists.specs.Entries.{instancesMost, entriesOf}
+use Rattle.lists.specs.Listed.{PutList}
 use Rattle.lists.specs.declared.entry.Entry.{Entry}
 use Rattle.lists.specs.declared.entries.Entries.{Entries}
 use Rattle.instances.specs.Instance.{instanceOf, blankInstance, keyOf, chosen, spared, isAt, instanceGood}
@@ -146,3 +148,8 @@ CountAfter p sel run r = r ≡ length (placesOf p sel) + countOf (sel .procedure
 -- a run that breaks no rule has no more than 8 of a procedure
 abbrev pub EntriesOf : Profile → Selection → Run → Entries → Type 0
 EntriesOf p sel run r = r ≡ entriesOf (take instancesMost (map (entryFor (p .numbers)) (listed sel (instancesOf run))))
+
+-- the same entries, as the list of them
+abbrev pub PutListed : List ℕ → ℤ → Profile → Selection → Run → ℕ → List ℕ → Type 0
+PutListed xs identifier p sel run n ys =
+    PutList xs identifier (entriesOf (take instancesMost (map (entryFor (p .numbers)) (listed sel (instancesOf run))))) n ys

@@ -1,5 +1,6 @@
 // What a table or a picture holds: instances, one after the other (document 01, "Profile and table").
 mod instance;
+mod listed;
 mod places;
 mod run;
 

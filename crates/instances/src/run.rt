@@ -52,7 +52,7 @@ pub fn fresh_run() -> Run
 }
 
 // The profile's own number.
-fn served_number(numbers: [Number; NUMBERS], number: u8) -> Number
+pub(crate) fn served_number(numbers: [Number; NUMBERS], number: u8) -> Number
     ensures { λ r. ⌜ r ≡ servedNumber numbers number ⌝ }
 {
     let k = number as usize;

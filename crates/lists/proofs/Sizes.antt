@@ -20,8 +20,7 @@ use Rattle.numbers.specs.Number.{most, numberGood, numberOctets}
 use Rattle.numbers.specs.Address.{addressGood, addressOctets}
 use Rattle.numbers.proofs.Sizes.{every-number-most, number-most, every-address-most, address-most}
 use Rattle.requests.specs.Request.{interrogation}
-use Rattle.lists.specs.Entry.{fieldsOctets, entryOctets, entryGood}
-use Rattle.lists.specs.inner.Entry.{entrySize}
+use Rattle.lists.specs.Entry.{fieldsOctets, entryOctets, entrySize, entryGood}
 use Rattle.lists.specs.Entries.{instancesMost, entriesOctets, allGood}
 use Rattle.lists.specs.Listed.{sequenceOctets, listOctets}
 use Rattle.lists.specs.declared.entry.Entry.{Entry}

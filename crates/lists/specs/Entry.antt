@@ -39,6 +39,10 @@ fieldsOctets e =
 unfoldable pub entryOctets : Entry → List ℕ
 entryOctets e = element 0x30 (fieldsOctets e)
 
+-- the most octets of an entry (`every-entry-most`)
+abbrev pub entrySize : ℕ
+entrySize = 86
+
 -- whether its number and its address are such as a table holds: then it reads back
 unfoldable pub entryGood : Entry → Bool
 entryGood e = all (numberGood (e .served) ∷ addressGood (e .address) ∷ [])

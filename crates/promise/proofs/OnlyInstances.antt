@@ -1,14 +1,17 @@
--- Each promise of the crate instances admits one answer. Assumes nothing.
+-- Each promise of the crate instances admits one answer, and one lent output afterwards. Assumes nothing.
 use Prim.Native.Nat.{ℕ}
 use mathlib.Core.Path.{_≡_}
 use mathlib.Core.Bool.{Bool}
+use mathlib.Core.List.{List}
+use lib.IntN.{ℤ}
 use Rattle.laws.proofs.Picks.{both}
+use Rattle.laws.proofs.Over.{only-puts}
 use Rattle.numbers.specs.declared.address.Address.{Address}
 use Rattle.profile.specs.declared.profile.Profile.{Profile}
 use Rattle.lists.specs.declared.entries.Entries.{Entries}
 use Rattle.instances.specs.Instance.{KeyOf, BlankInstance}
 use Rattle.instances.specs.Places.{Stored}
-use Rattle.instances.specs.Run.{FreshRun, FindsAddress, ChosenCount, Clear, Ordered, RunGood, Put, CountAfter, EntriesOf}
+use Rattle.instances.specs.Run.{FreshRun, FindsAddress, ChosenCount, Clear, Ordered, RunGood, Put, CountAfter, EntriesOf, PutListed}
 use Rattle.instances.specs.declared.instance.Instance.{Instance}
 use Rattle.instances.specs.declared.instance.Selection.{Selection}
 use Rattle.instances.specs.declared.run.Run.{Run}
@@ -51,6 +54,13 @@ only-count-after p sel run = both
 pub only-entries :
     (p : Profile) (sel : Selection) (run : Run) {a b : Entries} → EntriesOf p sel run a → EntriesOf p sel run b → a ≡ b
 only-entries p sel run = both
+
+pub only-put-listed :
+    (xs : List ℕ) (identifier : ℤ) (p : Profile) (sel : Selection) (run : Run) {m n : ℕ} {ys zs : List ℕ} →
+    PutListed xs identifier p sel run m ys →
+    PutListed xs identifier p sel run n zs →
+    (m ≡ n) × (ys ≡ zs)
+only-put-listed xs identifier p sel run = only-puts
 
 pub only-key-of :
     (procedure number service : ℕ) {a b : ℕ} → KeyOf procedure number service a → KeyOf procedure number service b → a ≡ b

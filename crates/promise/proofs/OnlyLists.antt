@@ -6,7 +6,7 @@ use lib.IntN.{ℤ}
 use Rattle.laws.proofs.Picks.{both}
 use Rattle.laws.proofs.Over.{only-puts}
 use Rattle.lists.specs.Entries.{EntriesAt, NoEntries}
-use Rattle.lists.specs.Listed.{PutList}
+use Rattle.lists.specs.Listed.{PutList, PutListHead}
 use Rattle.lists.specs.declared.entries.Entries.{Entries}
 use Rattle.lists.specs.declared.entries.EntriesRead.{EntriesRead}
 
@@ -19,6 +19,12 @@ pub only-put-list :
     PutList xs identifier list n zs →
     (m ≡ n) × (ys ≡ zs)
 only-put-list xs identifier list = only-puts
+
+pub only-put-list-head :
+    (xs : List ℕ) (identifier : ℤ) (size : ℕ) {m n : ℕ} {ys zs : List ℕ} → PutListHead xs identifier size m ys →
+    PutListHead xs identifier size n zs →
+    (m ≡ n) × (ys ≡ zs)
+only-put-list-head xs identifier size a b = (both (a .moved) (b .moved), both (a .holds) (b .holds))
 
 pub only-no-entries : {a b : Entries} → NoEntries a → NoEntries b → a ≡ b
 only-no-entries = both

@@ -2,10 +2,12 @@ use Rattle.exchange.proofs.Arrivals.{done-short, done-long, done-profil
 use Rattle.exchange.proofs.Arrivals.{says-arrives, fails-arrives, lists-arrives, changes-arrives}
 use Rattle.exchange.proofs.Tables.{table-over, table-run}
 use Rattle.refusals.specs.declared.refusal.Refusal.the-variants.{ShortOutput, LongComponent, BadProfile, BadTable}
-use Rattle.lists.specs.Entries.{instancesMost}
+use Rattle.lists.specs.Entries.{instancesMost, entriesOf}
+use Rattle.answers.proofs.Lists.{listing-put}
 use Rattle.profile.specs.declared.access.AccessRead.{AccessRead}
-use lib.ListN.{length}
-use mathlib.Core.Path.{sym, ap, _∙_}
+use lib.ListN.{length, take}
+use Rattle.exchange.proofs.Steps.{lists}
+use mathlib.Core.Path.{refl, sym, ap, _∙_}
 use mir.Facts.{toZ-ofZ}
 use mir.Syntax.{w16}
 use mir.Val.{SFits}
@@ -126,31 +128,30 @@ enum-told c = search needs
 selection-of-requires : tie.Need-selection-of-requires
 selection-of-requires c κs = search needs
 
-entries-requires : tie.Need-entries-requires
-entries-requires c κs = search needs
-
-put-answer-requires-3 : tie.Need-put-answer-requires-3
-put-answer-requires-3 c κs = search needs
+put-listed-requires : tie.Need-put-listed-requires
+put-listed-requires c κs = search needs
 
 same-length-2 : tie.Need-same-length-2
 same-length-2 c = search needs
 
 returns-7 : tie.Need-returns-7
 returns-7 c =
-    let j = c .before .before .before .before .before .before .before .before .before .before in
+    let j = c .before .before .before .before .before .before .before .before .before in
     let k = j .before .before .before .before .before in
     let g = k .before .before .before .before .before .before .before .before in
     let a = g .before .before .before .before .before .before .before .args in
     let id : SFits w16 (k .question-of .result .identifier) = search needs in
+    let q = k .question-of .result in
+    let list = entriesOf (take instancesMost (lists (g .read-access .result .profile) (a .self) (q .identifier) (q .operation) (q .request) .entries)) in
     rw (toZ-ofZ id)
     (lists-arrives (a .access .now) (a .self) (a .component .now) (a .out .now) (g .read-access .result) (g .read-access .ensures)
     (omega (arith, g .before .before .if1 .left)) (omega (arith, g .before .if2 .left)) (not-false _ (k .before .before .before .before .before .before .if3 .left))
     (k .before .before .before .if4 .left) (sym (k .before .before .good2 .ensures) ∙ not-false _ (k .before .if5 .left))
-    (k .question-of .result) (k .question-of .ensures) _ _ _
+    q (k .question-of .ensures) list _ _
     (not-false _ (j .before .before .before .if6 .left)) _ (rw (toZ-ofZ id) at (j .last-after .ensures))
-    _ (c .before .before .before .before .before .before .before .before .before .judge-request .ensures) (c .before .before .before .before .before .before .before .enum-told .given .1)
-    (c .before .before .before .before .before .before .if7 .taken)
-    (rw (c .before .before .before .before .before .selection-of .ensures) at (c .before .before .before .before .entries .ensures)) (rw (toZ-ofZ id) at (c .before .before .put-answer3 .ensures)))
+    _ (c .before .before .before .before .before .before .before .before .judge-request .ensures) (c .before .before .before .before .before .before .enum-told .given .1)
+    (c .before .before .before .before .before .if7 .taken)
+    refl (listing-put _ _ list _ _ (rw (c .before .before .before .before .selection-of .ensures) at (rw (toZ-ofZ id) at (c .before .before .put-listed .ensures)))))
 
 apply-request-requires : tie.Need-apply-request-requires
 apply-request-requires c κs = search needs
@@ -158,8 +159,8 @@ apply-request-requires c κs = search needs
 no-entries-requires-3 : tie.Need-no-entries-requires-3
 no-entries-requires-3 c κs = search needs
 
-put-answer-requires-4 : tie.Need-put-answer-requires-4
-put-answer-requires-4 c κs = search needs
+put-answer-requires-3 : tie.Need-put-answer-requires-3
+put-answer-requires-3 c κs = search needs
 
 same-length-3 : tie.Need-same-length-3
 same-length-3 c = search needs
@@ -198,7 +199,7 @@ returns-9 c =
     (not-false _ (j .before .before .before .if6 .left)) _ (rw (toZ-ofZ id) at (j .last-after .ensures))
     _ (c .before .before .before .before .before .before .before .before .before .judge-request .ensures) (c .before .before .before .before .before .before .before .enum-told .given .1)
     (c .before .before .before .before .before .before .if7 .left) _ (c .before .before .before .before .before .apply-request .ensures)
-    (c .before .before .before .before .no-entries3 .ensures) (rw (toZ-ofZ id) at (c .before .before .put-answer4 .ensures)))
+    (c .before .before .before .before .no-entries3 .ensures) (rw (toZ-ofZ id) at (c .before .before .put-answer3 .ensures)))
 
 pub arrive-spec : {M : Type 1} → statement M
 arrive-spec =
@@ -228,13 +229,12 @@ arrive-spec =
     put-answer-requires-2
     enum-told
     selection-of-requires
-    entries-requires
-    put-answer-requires-3
+    put-listed-requires
     same-length-2
     returns-7
     apply-request-requires
     no-entries-requires-3
-    put-answer-requires-4
+    put-answer-requires-3
     same-length-3
     returns-8
     same-length-4
