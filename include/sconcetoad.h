@@ -4,8 +4,8 @@
    and examples/ has programs that use it; nothing deletes lib/libsconcetoad.a.
 
    A pointer must be valid for the length that goes with it, and what is lent must not overlap; where the length is 0 the pointer is not
-   followed, and NULL will do. Nothing is kept after a call, nothing is allocated, and no call takes more than SCONCETOAD_STACK octets of
-   stack. docs/RECORDS.md has every record octet by octet.
+   followed, and NULL will do. Nothing is kept after a call, nothing is allocated, and no call that was measured takes more than SCONCETOAD_STACK
+   octets of stack. docs/RECORDS.md has every record octet by octet.
 
    A function that can refuse tells the refusal's number first: 0 where nothing is refused, and else the lowest that applies. A refusal writes
    no octet of the output; what stands beside a refusal is said at each function. */
@@ -19,8 +19,8 @@
 extern "C" {
 #endif
 
-/* The most octets of stack that a call takes, what it is handed over by value not counted. */
-#define SCONCETOAD_STACK 10000
+/* The most octets of stack that a call takes of those measured (`./sconcetoad stack`), with what it is handed over by value. */
+#define SCONCETOAD_STACK 12000
 
 /* ---- document 01's numbers */
 

@@ -10,7 +10,7 @@
 /* A name for one of document 01's numbers, or for a bound. */
 #define NAMED(name, number) static_assert(SCONCETOAD_##name == (number), #name)
 
-NAMED(STACK, 10000);
+NAMED(STACK, 12000);
 NAMED(CFU, 0);
 NAMED(CFB, 1);
 NAMED(CFNR, 2);

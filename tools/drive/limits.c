@@ -245,6 +245,19 @@ static void say_records(void)
     printf("table: %s\n", sizeof table == SCONCETOAD_TABLE ? "of the size said" : "of another size");
 }
 
+/* Where nothing is lent there may be no pointer. */
+static void say_null(void)
+{
+    struct sconcetoad_request none;
+    memset(&none, 0, sizeof none);
+    allow();
+    printf("NULL: row %d", sconcetoad_said(NULL, 0).row);
+    printf(", %s", refusal_said(sconcetoad_arrive(table, NULL, 0, NULL, 0, lent_octets(&output), output.size).refusal));
+    printf(", %zu octets", sconcetoad_arrive(table, lent_octets(&access_record), access_record.size, NULL, 0, lent_octets(&output), output.size).count);
+    printf(", %s", refusal_said(sconcetoad_put_request(NULL, 0, 1, SCONCETOAD_ACTIVATION, none).refusal));
+    printf(", %s\n", refusal_said(sconcetoad_list_sheet(NULL, 0, lent_octets(&output), output.size).refusal));
+}
+
 int limits(void)
 {
     fill();
@@ -260,5 +273,6 @@ int limits(void)
     }
     say_records();
     say_lent_records();
+    say_null();
     return 0;
 }

@@ -3,7 +3,7 @@
 use Prim.Native.Nat.{ℕ, _<_, _≤_}
 use mathlib.Core.Path.{_≡_, refl, sym, ap, _∙_}
 use mathlib.Core.Bool.{Bool, true, false, false≢true}
-use mathlib.Core.List.{List}
+use mathlib.Core.List.{List, [], _∷_}
 use native.Mathlib.Omega.{arith}
 use lib.IntN.{ℤ, pos, negsuc, natAbs}
 use lib.Signed.{mag, ltZ, nonNeg}
@@ -12,8 +12,10 @@ use mir.Syntax.{w8, w16}
 use mir.Val.{Fits, SFits, toZ, ofZ}
 use mir.Facts.{toZ-ofZ, toZ-pos}
 use borrow.Author.Tests.{ltb-true, leb-false, eq-eqb, ne-eqb, eqb-true}
+use Rattle.laws.specs.Pick.{pick}
+use Rattle.laws.specs.Tests.{any}
 use Rattle.laws.specs.Got.{Got, got, wrong}
-use Rattle.laws.proofs.Picks.{pick-ind}
+use Rattle.laws.proofs.Picks.{pick-ind, pick-last}
 use Rattle.codes.specs.Codes.{serviceCode}
 use Rattle.numbers.proofs.Goods.{ToUnless}
 use Rattle.profile.specs.declared.profile.Profile.{Profile}
@@ -128,6 +130,29 @@ module _ (z : ℤ) (fits : SFits w16 z) (e : known z ≡ true) where
 
   pub code-cast : natAbs (toZ w16 (ofZ w16 z)) ≡ codeOf z
   code-cast = ap natAbs machine-code
+
+pub known-number : (n : ℕ) → known (pos n) ≡ any (eqb n activation ∷ eqb n deactivation ∷ eqb n interrogation ∷ [])
+unfolding known
+known-number n = rw (pick-last (eqb n interrogation))
+
+pub known-negative : (n : ℕ) → known (negsuc n) ≡ false
+unfolding known
+known-negative n = refl
+
+-- ---- what is asked, part by part
+
+pub question-heard : (p : Profile) (last : ℕ) (s : List ℕ) → question p last s ≡ questionOf p last s (heard s)
+unfolding question
+question-heard p last s = refl
+
+pub invoked-is :
+    (p : Profile) (last : ℕ) (s : List ℕ) (identifier : ℤ) (operation : Operation) (at end : ℕ) →
+    invoked p last s identifier operation at end
+    ≡ pick (duplicate p last identifier) (rejects (Own identifier) (Invoke 0))
+    (pick (known (operation .value)) (argued identifier operation (argumentAt operation s at end))
+    (rejects (Own identifier) (Invoke 1)))
+unfolding invoked
+invoked-is p last s identifier operation at end = refl
 
 -- ---- what the reader of the argument answers
 

@@ -94,8 +94,8 @@ module _ (p : Profile) (whole : WholeProfile p) (r : Request) (g : GridTable) (s
         (activated-becomes p (selectionOf p r) (r .to .address) held)
 
     -- "instances of the procedure afterwards"
-    pub held-count : gridTableGood instancesMost p g ≡ true → countWith (cellPlaces p r) row ≡ afterwards p r held
-    held-count good =
+    pub count-alike : gridTableGood instancesMost p g ≡ true → countWith (cellPlaces p r) row ≡ afterwards p r held
+    count-alike good =
         let q = r .procedure in
         let mine : ℕ = countWith (cellPlaces p r) row in
         let its : ℕ = countOf (selectionOf p r .procedure) made in
@@ -113,7 +113,7 @@ module _ (p : Profile) (whole : WholeProfile p) (r : Request) (g : GridTable) (s
     pub activation-held :
         gridTableGood instancesMost p g ≡ true → countWith (cellPlaces p r) row ≤ instancesMost → holds (with put .grid) ≡ made
     activation-held good few =
-        put-held instancesMost good few (omega (arith, few, counted, held-count good))
+        put-held instancesMost good few (omega (arith, few, counted, count-alike good))
 
   -- ---- a deactivation
 

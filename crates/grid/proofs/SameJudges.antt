@@ -34,7 +34,7 @@ use Rattle.grid.specs.Row.{Row}
 use Rattle.grid.specs.Selection.{cellPlaces}
 use Rattle.grid.specs.Table.{GridTable, gridTableGood}
 use Rattle.grid.proofs.HeldListings.{listed-count}
-use Rattle.grid.proofs.HeldRequests.{held-count}
+use Rattle.grid.proofs.HeldRequests.{count-alike}
 use Rattle.grid.proofs.Judges.{NoneHolds, judge-fails, judge-rest, none-holds, room-is, same-more, same-none}
 use Rattle.grid.proofs.ProfilePlaces.{WholeProfile}
 use Rattle.grid.proofs.ProfilePlaces as profile
@@ -98,7 +98,7 @@ module _ (p : Profile) (whole : WholeProfile p) (g : GridTable) (shaped : GridSh
         let address : addressGood (r .to .address) ≡ true = to activates (kind-known (r .to .address .number) (quiet .1 .1 .0)) in
         room-is instancesMost p (cellPlaces p r) row
         ∙ ap (λ (n : ℕ). not (fits instancesMost p n))
-        (held-count p whole r g shaped known (every-subscribed p whole r known every) address good)
+        (count-alike p whole r g shaped known (every-subscribed p whole r known every) address good)
 
     tests-same :
         firstError (gridTestsOf instancesMost p operation r (cellPlaces p r) row) ≡ firstError (testsOf instancesMost p operation r held)

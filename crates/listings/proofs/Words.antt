@@ -48,7 +48,7 @@ first : (k n : ℕ) → 10 ≤ n → decimalIn (suc k) n ≡ decimalIn k (n / 10
 unfolding decimalIn
 first k n ten = rw (le-ltb n 10 ten)
 
-decimal-more : (n : ℕ) → 10 ≤ n → n < 2 ^ 32 → decimal n ≡ marked (decimal (n / 10)) (48 + n % 10)
+pub decimal-more : (n : ℕ) → 10 ≤ n → n < 2 ^ 32 → decimal n ≡ marked (decimal (n / 10)) (48 + n % 10)
 unfolding decimal
 decimal-more n ten small =
     first 9 n ten ∙ ap (λ (ws : List ℕ). ws ++ ((48 + n % 10) ∷ [])) (sym (enough 8 (n / 10) (omega arith)))
@@ -87,6 +87,19 @@ pub decimal-most : (k n : ℕ) → n < 10 ^ suc k → length (decimal n) ≤ suc
 unfolding decimal
 decimal-most k n h = few 10 k n h
 
+-- and never more than ten
+within : (j n : ℕ) → length (decimalIn j n) ≤ j
+unfolding decimalIn
+within zero n = omega arith
+within (suc j) n =
+    let more : length (decimalIn j (n / 10) ++ ((48 + n % 10) ∷ [])) ≤ suc j =
+    omega (arith, within j (n / 10), length-append (decimalIn j (n / 10)) ((48 + n % 10) ∷ [])) in
+    pick-ind (λ ws. length ws ≤ suc j) (ltb n 10) {x = (48 + n) ∷ []} (λ _. omega arith) (λ _. more)
+
+pub decimal-ten : (n : ℕ) → length (decimal n) ≤ 10
+unfolding decimal
+decimal-ten n = within 10 n
+
 -- ---- words
 
 -- a text that a word is was put
@@ -118,7 +131,7 @@ module _ (form kind : ℕ) where
   kind-unknown none = rw (eq-eqb form 0 none)
 
   module _ (some : form ≡ 0 → ⊥) where
-    kind-public : kindText form kind ≡ 112 ∷ decimal kind
+    pub kind-public : kindText form kind ≡ 112 ∷ decimal kind
     unfolding kindText
     kind-public = rw (ne-eqb form 0 some)
 
@@ -145,12 +158,16 @@ pair-wrote xs at a b = record { moved = refl; holds = then (wrote-one xs at a) (
 abbrev pub pairOf : ℕ → List ℕ
 pairOf o = hexOf (o / 16) ∷ hexOf o ∷ []
 
-hex-both : (os us : List ℕ) → hexText (os ++ us) ≡ hexText os ++ hexText us
+pub hex-both : (os us : List ℕ) → hexText (os ++ us) ≡ hexText os ++ hexText us
 unfolding hexText
 hex-both [] us = refl
 hex-both (o ∷ os) us = rw (hex-both os us)
 
-hex-one : (o : ℕ) → hexText (o ∷ []) ≡ pairOf o
+pub hex-none : hexText [] ≡ []
+unfolding hexText
+hex-none = refl
+
+pub hex-one : (o : ℕ) → hexText (o ∷ []) ≡ pairOf o
 unfolding hexText
 hex-one o = refl
 

@@ -46,6 +46,10 @@ kindText form kind = pick (eqb form unknown) (117 ∷ []) (112 ∷ decimal kind)
 unfoldable pub hexOf : ℕ → ℕ
 hexOf n = pick (ltb (n % 16) 10) (48 + n % 16) (87 + n % 16)
 
+-- what `hex_of` promises
+abbrev pub HexOf : ℕ → ℕ → Type 0
+HexOf n r = r ≡ hexOf n
+
 unfoldable pub hexText : List ℕ → List ℕ
 hexText [] = []
 hexText (o ∷ os) = hexOf (o / 16) ∷ hexOf o ∷ hexText os

@@ -5,3 +5,4 @@ mod word;
 
 pub use list::list_sheet;
 pub use list::print_sheet;
+pub use word::hex_of;

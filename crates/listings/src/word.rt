@@ -1,13 +1,12 @@
 // The words of a listing's lines, each with the character after it (document 01, "Samples").
 use numbers::MOST;
 use octets::put_all;
-ghost use mathlib.Core.Path.{_≡_};
 ghost use mathlib.Core.List.{[], _∷_};
 ghost use Prim.Native.Nat.{_+_, _/_, _≤_};
 ghost use lib.ListN.{length, take};
 ghost use Rattle.laws.specs.Over.{Wrote};
 ghost use Rattle.numbers.specs.Number.{most};
-ghost use Rattle.listings.specs.Listing.{decimal, procedureName, kindText, hexOf, hexText, subText, marked};
+ghost use Rattle.listings.specs.Listing.{decimal, procedureName, kindText, hexOf, hexText, subText, marked, HexOf};
 
 // `n` in decimal digits.
 fn write_decimal(out: &mut [u8], at: usize, n: u32) -> usize
@@ -68,8 +67,8 @@ pub(crate) fn write_digits(out: &mut [u8], at: usize, digits: [u8; MOST], count:
 }
 
 // The digit for `n % 16`.
-fn hex_of(n: u8) -> u8
-    ensures { λ r. ⌜ r ≡ hexOf n ⌝ }
+pub fn hex_of(n: u8) -> u8
+    ensures { λ r. ⌜ HexOf n r ⌝ }
 {
     let d = n % 16;
     if d < 10 { b'0' + d } else { b'a' - 10 + d }

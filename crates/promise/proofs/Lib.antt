@@ -10,6 +10,7 @@ pub mod OnlyExchange
 pub mod OnlyForms
 pub mod OnlyGroups
 pub mod OnlyListings
+pub mod OnlyExplanations
 pub mod OnlyLists
 pub mod OnlySheets
 pub mod OnlyNumbers
@@ -33,3 +34,4 @@ pub mod DemandEnds
 pub mod DemandExchanges
 pub mod Demands
 pub mod DemandRefusals
+pub mod Told

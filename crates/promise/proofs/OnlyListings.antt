@@ -5,7 +5,7 @@ use mathlib.Core.Path.{_≡_}
 use Rattle.laws.proofs.Picks.{both}
 use Rattle.refusals.specs.declared.handling.Written.{Written}
 use Rattle.refusals.proofs.Handlings.{handling-same, written-same}
-use Rattle.listings.specs.Listing.{ListsSheet, PrintsSheet}
+use Rattle.listings.specs.Listing.{HexOf, ListsSheet, PrintsSheet}
 
 pub only-list-sheet :
     (s xs : List ℕ) {r q : Written} {ys zs : List ℕ} → ListsSheet s xs r ys → ListsSheet s xs q zs → (r ≡ q) × (ys ≡ zs)
@@ -17,3 +17,6 @@ only-list-sheet s xs {r} {q} a b = (
 pub only-print-sheet :
     (s xs : List ℕ) {r q : ℕ} {ys zs : List ℕ} → PrintsSheet s xs r ys → PrintsSheet s xs q zs → (r ≡ q) × (ys ≡ zs)
 only-print-sheet s xs a b = (both (a .count) (b .count), both (a .lent) (b .lent))
+
+pub only-hex-of : (n : ℕ) {r q : ℕ} → HexOf n r → HexOf n q → r ≡ q
+only-hex-of n a b = both a b

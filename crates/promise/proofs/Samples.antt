@@ -46,6 +46,9 @@ use Rattle.forms.specs.Instance.{allGroups, instanceOctets, fieldAt, fieldsAt, 
 use Rattle.forms.specs.Sheet.{instancesOctets, sheetOctets, instancesFrom, inOrder, sheetIn}
 use Rattle.listings.specs.Listing.{decimalIn, decimal, procedureName, kindText, hexOf, hexText, subText}
 use Rattle.listings.specs.Listing.{lineOf, headerLine, instanceLine, instanceLines, listing, listedSheet, refusedLine, printedSheet}
+use Rattle.explanations.specs.Text.{signedText, numberText, servedText, octetsWord, subWord, toText, operationText, argumentText, requestLine}
+use Rattle.explanations.specs.Elements.{blanks, contentsText, elementLine, siblings, elementLines, linesIn}
+use Rattle.explanations.specs.Explained.{replyWord, valueText, replyText, replyOf, operationNo, isOperation, askedText, said, explained}
 use Rattle.sheets.specs.Sheets.{wroteSheet}
 use Rattle.refusals.specs.Refusal.{tells, outputLeast}
 use Rattle.exchange.specs.Table.{tableOf, freshTable}
@@ -81,9 +84,12 @@ unfolding fewestFrom wordAt wordOctets spanOf lengthAt headAt lengthHolds length
     instancesOctets sheetOctets instancesFrom inOrder sheetIn decimalIn decimal procedureName kindText hexOf hexText subText lineOf
     headerLine instanceLine instanceLines listing listedSheet refusedLine printedSheet wroteSheet saidAt markAt marked closed
     marksGood waitingGood endGood servedGood toGood partsGood sendable marksSent sent sends learned took takes shown
-    sorted end.instancesFrom listGood entryOctets
+    sorted end.instancesFrom listGood entryOctets blanks contentsText elementLine siblings elementLines linesIn signedText numberText servedText
+    octetsWord subWord toText operationText argumentText requestLine replyWord valueText replyText replyOf operationNo isOperation
+    askedText said explained
 each-sample =
-    let longest : Each (drop 46 samples) = ((refl, refl), (refl, tt)) in
+    let words : Each (drop 48 samples) = (refl, (refl, tt)) in
+    let longest : Each (drop 46 samples) = ((refl, refl), (refl, words)) in
     let dialogue : Each (drop 39 samples) = ((refl, refl), (refl, (refl, ((refl, refl), (refl, (refl, (refl, longest))))))) in
     let sheets : Each (drop 35 samples) = (refl, (refl, (refl, (refl, dialogue)))) in
     let calls : Each (drop 31 samples) = ((refl, refl, refl), ((refl, refl, refl), ((refl, refl, refl), ((refl, refl, refl), sheets)))) in

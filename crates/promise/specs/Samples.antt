@@ -1,5 +1,5 @@
--- The samples of document 01 that are marked P, its night sheet, the longest listing, a dialogue of the end, and the longest reply and
--- sheet, as one table. `Each samples` is the one statement about them.
+-- The samples of document 01 that are marked P, its night sheet, the longest listing, a dialogue of the end, the longest reply and sheet, and
+-- components in words, as one table. `Each samples` is the one statement about them.
 use Prim.Native.Nat.{ℕ, _+_, _/_, _%_}
 use mathlib.Core.Path.{_≡_}
 use mathlib.Core.Bool.{true}
@@ -33,6 +33,8 @@ use Rattle.exchange.specs.declared.table.Table.{Table}
 use Rattle.forms.specs.Form.{form1}
 use Rattle.forms.specs.Size.{sheetMost}
 use Rattle.listings.specs.Listing.{listingMost, listedSheet, printedSheet}
+use Rattle.explanations.specs.Text.{chars}
+use Rattle.explanations.specs.Explained.{explained}
 use Rattle.sheets.specs.Sheets.{wroteSheet}
 use Rattle.calls.specs.Divert.{Course, passes, diverts, comes}
 use Rattle.requests.specs.Heard.{local, heard}
@@ -73,6 +75,7 @@ pub data Sample : Type 0 where
   end-sends : (access : List ℕ) (operation : ℕ) → Request → End → List ℕ → (next : End) → Sample
   end-takes : (access : List ℕ) → End → List ℕ → (next : End) → Sample
   end-shows : (access : List ℕ) → End → (procedure : ℕ) → Told Seen → Sample
+  explains : (component text : List ℕ) → Sample
 
 -- what a sample says: octets are read from the first to the end, and output that is lent is the least there may be
 abbrev pub Says : Sample → Type 0
@@ -100,6 +103,7 @@ Says (end-sends access operation r e s next) =
     (sending.sends access operation r e outputLeast .octets ≡ s) × (sending.sends access operation r e outputLeast .end ≡ next)
 Says (end-takes access e s next) = takes access e s .end ≡ next
 Says (end-shows access e procedure is) = shown access e procedure ≡ is
+Says (explains s text) = explained s ≡ text
 
 abbrev pub Each : List Sample → Type 0
 Each [] = Unit {0}
@@ -170,6 +174,20 @@ abbrev pub nightListing : List ℕ
 nightListing =
     0x66 ∷ 0x6F ∷ 0x72 ∷ 0x6D ∷ 0x20 ∷ 0x31 ∷ 0x20 ∷ 0x6C ∷ 0x61 ∷ 0x73 ∷ 0x74 ∷ 0x20 ∷ 0x32 ∷ 0x20 ∷ 0x63 ∷ 0x6F ∷ 0x75 ∷ 0x6E ∷ 0x74 ∷ 0x20 ∷ 0x31 ∷ 0x0A
     ∷ 0x63 ∷ 0x66 ∷ 0x62 ∷ 0x20 ∷ 0x30 ∷ 0x20 ∷ 0x31 ∷ 0x20 ∷ 0x75 ∷ 0x20 ∷ 0x32 ∷ 0x34 ∷ 0x36 ∷ 0x38 ∷ 0x30 ∷ 0x20 ∷ 0x2D ∷ 0x0A ∷ []
+
+-- the activation in words
+abbrev pub activationText : List ℕ
+activationText =
+    chars "tag a1 length 19\n"
+    ++ chars "  tag 02 length 01 contents 02\n"
+    ++ chars "  tag 02 length 01 contents 07\n"
+    ++ chars "  tag 30 length 11\n"
+    ++ chars "    tag 0a length 01 contents 01\n"
+    ++ chars "    tag 0a length 01 contents 01\n"
+    ++ chars "    tag 30 length 07\n"
+    ++ chars "      tag 80 length 05 contents 3234363830\n"
+    ++ chars "    tag 05 length 00\n"
+    ++ chars "invoke 2: activation of cfb service 1 for all numbers to u 24680 -\n"
 
 abbrev pub refusedListing : List ℕ
 refusedListing = 0x72 ∷ 0x65 ∷ 0x66 ∷ 0x75 ∷ 0x73 ∷ 0x65 ∷ 0x64 ∷ 0x20 ∷ 0x39 ∷ 0x0A ∷ []
@@ -278,4 +296,8 @@ samples =
     -- the least output for a component and for a sheet is no larger than there is need for
     ∷ fills-reply wideAccess fullTable lastInterrogation
     ∷ fills-sheet wideAccess fullTable
+    -- in words: the activation, and the reply to it
+    ∷ explains activationOctets activationText
+    ∷ explains activatedOctets
+    (chars "tag a2 length 03\n  tag 02 length 01 contents 02\nrow 2: result, identifier 2: answered by silence\n")
     ∷ []

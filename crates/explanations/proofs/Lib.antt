@@ -1,0 +1,7 @@
+pub mod Pens
+pub mod Words
+pub mod Lines
+pub mod Rows
+pub mod Sizes
+pub mod Longest
+pub mod Components

@@ -1,0 +1,4 @@
+pub mod Text
+pub mod Elements
+pub mod Explained
+pub mod inner
