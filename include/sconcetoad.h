@@ -463,7 +463,8 @@ struct sconcetoad_page_entry {
     struct sconcetoad_entry entry;
 };
 
-/* The entry at the place `place`, from 0 on, of a procedure that is known; of one in doubt none is handed out. Alters nothing. */
+/* The entry at the place `place`, from 0 on, of a procedure that is known; of one in doubt none is handed out. The refusals are those of
+   sconcetoad_shown, and are told in `page`. Alters nothing. */
 struct sconcetoad_page_entry sconcetoad_entry(struct sconcetoad_end end, const uint8_t *access, size_t access_length, uint8_t procedure,
                                               size_t place);
 
