@@ -9,6 +9,7 @@ use lib.Signed.{mag}
 use lib.ListN.{length, length-append}
 use borrow.Author.Tests.{eq-eqb}
 use Rattle.laws.specs.Got.{got}
+use Rattle.laws.specs.Over.{Puts}
 use Rattle.laws.specs.Stands.{Stands}
 use Rattle.laws.proofs.Stands.{stands-whole, stands-left, stands-right}
 use Rattle.octets.specs.Element.{element}
@@ -18,13 +19,13 @@ use Rattle.values.proofs.Idents.{ident-back}
 use Rattle.requests.specs.Heard.{argumentDepth, insideDepth, componentDepth}
 use Rattle.requests.specs.Request.{interrogation}
 use Rattle.requests.proofs.Tags.{result-tag}
-use Rattle.lists.specs.Entries.{entriesOctets, allGood, tidyEntries, entriesFrom}
+use Rattle.lists.specs.Entries.{entriesOctets, allGood, tidyEntries, entriesFrom, entriesIn}
 use Rattle.lists.specs.Listed.{sequenceOctets, listOctets, PutList}
 use Rattle.lists.specs.declared.entry.Entry.{Entry}
 use Rattle.lists.specs.declared.entries.Entries.{Entries}
 use Rattle.lists.proofs.Sizes.{list-octets, list-most}
 use Rattle.lists.proofs.Trips.{entries-back}
-use Rattle.answers.specs.Answer.{answerOctets, PutAnswer}
+use Rattle.answers.specs.Answer.{answerOctets}
 use Rattle.answers.specs.declared.answer.Answer.the-variants as answer
 use Rattle.requests.specs.Part.{orElse}
 use Rattle.answers.specs.Reply.{setAt, sequenceAt, listAt, resultAt, saidAt, reply}
@@ -135,6 +136,6 @@ module _ (identifier : ℤ) (left : ℕ) (es : List Entry) (range : mag identifi
 -- a list that was put is the answer that lists
 pub listing-put :
     (xs : List ℕ) (identifier : ℤ) (list : Entries) (n : ℕ) (ys : List ℕ) → PutList xs identifier list n ys →
-    PutAnswer xs (answer.Listing identifier) list n ys
+    Puts xs 0 (answerOctets (answer.Listing identifier) (entriesIn list)) n ys
 unfolding answerOctets
 listing-put xs identifier list n ys put = put

@@ -7,10 +7,8 @@ use Rattle.laws.specs.Over.{Puts}
 use Rattle.octets.specs.Element.{element}
 use Rattle.values.specs.Ident.{identOctets}
 use Rattle.requests.specs.Request.{interrogation}
-use Rattle.lists.specs.Entries.{entriesIn}
 use Rattle.lists.specs.Listed.{listOctets}
 use Rattle.lists.specs.declared.entry.Entry.{Entry}
-use Rattle.lists.specs.declared.entries.Entries.{Entries}
 use Rattle.answers.specs.declared.answer.Whose.{Whose}
 use Rattle.answers.specs.declared.answer.Whose.the-variants as whose
 use Rattle.answers.specs.declared.answer.Problem.{Problem}
@@ -78,6 +76,6 @@ answerOctets (answer.Error identifier value) es =
 answerOctets (answer.Result identifier) es = element (answerNo (answer.Result identifier)) (identOctets identifier)
 answerOctets (answer.Listing identifier) es = listOctets identifier es
 
--- what `put_answer` promises
-abbrev pub PutAnswer : List ℕ → Answer → Entries → ℕ → List ℕ → Type 0
-PutAnswer xs a list count ys = Puts xs 0 (answerOctets a (entriesIn list)) count ys
+-- what `put_answer` promises: a list is put without entries
+abbrev pub PutAnswer : List ℕ → Answer → ℕ → List ℕ → Type 0
+PutAnswer xs a count ys = Puts xs 0 (answerOctets a []) count ys

@@ -12,7 +12,7 @@ use lib.Seq.{take-all, take-append-seam}
 use borrow.Author.Tests.{lt-ltb, le-ltb}
 use Rattle.refusals.specs.declared.refusal.Refusal.{Refusal}
 use Rattle.refusals.specs.declared.refusal.Refusal.the-variants.{ShortOutput, LongComponent, BadProfile, BadTable}
-use Rattle.laws.specs.Over.{over}
+use Rattle.laws.specs.Over.{over, Puts}
 use Rattle.laws.proofs.Over.{over-nil, wrote}
 use Rattle.profile.specs.Access.{accessRead}
 use Rattle.profile.specs.Profile.{profileGood}
@@ -24,9 +24,8 @@ use Rattle.requests.specs.Request.{interrogation}
 use Rattle.requests.specs.declared.request.Request.{Request}
 use Rattle.lists.specs.Entries.{instancesMost, entriesIn, entriesOf, allGood}
 use Rattle.lists.specs.declared.entry.Entry.{Entry}
-use Rattle.lists.specs.declared.entries.Entries.{Entries}
 use Rattle.lists.proofs.Goods.{all-none}
-use Rattle.instances.specs.Run.{instancesOf, runGood}
+use Rattle.instances.specs.Run.{instancesOf, runGood, PutListed}
 use Rattle.instances.specs.declared.run.Run.{Run}
 use Rattle.instances.proofs.Goods.{run-good}
 use Rattle.instances.proofs.Listeds.{listed-most, listed-good}
@@ -39,16 +38,16 @@ use Rattle.rules.proofs.Judges.{judge-errors}
 use Rattle.answers.specs.Answer.{answerOctets, PutAnswer}
 use Rattle.answers.specs.declared.answer.Answer.the-variants as answer
 use Rattle.answers.proofs.Fits.{EntriesFit, answer-most}
+use Rattle.answers.proofs.Lists.{listing-put}
 use Rattle.exchange.specs.Table.{lastMost, tableOf, tableGood}
 use Rattle.exchange.specs.Question.{question}
 use Rattle.exchange.specs.Step.{Step, stays, lastAfter, handled, step}
 use Rattle.refusals.specs.Refusal.{outputLeast, componentMost}
 use Rattle.exchange.specs.Arrive.{refused, answered, done, Arrives}
 use Rattle.exchange.specs.inner.Question.{questionRead}
-use Rattle.exchange.specs.inner.Refused.{arrivedRefused}
+use Rattle.exchange.specs.inner.Arrived.{arrivedRefused, arrivedAnswered}
 use Rattle.exchange.specs.declared.table.Table.{Table}
 use Rattle.exchange.specs.declared.question.QuestionRead.{QuestionRead}
-use Rattle.exchange.specs.declared.arrive.Arriving.the-variants.{Answers}
 use Rattle.exchange.specs.declared.arrive.Arrived.{Arrived}
 use Rattle.exchange.proofs.Questions.{RequestAsked, question-asks}
 use Rattle.exchange.proofs.Tables.{table-run, table-good}
@@ -135,20 +134,18 @@ listed-all es few = rw (take-all instancesMost es few) (take-append-seam es _)
 
 -- what is answered is written whole
 pub answered-arrives :
-    (access : List ℕ) (t : Table) (s xs : List ℕ) (x : Step) (list : Entries) (n : ℕ) (ys : List ℕ) →
-    done access t s (length xs) ≡ answered x → StepFits x → list ≡ entriesOf (take instancesMost (x .entries)) →
-    outputLeast ≤ length xs → PutAnswer xs (x .answer) list n ys →
-    Arrives access t s xs (record { table = x .next; outcome = Answers (x .answer); count = n }) ys
-answered-arrives access t s xs x list n ys is fits held room put =
+    (access : List ℕ) (t : Table) (s xs : List ℕ) (x : Step) (n : ℕ) (ys : List ℕ) →
+    done access t s (length xs) ≡ answered x → StepFits x → outputLeast ≤ length xs →
+    Puts xs 0 (answerOctets (x .answer) (x .entries)) n ys →
+    Arrives access t s xs (arrivedAnswered (x .next) (x .answer) n) ys
+answered-arrives access t s xs x n ys is fits room put =
     let octets = answer-most (x .answer) (x .entries) (fits .answer) (fits .good) (fits .few) in
-    let same : answerOctets (x .answer) (entriesIn list) ≡ answerOctets (x .answer) (x .entries) =
-    rw (held, listed-all (x .entries) (fits .few)) in
-    let w = wrote (rw (same, zero-add) (omega arith)) put in
+    let w = wrote (rw zero-add (omega arith)) put in
     record {
       table = rw is;
       told = rw is;
-      count = rw is (w .moved ∙ zero-add _ ∙ ap length same);
-      lent = rw is (w .holds ∙ ap (over xs 0) same);
+      count = rw is (w .moved ∙ zero-add _);
+      lent = rw is (w .holds);
     }
 
 -- ---- the four answers, as the code tells them
@@ -161,28 +158,31 @@ module _
     abbrev p : Profile
     p = read .profile
 
+    fits : StepFits (step p t s)
+    fits =
+        let ok : accessRead access .ok ≡ true = rw reads at ok in
+        let table : tableGood instancesMost (accessRead access .profile) t ≡ true =
+        rw reads at (table-run instancesMost p t low ∙ good) in
+        rw reads (step-fits (accessRead access .profile) t (access-good access ok) table s)
+
     step-arrives :
-        (x : Step) (list : Entries) (n : ℕ) (ys : List ℕ) → step p t s ≡ x → list ≡ entriesOf (take instancesMost (x .entries)) →
-        PutAnswer xs (x .answer) list n ys →
-        Arrives access t s xs (record { table = x .next; outcome = Answers (x .answer); count = n }) ys
-    step-arrives x list n ys is held put =
+        (x : Step) (n : ℕ) (ys : List ℕ) → step p t s ≡ x → Puts xs 0 (answerOctets (x .answer) (x .entries)) n ys →
+        Arrives access t s xs (arrivedAnswered (x .next) (x .answer) n) ys
+    step-arrives x n ys is put =
         let ok : accessRead access .ok ≡ true = rw reads at ok in
         let table : tableGood instancesMost (accessRead access .profile) t ≡ true =
         rw reads at (table-run instancesMost p t low ∙ good) in
         let steps : step (accessRead access .profile) t s ≡ x = rw reads at is in
-        answered-arrives access t s xs x list n ys
+        answered-arrives access t s xs x n ys
         (done-answers access t s (length xs) room fair ok table ∙ ap answered steps)
-        (rw steps at (step-fits (accessRead access .profile) t (access-good access ok) table s))
-        held room put
+        (rw is at fits) room put
 
-    module _ (q : QuestionRead) (told : q ≡ questionRead (question p (t .last) s)) (list : Entries) (n : ℕ) (ys : List ℕ) where
+    module _ (q : QuestionRead) (told : q ≡ questionRead (question p (t .last) s)) (n : ℕ) (ys : List ℕ) where
       pub says-arrives :
-          q .asked ≡ false → list ≡ entriesOf [] → PutAnswer xs (q .answer) list n ys →
-          Arrives access t s xs (record { table = t; outcome = Answers (q .answer); count = n }) ys
-      says-arrives h held put =
-          step-arrives (stays t (q .answer)) list n ys
-          (step-says p t s (q .answer) (read-says (question p (t .last) s) q told h))
-          held put
+          q .asked ≡ false → PutAnswer xs (q .answer) n ys →
+          Arrives access t s xs (arrivedAnswered t (q .answer) n) ys
+      says-arrives h put =
+          step-arrives (stays t (q .answer)) n ys (step-says p t s (q .answer) (read-says (question p (t .last) s) q told h)) put
 
       module _ (h : q .asked ≡ true) (last : ℕ) (moved : last ≡ lastAfter p (q .identifier) (t .last)) where
         asked : step p t s ≡ handled p t (q .identifier) (q .operation) (q .request)
@@ -190,39 +190,42 @@ module _
 
         pub fails-arrives :
             (v : Verdict) → verdictNo v ≡ verdict p t (q .identifier) (q .operation) (q .request) → (error : ℕ) → v ≡ Fails error →
-            list ≡ entriesOf [] →
-            PutAnswer xs (answer.Error (q .identifier) error) list n ys →
+            PutAnswer xs (answer.Error (q .identifier) error) n ys →
             Arrives access t s xs
-            (record { table = tableOf last (t .run); outcome = Answers (answer.Error (q .identifier) error); count = n }) ys
-        fails-arrives v judged error is held put =
+            (arrivedAnswered (tableOf last (t .run)) (answer.Error (q .identifier) error) n) ys
+        fails-arrives v judged error is put =
             rw moved
-            (step-arrives (fails p t (q .identifier) (q .operation) (q .request) error) list n ys
+            (step-arrives (fails p t (q .identifier) (q .operation) (q .request) error) n ys
             (asked ∙ handled-fails p t (q .identifier) (q .operation) (q .request) error (sym judged ∙ ap verdictNo is))
-            held put)
+            put)
 
         module _ (v : Verdict) (judged : verdictNo v ≡ verdict p t (q .identifier) (q .operation) (q .request)) (is : v ≡ Passes) where
           passes : verdict p t (q .identifier) (q .operation) (q .request) ≡ none
           passes = sym judged ∙ ap verdictNo is
 
+          -- at most 8 are listed, so that the record of 8 has them all
           pub lists-arrives :
               q .operation ≡ interrogation →
-              list ≡ entriesOf (take instancesMost (lists p t (q .identifier) (q .operation) (q .request) .entries)) →
-              PutAnswer xs (answer.Listing (q .identifier)) list n ys →
+              PutListed xs (q .identifier) p (selectionOf p (q .request)) (t .run) n ys →
               Arrives access t s xs
-              (record { table = tableOf last (t .run); outcome = Answers (answer.Listing (q .identifier)); count = n }) ys
-          lists-arrives interrogates held put =
+              (arrivedAnswered (tableOf last (t .run)) (answer.Listing (q .identifier)) n) ys
+          lists-arrives interrogates put =
+              let x : Step = lists p t (q .identifier) (q .operation) (q .request) in
+              let steps : step p t s ≡ x =
+              asked ∙ handled-lists p t (q .identifier) (q .operation) (q .request) passes interrogates in
+              let held : entriesIn (entriesOf (take instancesMost (x .entries))) ≡ x .entries =
+              listed-all (x .entries) (rw steps at fits .few) in
               rw moved
-              (step-arrives (lists p t (q .identifier) (q .operation) (q .request)) list n ys
-              (asked ∙ handled-lists p t (q .identifier) (q .operation) (q .request) passes interrogates)
-              held put)
+              (step-arrives x n ys steps
+              (rw held at (listing-put xs (q .identifier) (entriesOf (take instancesMost (x .entries))) n ys put)))
 
           pub changes-arrives :
               (q .operation ≡ interrogation → ⊥) → (next : Run) → next ≡ applied p (q .operation) (q .request) (t .run) →
-              list ≡ entriesOf [] → PutAnswer xs (answer.Result (q .identifier)) list n ys →
+              PutAnswer xs (answer.Result (q .identifier)) n ys →
               Arrives access t s xs
-              (record { table = tableOf last next; outcome = Answers (answer.Result (q .identifier)); count = n }) ys
-          changes-arrives other next applies held put =
+              (arrivedAnswered (tableOf last next) (answer.Result (q .identifier)) n) ys
+          changes-arrives other next applies put =
               rw (moved, applies)
-              (step-arrives (changes p t (q .identifier) (q .operation) (q .request)) list n ys
+              (step-arrives (changes p t (q .identifier) (q .operation) (q .request)) n ys
               (asked ∙ handled-changes p t (q .identifier) (q .operation) (q .request) passes other)
-              held put)
+              put)

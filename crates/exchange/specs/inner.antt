@@ -1,3 +1,3 @@
 -- What only private functions promise.
+pub mod Arrived
 pub mod Question
-pub mod Refused

@@ -5,7 +5,6 @@ use crate::table::Table;
 use answers::Answer;
 use answers::put_answer;
 use instances::Run;
-use lists::no_entries;
 use profile::Profile;
 use profile::read_access;
 use refusals::Refusal;
@@ -18,7 +17,7 @@ ghost use mathlib.Core.Path.{_≡_};
 ghost use Rattle.exchange.specs.Table.{tableOf};
 ghost use Rattle.exchange.specs.Step.{lastAfter};
 ghost use Rattle.exchange.specs.Arrive.{Arrives};
-ghost use Rattle.exchange.specs.inner.Refused.{arrivedRefused};
+ghost use Rattle.exchange.specs.inner.Arrived.{arrivedRefused, arrivedAnswered};
 
 // The least output, and the longest component.
 const OUTPUTLEAST: usize = 707;
@@ -49,6 +48,16 @@ fn refuses(last: u16, run: Run, refusal: Refusal) -> Arrived
     }
 }
 
+fn answers(last: u16, run: Run, answer: Answer, count: usize) -> Arrived
+    ensures { λ r. ⌜ r ≡ arrivedAnswered (tableOf last run) answer count ⌝ }
+{
+    Arrived {
+        table: Table { last, run },
+        outcome: Arriving::Answers { answer },
+        count,
+    }
+}
+
 // The last handled identifier moves on a counted end alone, to the request's own; a negative one is never handled there.
 fn last_after(p: Profile, identifier: i16, last: u16) -> u16
     ensures { λ r. ⌜ r ≡ lastAfter p identifier last ⌝ }
@@ -63,80 +72,57 @@ fn last_after(p: Profile, identifier: i16, last: u16) -> u16
 }
 
 impl Table {
-    // The next table and the reply to a component, which is written at the start of the output. One function, since each further one
-    // that took the table would copy it.
+    // The next table and the reply to a component, which is written at the start of the output. One function and one expression, since
+    // each further function that took the table, and each early return, would copy it.
     pub fn arrive(self, access: &[u8], component: &[u8], out: &mut [u8]) -> Arrived
         ensures { λ r. ⌜ Arrives (now (access .entry)) self (now (component .entry)) (now (out .entry)) r (now (out .exit)) ⌝ }
     {
         let run = self.run;
-        if out.len() < OUTPUTLEAST {
-            return refuses(self.last, run, Refusal::ShortOutput);
-        }
-        if COMPONENTMOST < component.len() {
-            return refuses(self.last, run, Refusal::LongComponent);
-        }
         let read = read_access(access);
-        if !read.ok {
-            return refuses(self.last, run, Refusal::BadProfile);
-        }
         let p = read.profile;
-        if LASTMOST < self.last {
-            return refuses(self.last, run, Refusal::BadTable);
-        }
-        if !run.good(p) {
-            return refuses(self.last, run, Refusal::BadTable);
-        }
-        let q = question_of(p, self.last, component);
-        if !q.asked {
-            let answer = q.answer;
-            let list = no_entries();
-            let count = put_answer(out, answer, list);
-            return Arrived {
-                table: Table {
-                    last: self.last,
-                    run,
-                },
-                outcome: Arriving::Answers { answer },
-                count,
-            };
-        }
-        let r = q.request;
-        let operation = q.operation;
-        let identifier = q.identifier;
-        let last = last_after(p, identifier, self.last);
-        match judge_request(p, operation, r, run) {
-            Verdict::Fails { error } => {
-                let answer = Answer::Error {
-                    identifier,
-                    value: error,
-                };
-                let list = no_entries();
-                let count = put_answer(out, answer, list);
-                Arrived {
-                    table: Table { last, run },
-                    outcome: Arriving::Answers { answer },
-                    count,
-                }
-            }
-            Verdict::Passes => {
-                if operation == INTERROGATION {
-                    let sel = selection_of(p, r);
-                    let answer = Answer::Listing { identifier };
-                    let count = run.put_listed(out, identifier, p, sel);
-                    return Arrived {
-                        table: Table { last, run },
-                        outcome: Arriving::Answers { answer },
-                        count,
-                    };
-                }
-                let next = apply_request(p, operation, r, run);
-                let answer = Answer::Result { identifier };
-                let list = no_entries();
-                let count = put_answer(out, answer, list);
-                Arrived {
-                    table: Table { last, run: next },
-                    outcome: Arriving::Answers { answer },
-                    count,
+        if out.len() < OUTPUTLEAST {
+            refuses(self.last, run, Refusal::ShortOutput)
+        } else if COMPONENTMOST < component.len() {
+            refuses(self.last, run, Refusal::LongComponent)
+        } else if !read.ok {
+            refuses(self.last, run, Refusal::BadProfile)
+        } else if LASTMOST < self.last {
+            refuses(self.last, run, Refusal::BadTable)
+        } else if !run.good(p) {
+            refuses(self.last, run, Refusal::BadTable)
+        } else {
+            let q = question_of(p, self.last, component);
+            if !q.asked {
+                let answer = q.answer;
+                let count = put_answer(out, answer);
+                answers(self.last, run, answer, count)
+            } else {
+                let r = q.request;
+                let operation = q.operation;
+                let identifier = q.identifier;
+                let last = last_after(p, identifier, self.last);
+                match judge_request(p, operation, r, run) {
+                    Verdict::Fails { error } => {
+                        let answer = Answer::Error {
+                            identifier,
+                            value: error,
+                        };
+                        let count = put_answer(out, answer);
+                        answers(last, run, answer, count)
+                    }
+                    Verdict::Passes => {
+                        if operation == INTERROGATION {
+                            let sel = selection_of(p, r);
+                            let answer = Answer::Listing { identifier };
+                            let count = run.put_listed(out, identifier, p, sel);
+                            answers(last, run, answer, count)
+                        } else {
+                            let next = apply_request(p, operation, r, run);
+                            let answer = Answer::Result { identifier };
+                            let count = put_answer(out, answer);
+                            answers(last, next, answer, count)
+                        }
+                    }
                 }
             }
         }

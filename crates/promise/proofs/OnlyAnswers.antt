@@ -6,17 +6,15 @@ use lib.IntN.{ℤ}
 use Rattle.laws.proofs.Picks.{both}
 use Rattle.laws.proofs.Over.{only-puts}
 use Rattle.answers.proofs.Numbers.{replies-is}
-use Rattle.lists.specs.declared.entries.Entries.{Entries}
 use Rattle.answers.specs.Answer.{PutAnswer}
 use Rattle.answers.specs.Reply.{ReplyTo}
 use Rattle.answers.specs.declared.answer.Answer.{Answer}
 use Rattle.answers.specs.declared.reply.Reply.{Reply}
 
 pub only-put-answer :
-    (xs : List ℕ) (answer : Answer) (list : Entries) {m n : ℕ} {ys zs : List ℕ} → PutAnswer xs answer list m ys →
-    PutAnswer xs answer list n zs →
+    (xs : List ℕ) (answer : Answer) {m n : ℕ} {ys zs : List ℕ} → PutAnswer xs answer m ys → PutAnswer xs answer n zs →
     (m ≡ n) × (ys ≡ zs)
-only-put-answer xs answer list = only-puts
+only-put-answer xs answer = only-puts
 
 pub only-reply-to :
     (identifier : ℤ) (operation : ℕ) (s : List ℕ) {a b : Reply} → ReplyTo identifier operation s a →

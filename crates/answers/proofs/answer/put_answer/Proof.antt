@@ -1,5 +1,6 @@
 use Rattle.answers.specs.Answer.{answerOctets}
 use Rattle.laws.proofs.Over.{wrote-none, puts-all}
+use Rattle.lists.proofs.Heads.{list-empty}
 use mir.Facts.{toZ-ofZ}
 use mir.Val.{SFits}
 use mir.Syntax.{w16}
@@ -32,8 +33,8 @@ put-result-requires c κs = search needs
 enum-known-answer-4 : tie.Need-enum-known-answer-4
 enum-known-answer-4 c = search needs
 
-put-list-requires : tie.Need-put-list-requires
-put-list-requires c κs = search needs
+put-list-head-requires : tie.Need-put-list-head-requires
+put-list-head-requires c κs = search needs
 
 returns : tie.Need-returns
 unfolding answerOctets
@@ -68,7 +69,7 @@ same-length-4 c = search needs
 returns-5 : tie.Need-returns-5
 unfolding answerOctets
 returns-5 c = let id : SFits w16 (c .before .before .before .before .before .answer4 .given .0 .0) = search needs in
-    rw (c .before .before .before .before .before .answer4 .given .1) (rw (toZ-ofZ id) at (c .before .before .put-list .ensures))
+    rw (c .before .before .before .before .before .answer4 .given .1) (list-empty _ (rw (toZ-ofZ id) at (c .before .before .put-list-head .ensures)))
 
 pub put-answer-spec : {M : Type 1} → statement M
 put-answer-spec =
@@ -82,7 +83,7 @@ put-answer-spec =
     enum-known-answer-3
     put-result-requires
     enum-known-answer-4
-    put-list-requires
+    put-list-head-requires
     returns
     same-length
     returns-2
