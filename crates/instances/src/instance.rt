@@ -55,7 +55,7 @@ pub(crate) fn is_named(every: u8, asked: u8, is: u8) -> bool
     asked == is
 }
 
-pub(crate) fn is_selected(sel: Selection, number: u8, service: u8) -> bool
+fn is_selected(sel: Selection, number: u8, service: u8) -> bool
     ensures { λ r. ⌜ r ≡ selected sel number service ⌝ }
 {
     if !is_named(EVERYNUMBER, sel.number, number) {

@@ -3,7 +3,6 @@ use crate::instance::EVERYNUMBER;
 use crate::instance::EVERYSERVICE;
 use crate::instance::Selection;
 use crate::instance::is_named;
-use crate::instance::is_selected;
 use crate::run::ROOM;
 use profile::NUMBERS;
 use profile::Profile;
@@ -13,7 +12,7 @@ ghost use Prim.Native.Nat.{min, _≤_};
 ghost use lib.ListN.{length, take};
 ghost use Rattle.profile.specs.Profile.{numbersMost, servicesMost};
 ghost use Rattle.instances.specs.Places.{runMost, placesOf, Stored};
-ghost use Rattle.instances.specs.inner.Places.{placed, numbersNamed, servicesNamed};
+ghost use Rattle.instances.specs.inner.Places.{placed, noted, numbersNamed, servicesNamed, placesNamed};
 
 // A number, by its place in the profile, and a service.
 pub struct Place {
@@ -27,6 +26,12 @@ pub(crate) struct Places {
     pub(crate) places: [Place; ROOM],
 }
 
+// `count` services.
+struct Named {
+    count: usize,
+    services: [u8; SERVICES],
+}
+
 // How many there are in an array of `size` of which so many are counted.
 pub fn stored(count: u8, size: usize) -> usize
     ensures { λ r. ⌜ Stored count size r ⌝ }
@@ -38,13 +43,11 @@ pub fn stored(count: u8, size: usize) -> usize
     size
 }
 
-// By number, then service code.
-pub(crate) fn places_of(p: Profile, sel: Selection) -> Places
-    ensures { λ r. ⌜ r ≡ placed (placesOf p sel) ⌝ }
+// Of so many numbers those that are asked for, each with each of the first `count` services: by number, then service code.
+fn places_named(numbers: usize, asked: u8, services: [u8; SERVICES], count: usize) -> Places
+    requires { ⌜ (numbers ≤ numbersMost) × (count ≤ servicesMost) ⌝ }
+    ensures { λ r. ⌜ r ≡ placed (placesNamed asked (take count services) numbers 0) ⌝ }
 {
-    let numbers = stored(p.numbercount, NUMBERS);
-    let count = stored(p.servicecount, SERVICES);
-    let services = p.services;
     let none = Place {
         number: 0,
         service: 0,
@@ -55,23 +58,32 @@ pub(crate) fn places_of(p: Profile, sel: Selection) -> Places
     };
     let mut k: usize = 0;
     let mut a: usize = 0;
-    let mut b: usize = 0;
     while a < numbers {
-        if b < count {
-            let service = services[b];
-            let number = a as u8;
-            if is_selected(sel, number, service) {
+        let number = a as u8;
+        if is_named(EVERYNUMBER, asked, number) {
+            let mut b: usize = 0;
+            while b < count {
+                let service = services[b];
                 next.places[k] = Place { number, service };
                 k += 1;
+                b += 1;
             }
-            b += 1;
-        } else {
-            a += 1;
-            b = 0;
         }
+        a += 1;
     }
     next.count = k as u8;
     next
+}
+
+// The services are gone through once, not for each number, and what is not selected takes no turn.
+pub(crate) fn places_of(p: Profile, sel: Selection) -> Places
+    ensures { λ r. ⌜ r ≡ placed (placesOf p sel) ⌝ }
+{
+    let numbers = stored(p.numbercount, NUMBERS);
+    let services = p.services;
+    let named = services_named(services, p.servicecount, sel.service);
+    let codes = named.services;
+    places_named(numbers, sel.number, codes, named.count)
 }
 
 // How many of so many numbers the selection names.
@@ -88,20 +100,26 @@ fn numbers_named(count: u8, number: u8) -> usize
     0
 }
 
-// How many of the first `count` services the selection names.
-fn services_named(services: [u8; SERVICES], count: u8, service: u8) -> usize
-    ensures { λ r. ⌜ (r ≡ servicesNamed service (take count services)) × (r ≤ servicesMost) ⌝ }
+// Those of the first `count` services that the selection names.
+fn services_named(services: [u8; SERVICES], count: u8, service: u8) -> Named
+    ensures { λ r. ⌜ (r ≡ noted (servicesNamed service (take count services))) × (r .count ≤ servicesMost) ⌝ }
 {
     let n = stored(count, SERVICES);
+    let mut named = [0u8; SERVICES];
     let mut k: usize = 0;
     let mut i: usize = 0;
     while i < n {
-        if is_named(EVERYSERVICE, service, services[i]) {
+        let code = services[i];
+        if is_named(EVERYSERVICE, service, code) {
+            named[k] = code;
             k += 1;
         }
         i += 1;
     }
-    k
+    Named {
+        count: k,
+        services: named,
+    }
 }
 
 // How many places are selected: each named number has each named service.
@@ -109,5 +127,6 @@ pub(crate) fn places_count(p: Profile, sel: Selection) -> usize
     ensures { λ r. ⌜ (r ≡ length (placesOf p sel)) × (r ≤ runMost) ⌝ }
 {
     let services = p.services;
-    numbers_named(p.numbercount, sel.number) * services_named(services, p.servicecount, sel.service)
+    let named = services_named(services, p.servicecount, sel.service);
+    numbers_named(p.numbercount, sel.number) * named.count
 }

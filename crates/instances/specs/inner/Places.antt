@@ -1,12 +1,14 @@
--- The record of the selected places, as the code keeps them, and how many numbers and services a selection names.
-use Prim.Native.Nat.{ℕ, _-_}
-use mathlib.Core.List.{List, _++_}
+-- The record of the selected places, as the code keeps them, and the numbers and services that a selection names.
+use Prim.Native.Nat.{ℕ, zero, suc, _-_}
+use mathlib.Core.List.{List, [], _++_, map}
 use lib.Dec.{ltb, eqb}
 use lib.ListN.{length, take, replicate}
 use Rattle.laws.specs.Pick.{pick}
 use Rattle.laws.specs.Those.{those}
+use Rattle.profile.specs.Profile.{servicesMost}
 use Rattle.instances.specs.Instance.{everyNumber, everyService, named}
 use Rattle.instances.specs.Places.{runMost, placeFor}
+use Rattle.instances.specs.declared.places.Named.{Named}
 use Rattle.instances.specs.declared.places.Place.{Place}
 use Rattle.instances.specs.declared.places.Places.{Places}
 
@@ -20,9 +22,22 @@ placed ws = record { count = length ws; places = ws ++ replicate (runMost - leng
 abbrev pub placesIn : Places → List Place
 placesIn w = take (w .count) (w .places)
 
--- how many of the first `many` numbers, and of some services, a selection names; a number goes by its place
+-- how many of the first `many` numbers a selection names; a number goes by its place
 abbrev pub numbersNamed : ℕ → ℕ → ℕ
 numbersNamed asked many = pick (eqb asked everyNumber) many (pick (ltb asked many) 1 0)
 
-abbrev pub servicesNamed : ℕ → List ℕ → ℕ
-servicesNamed asked services = length (those (named everyService asked) services)
+-- the services that a selection names, and the record of them
+abbrev pub servicesNamed : ℕ → List ℕ → List ℕ
+servicesNamed asked services = those (named everyService asked) services
+
+abbrev pub noted : List ℕ → Named
+noted services = record {
+  count = length services;
+  services = services ++ replicate (servicesMost - length services) 0;
+}
+
+-- of `many` numbers, the first of which is `from`, those that are asked for, each with each of the services
+unfoldable pub placesNamed : ℕ → List ℕ → ℕ → ℕ → List Place
+placesNamed asked services zero from = []
+placesNamed asked services (suc many) from =
+    pick (named everyNumber asked from) (map (placeFor from) services) [] ++ placesNamed asked services many (suc from)
