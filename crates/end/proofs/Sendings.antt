@@ -13,6 +13,7 @@ use Rattle.refusals.specs.Refusal.{tells, outputLeast}
 use Rattle.refusals.specs.declared.refusal.Refusal.{Refusal}
 use Rattle.refusals.specs.declared.refusal.Refusal.the-variants.{ShortOutput, BadProfile, BadTable, Outstanding, Exhausted, BadRequest}
 use Rattle.refusals.specs.declared.handling.Handling.the-variants.{Done}
+use Rattle.refusals.specs.declared.handling.Written.{Written}
 use Rattle.profile.specs.Access.{accessRead}
 use Rattle.requests.specs.Sent.{sendable, requestOctets}
 use Rattle.requests.specs.Sending.{PutRequest}
@@ -21,10 +22,9 @@ use Rattle.requests.proofs.Sizes.{request-most}
 use Rattle.requests.proofs.Senders.{sent-whole}
 use Rattle.lists.specs.Entries.{instancesMost}
 use Rattle.end.specs.End.{usedMost, endGood}
-use Rattle.end.specs.Sending.{sent, Sends, notSent, sends, SendsBy}
-use Rattle.end.specs.inner.Refused.{sendRefused}
+use Rattle.end.specs.Sending.{sent, Sends, notSent, sends}
+use Rattle.end.specs.inner.Sending.{notWritten, WrittenBy}
 use Rattle.end.specs.declared.end.End.{End}
-use Rattle.end.specs.declared.send.Sent.{Sent}
 
 -- what is not refused
 abbrev pub sendsOf : ℕ → Request → End → Sends
@@ -73,10 +73,9 @@ module _ (access : List ℕ) (operation : ℕ) (r : Request) (e : End) (size : �
 
 -- what is refused writes nothing
 pub refused-sends :
-    (d : Sends) (e : End) (xs : List ℕ) (refusal : Refusal) (q : Sent) →
-    d ≡ notSent e refusal → q ≡ sendRefused e refusal → SendsBy d xs q xs
-refused-sends d e xs refusal q is made = record {
-  end = rw (is, made);
+    (d : Sends) (e : End) (xs : List ℕ) (refusal : Refusal) (w : Written) →
+    d ≡ notSent e refusal → w ≡ notWritten refusal → WrittenBy d xs w xs
+refused-sends d e xs refusal w is made = record {
   told = rw (is, made);
   count = rw (is, made);
   lent = rw is (sym (over-nil xs 0));
@@ -84,16 +83,14 @@ refused-sends d e xs refusal q is made = record {
 
 -- what is not refused is written whole: a request has at most 95 octets
 pub all-sends :
-    (d : Sends) (operation : ℕ) (r : Request) (e next : End) (xs : List ℕ) (n : ℕ) (ys : List ℕ) →
+    (d : Sends) (operation : ℕ) (r : Request) (e : End) (xs : List ℕ) (n : ℕ) (ys : List ℕ) →
     d ≡ sendsOf operation r e → e .used < usedMost → outputLeast ≤ length xs → sendable operation r ≡ true →
-    PutRequest xs (pos (suc (e .used))) operation r n ys → next ≡ sent operation r e →
-    SendsBy d xs (record { end = next; outcome = Done; count = n }) ys
-all-sends d operation r e next xs n ys is below room fit put made =
+    PutRequest xs (pos (suc (e .used))) operation r n ys → WrittenBy d xs (record { outcome = Done; count = n }) ys
+all-sends d operation r e xs n ys is below room fit put =
     let identifier = pos (suc (e .used)) in
     let few = request-most identifier operation r (omega arith) fit in
     let whole = sent-whole xs identifier operation r n ys put fit (omega (arith, room, few)) in
     record {
-      end = rw (is, made);
       told = rw is;
       count = rw is (whole .moved ∙ zero-add _);
       lent = rw is (whole .holds);

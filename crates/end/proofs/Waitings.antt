@@ -1,18 +1,24 @@
 -- An end that has sent waits for the answer to what it wrote. Assumes nothing.
-use Prim.Native.Nat.{ℕ, _≤_}
-use mathlib.Core.Path.{_≡_, refl}
+use Prim.Native.Nat.{ℕ, _<_, _≤_}
+use mathlib.Core.Path.{_≡_, refl, sym, _∙_}
 use mathlib.Core.Bool.{true}
 use mathlib.Core.List.{List}
 use native.Mathlib.Omega.{arith}
 use lib.IntN.{pos}
-use Rattle.refusals.specs.Refusal.{tells}
+use lib.ListN.{length}
+use Rattle.refusals.specs.Refusal.{refusalNo, refuses, tells}
+use Rattle.refusals.specs.Handling.{handlingTold}
+use Rattle.refusals.specs.declared.handling.Handling.{Handling}
+use Rattle.refusals.specs.declared.handling.Handling.the-variants.{Refuses, Done}
+use Rattle.refusals.specs.declared.handling.Written.{Written}
 use Rattle.refusals.proofs.Refusals.{refuses-not}
 use Rattle.profile.specs.Access.{accessRead}
 use Rattle.requests.specs.Sent.{sendable, requestOctets}
 use Rattle.requests.specs.declared.request.Request.{Request}
 use Rattle.lists.specs.Entries.{instancesMost}
 use Rattle.end.specs.End.{usedMost}
-use Rattle.end.specs.Sending.{sent, Sends, sends}
+use Rattle.end.specs.Sending.{sent, Sends, sends, SendsBy}
+use Rattle.end.specs.inner.Sending.{WrittenBy, endAfter, IdentifierLeft}
 use Rattle.end.specs.declared.end.End.{End}
 use Rattle.end.proofs.Ends.{used-most}
 use Rattle.end.proofs.Steps.{ours, sends-ind}
@@ -40,3 +46,44 @@ sends-waits access operation r e size =
       sendable = fit;
       octets = refl;
     })
+
+-- ---- what is told decides the next end
+
+module _ (access : List ℕ) (operation : ℕ) (r : Request) (e : End) (size : ℕ) where
+  told-left :
+      (outcome : Handling) → handlingTold outcome ≡ sends access operation r e size .told → IdentifierLeft e outcome
+  told-left (Refuses refusal) is = tt
+  told-left Done is =
+      sends-ind access e operation r size (λ d. tells tt ≡ d .told → e .used < usedMost)
+      (λ _ h. absurd (refuses-not _ _ (sym h)))
+      (λ _ good more _ _. omega (arith, used-most instancesMost (ours access) e good, more))
+      is
+
+  told-end :
+      (outcome : Handling) → handlingTold outcome ≡ sends access operation r e size .told →
+      endAfter operation r e outcome ≡ sends access operation r e size .end
+  told-end (Refuses refusal) =
+      sends-ind access e operation r size (λ d. refuses (refusalNo refusal) ≡ d .told → e ≡ d .end)
+      (λ _ _. refl)
+      (λ _ _ _ _ h. absurd (refuses-not _ _ h))
+  told-end Done =
+      sends-ind access e operation r size (λ d. tells tt ≡ d .told → sent operation r e ≡ d .end)
+      (λ _ h. absurd (refuses-not _ _ (sym h)))
+      (λ _ _ _ _ _. refl)
+
+module _ (access : List ℕ) (operation : ℕ) (r : Request) (e : End) (xs : List ℕ) (w : Written) (ys : List ℕ)
+    (by : WrittenBy (sends access operation r e (length xs)) xs w ys) where
+  -- where it was not refused there is an identifier for the end that waits
+  pub written-left : IdentifierLeft e (w .outcome)
+  written-left = told-left access operation r e (length xs) (w .outcome) (by .told)
+
+  -- what was written, with the end after it, is what is sent
+  pub written-sends :
+      (next : End) → next ≡ endAfter operation r e (w .outcome) →
+      SendsBy (sends access operation r e (length xs)) xs (record { end = next; outcome = w .outcome; count = w .count }) ys
+  written-sends next is = record {
+    end = is ∙ told-end access operation r e (length xs) (w .outcome) (by .told);
+    told = by .told;
+    count = by .count;
+    lent = by .lent;
+  }

@@ -62,7 +62,7 @@ fn marks_good(marks: [u8; PROCEDURES]) -> bool
 }
 
 // Whether all but the picture breaks no rule.
-fn rules_hold(e: End) -> bool
+pub(crate) fn rules_hold(e: End) -> bool
     ensures { λ r. ⌜ r ≡ all (endRules e) ⌝ }
 {
     if USEDMOST < e.used {

@@ -3,10 +3,12 @@ use crate::end::DOUBT;
 use crate::end::End;
 use crate::end::PROCEDURES;
 use crate::end::USEDMOST;
+use crate::end::rules_hold;
 use numbers::blank_number;
 use profile::read_access;
 use refusals::Handling;
 use refusals::Refusal;
+use refusals::Written;
 use requests::ACTIVATION;
 use requests::DEACTIVATION;
 use requests::INTERROGATION;
@@ -19,8 +21,8 @@ ghost use mathlib.Core.Path.{_≡_};
 ghost use Prim.Native.Nat.{_<_};
 ghost use lib.ListN.{length};
 ghost use Rattle.end.specs.End.{usedMost, markAt, marked};
-ghost use Rattle.end.specs.Sending.{interrogationOf, marksSent, sent, sends, SendsBy, Activates, Deactivates, Interrogates};
-ghost use Rattle.end.specs.inner.Refused.{sendRefused};
+ghost use Rattle.end.specs.Sending.{interrogationOf, marksSent, sent, sends, Activates, Deactivates, Interrogates};
+ghost use Rattle.end.specs.inner.Sending.{notWritten, WrittenBy, IdentifierLeft, endAfter};
 
 // The least output.
 const OUTPUTLEAST: usize = 707;
@@ -95,46 +97,59 @@ fn waiting(e: End, operation: u8, r: Request) -> End
     }
 }
 
-fn refuses(end: End, refusal: Refusal) -> Sent
-    ensures { λ r. ⌜ r ≡ sendRefused end refusal ⌝ }
+fn refuses(refusal: Refusal) -> Written
+    ensures { λ r. ⌜ r ≡ notWritten refusal ⌝ }
 {
-    Sent {
-        end,
+    Written {
         outcome: Handling::Refuses { refusal },
         count: 0,
     }
 }
 
-fn send(e: End, access: &[u8], operation: u8, r: Request, out: &mut [u8]) -> Sent
-    ensures { λ done. ⌜ SendsBy (sends (now (access .entry)) operation r e (length (now (out .entry)))) (now (out .entry)) done (now (out .exit)) ⌝ }
+// Writes the request, or refuses it; the next end is built outside, since each function that hands an end back copies it.
+fn send(e: End, access: &[u8], operation: u8, r: Request, out: &mut [u8]) -> Written
+    ensures { λ w. ⌜ WrittenBy (sends (now (access .entry)) operation r e (length (now (out .entry)))) (now (out .entry)) w (now (out .exit)) ⌝ }
 {
     if out.len() < OUTPUTLEAST {
-        return refuses(e, Refusal::ShortOutput);
+        return refuses(Refusal::ShortOutput);
     }
     let read = read_access(access);
     if !read.ok {
-        return refuses(e, Refusal::BadProfile);
+        return refuses(Refusal::BadProfile);
     }
     let p = read.profile;
-    if !e.good(p) {
-        return refuses(e, Refusal::BadTable);
+    if !rules_hold(e) {
+        return refuses(Refusal::BadTable);
+    }
+    let picture = e.picture;
+    if !picture.good(p) {
+        return refuses(Refusal::BadTable);
     }
     if e.outstanding == 1 {
-        return refuses(e, Refusal::Outstanding);
+        return refuses(Refusal::Outstanding);
     }
     if e.used == USEDMOST {
-        return refuses(e, Refusal::Exhausted);
+        return refuses(Refusal::Exhausted);
     }
     if !is_sendable(operation, r) {
-        return refuses(e, Refusal::BadRequest);
+        return refuses(Refusal::BadRequest);
     }
     let identifier = e.used + 1;
     let count = put_request(out, identifier as i16, operation, r);
-    let end = waiting(e, operation, r);
-    Sent {
-        end,
+    Written {
         outcome: Handling::Done,
         count,
+    }
+}
+
+// What is refused leaves the end as it was.
+fn end_after(e: End, operation: u8, r: Request, outcome: Handling) -> End
+    requires { ⌜ IdentifierLeft e outcome ⌝ }
+    ensures { λ next. ⌜ next ≡ endAfter operation r e outcome ⌝ }
+{
+    match outcome {
+        Handling::Refuses { refusal: _ } => e,
+        Handling::Done => waiting(e, operation, r),
     }
 }
 
@@ -143,14 +158,28 @@ impl End {
     pub fn activate(self, access: &[u8], request: Request, out: &mut [u8]) -> Sent
         ensures { λ r. ⌜ Activates (now (access .entry)) request self (now (out .entry)) r (now (out .exit)) ⌝ }
     {
-        send(self, access, ACTIVATION, request, out)
+        let written = send(self, access, ACTIVATION, request, out);
+        let outcome = written.outcome;
+        let end = end_after(self, ACTIVATION, request, outcome);
+        Sent {
+            end,
+            outcome,
+            count: written.count,
+        }
     }
 
     // Sends a deactivation; the request's forwarded-to address carries no meaning.
     pub fn deactivate(self, access: &[u8], request: Request, out: &mut [u8]) -> Sent
         ensures { λ r. ⌜ Deactivates (now (access .entry)) request self (now (out .entry)) r (now (out .exit)) ⌝ }
     {
-        send(self, access, DEACTIVATION, request, out)
+        let written = send(self, access, DEACTIVATION, request, out);
+        let outcome = written.outcome;
+        let end = end_after(self, DEACTIVATION, request, outcome);
+        Sent {
+            end,
+            outcome,
+            count: written.count,
+        }
     }
 
     // Sends the interrogation of a procedure, of all services and all numbers.
@@ -158,6 +187,13 @@ impl End {
         ensures { λ r. ⌜ Interrogates (now (access .entry)) procedure self (now (out .entry)) r (now (out .exit)) ⌝ }
     {
         let request = interrogation_of(procedure);
-        send(self, access, INTERROGATION, request, out)
+        let written = send(self, access, INTERROGATION, request, out);
+        let outcome = written.outcome;
+        let end = end_after(self, INTERROGATION, request, outcome);
+        Sent {
+            end,
+            outcome,
+            count: written.count,
+        }
     }
 }

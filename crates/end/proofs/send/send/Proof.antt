@@ -2,120 +2,197 @@ use mir.Val.{SFits}
 use mir.Syntax.{w16}
 use mir.Facts.{toZ-ofZ}
 use lib.IntN.{pos}
-use Prim.Native.Nat.{_<_, _+_}
-use Rattle.requests.proofs.Senders.{put-length}
-use Rattle.end.specs.End.{usedMost}
-use native.Mathlib.Numerals.{add-one}
-use Rattle.end.proofs.Ends.{used-most}
-use Rattle.lists.specs.Entries.{instancesMost}
-use Rattle.end.proofs.Sendings.{sends-short, sends-profile, sends-end, sends-waiting, sends-last, sends-unfit, sends-all, refused-sends, all-sends}
-use Rattle.end.specs.Sending.{sends}
-use Rattle.refusals.specs.declared.refusal.Refusal.the-variants.{ShortOutput, BadProfile, BadTable, Outstanding, Exhausted, BadRequest}
-use Rattle.profile.specs.declared.access.AccessRead.{AccessRead}
-use borrow.Author.Tests.{not-true, not-false}
 use lib.ListN.{length}
+use Prim.Native.Nat.{_<_, _≤_, _+_}
+use native.Mathlib.Numerals.{add-one}
 use native.Mathlib.Omega.{arith}
-use mathlib.Core.Path.{sym, ap, _∙_}
+use mathlib.Core.Path.{_≡_, sym, ap, _∙_}
+use mathlib.Core.Bool.{true}
+use borrow.Author.Tests.{not-true, not-false}
+use Rattle.laws.specs.Tests.{all}
+use Rattle.refusals.specs.Refusal.{outputLeast}
+use Rattle.refusals.specs.declared.refusal.Refusal.the-variants.{ShortOutput, BadProfile, BadTable, Outstanding, Exhausted, BadRequest}
+use Rattle.profile.specs.Access.{accessRead}
+use Rattle.profile.specs.declared.access.AccessRead.{AccessRead}
+use Rattle.lists.specs.Entries.{instancesMost}
+use Rattle.end.specs.End.{usedMost, endRules, endGood}
+use Rattle.end.proofs.Ends.{rules-fail, rules-pass, used-most}
+use Rattle.end.proofs.Sendings.{sends-short, sends-profile, sends-end, sends-waiting, sends-last, sends-unfit, sends-all, refused-sends, all-sends}
 use borrow.Author.Needs.{needs}
 use Rattle.end.proofs.send.send.Statement.{statement}
 use Rattle.end.proofs.send.send.Tie as tie
 use Rattle.end.proofs.send.send.Reads as reads
 use Rattle.end.proofs.send.send.Lts as lts
-use Rattle.end.proofs.end.End.good.Reads as good-reads
+use Rattle.end.proofs.end.rules_hold.Reads as rules-hold-reads
 use Rattle.end.proofs.send.refuses.Reads as refuses-reads
-use Rattle.end.proofs.send.waiting.Reads as waiting-reads
+use Rattle.instances.proofs.run.Run.good.Reads as good-reads
 use Rattle.profile.proofs.read_access.Reads as read-access-reads
 use Rattle.requests.proofs.is_sendable.Reads as is-sendable-reads
 use Rattle.requests.proofs.put_request.Reads as put-request-reads
 
--- src/send.rt:112:9
+-- from a place at which a test was passed, that of the test before it
+abbrev from2 : tie.Else2 → tie.Else1
+from2 c = c .before .before .before
+
+abbrev from3 : tie.Else3 → tie.Else2
+from3 c = c .before .before .before
+
+abbrev from4 : tie.Else4 → tie.Else3
+from4 c = c .before .before .before
+
+abbrev entry1 : tie.Else1 → tie.Start
+entry1 c = c .before .before .before
+
+abbrev entry2 : tie.Else2 → tie.Start
+entry2 c = entry1 (from2 c)
+
+abbrev entry3 : tie.Else3 → tie.Start
+entry3 c = entry2 (from3 c)
+
+abbrev entry4 : tie.Else4 → tie.Start
+entry4 c = entry3 (from4 c)
+
+-- what holds where a test was passed
+room : (c : tie.Else1) → outputLeast ≤ length (entry1 c .args .out .now)
+room c = omega (arith, c .if1 .left)
+
+ok : (c : tie.Else2) → accessRead (entry2 c .args .access .now) .ok ≡ true
+ok c = ap (λ (q : AccessRead). q .ok) (sym (c .before .before .read-access .ensures)) ∙ not-false _ (c .if2 .left)
+
+rules : (c : tie.Else3) → all (endRules (entry3 c .args .e)) ≡ true
+rules c = sym (c .before .rules-hold .ensures) ∙ not-false _ (c .if3 .left)
+
+good : (c : tie.Else4) → endGood instancesMost (accessRead (entry4 c .args .access .now) .profile) (entry4 c .args .e) ≡ true
+good c =
+    let read = from3 (from4 c) .before .before .read-access in
+    rules-pass instancesMost _ _ (rules (from4 c)) ∙ rw (read .ensures) at (sym (c .before .good2 .ensures) ∙ not-false _ (c .if4 .left))
+
+below : (c : tie.Else6) → entry4 (c .before .before .before .before) .args .e .used < usedMost
+below c = omega (arith, used-most instancesMost _ _ (good (c .before .before .before .before)), c .if6 .left)
+
+-- src/send.rt:114:9
 refuses-requires : tie.Need-refuses-requires
 refuses-requires c κs = search needs
 
--- src/send.rt:112:9
-returns : tie.Need-returns
-returns c = let a = c .before .before .before .before .args in refused-sends (sends (a .access .now) (a .operation) (a .r) (a .e) (length (a .out .now))) (a .e) (a .out .now) ShortOutput _ (sends-short (a .access .now) (a .operation) (a .r) (a .e) (length (a .out .now)) (omega (arith, c .before .if1 .taken))) (c .refuses .ensures)
-
 -- src/send.rt:114:9
+returns : tie.Need-returns
+returns c = refused-sends _ _ _ ShortOutput _ (sends-short _ _ _ _ _ (omega (arith, c .before .if1 .taken))) (c .refuses .ensures)
+
+-- src/send.rt:116:9
 read-access-requires : tie.Need-read-access-requires
 read-access-requires c κs = search needs
 
--- src/send.rt:116:9
+-- src/send.rt:118:9
 refuses-requires-2 : tie.Need-refuses-requires-2
 refuses-requires-2 c κs = search needs
 
--- src/send.rt:116:9
+-- src/send.rt:118:9
 returns-2 : tie.Need-returns-2
-returns-2 c = let a = c .before .before .before .before .before .before .before .args in refused-sends (sends (a .access .now) (a .operation) (a .r) (a .e) (length (a .out .now))) (a .e) (a .out .now) BadProfile _ (sends-profile (a .access .now) (a .operation) (a .r) (a .e) (length (a .out .now)) (omega (arith, c .before .before .before .before .if1 .left)) (ap (λ (q : AccessRead). q .ok) (sym (c .before .before .before .read-access .ensures)) ∙ not-true _ (c .before .if2 .taken))) (c .refuses2 .ensures)
+returns-2 c =
+    let bad = ap (λ (q : AccessRead). q .ok) (sym (c .before .before .before .read-access .ensures)) ∙ not-true _ (c .before .if2 .taken) in
+    refused-sends _ _ _ BadProfile _ (sends-profile _ _ _ _ _ (room (c .before .before .before .before)) bad) (c .refuses2 .ensures)
 
--- src/send.rt:119:9
-good-requires : tie.Need-good-requires
-good-requires c κs = search needs
+-- src/send.rt:121:9
+rules-hold-requires : tie.Need-rules-hold-requires
+rules-hold-requires c κs = search needs
 
--- src/send.rt:120:9
+-- src/send.rt:122:9
 refuses-requires-3 : tie.Need-refuses-requires-3
 refuses-requires-3 c κs = search needs
 
--- src/send.rt:120:9
+-- src/send.rt:122:9
 returns-3 : tie.Need-returns-3
-returns-3 c = let a = c .before .before .before .before .before .before .before .before .before .before .args in refused-sends (sends (a .access .now) (a .operation) (a .r) (a .e) (length (a .out .now))) (a .e) (a .out .now) BadTable _ (sends-end (a .access .now) (a .operation) (a .r) (a .e) (length (a .out .now)) (omega (arith, c .before .before .before .before .before .before .before .if1 .left)) (ap (λ (q : AccessRead). q .ok) (sym (c .before .before .before .before .before .before .read-access .ensures)) ∙ not-false _ (c .before .before .before .before .if2 .left)) (rw (c .before .before .before .before .before .before .read-access .ensures) at (sym (c .before .before .good2 .ensures) ∙ not-true _ (c .before .if3 .taken)))) (c .refuses3 .ensures)
+returns-3 c =
+    let d = c .before .before .before .before in
+    let bad = rules-fail instancesMost _ _ (sym (c .before .before .rules-hold .ensures) ∙ not-true _ (c .before .if3 .taken)) in
+    refused-sends _ _ _ BadTable _ (sends-end _ _ _ _ _ (room (from2 d)) (ok d) bad) (c .refuses3 .ensures)
 
--- src/send.rt:123:9
+-- src/send.rt:125:9
+good-requires : tie.Need-good-requires
+good-requires c κs = search needs
+
+-- src/send.rt:126:9
 refuses-requires-4 : tie.Need-refuses-requires-4
 refuses-requires-4 c κs = search needs
 
--- src/send.rt:123:9
-returns-4 : tie.Need-returns-4
-returns-4 c = let a = c .before .before .before .before .before .before .before .before .before .before .before .before .args in refused-sends (sends (a .access .now) (a .operation) (a .r) (a .e) (length (a .out .now))) (a .e) (a .out .now) Outstanding _ (sends-waiting (a .access .now) (a .operation) (a .r) (a .e) (length (a .out .now)) (omega (arith, c .before .before .before .before .before .before .before .before .before .if1 .left)) (ap (λ (q : AccessRead). q .ok) (sym (c .before .before .before .before .before .before .before .before .read-access .ensures)) ∙ not-false _ (c .before .before .before .before .before .before .if2 .left)) (rw (c .before .before .before .before .before .before .before .before .read-access .ensures) at (sym (c .before .before .before .before .good2 .ensures) ∙ not-false _ (c .before .before .before .if3 .left))) (c .before .if4 .taken)) (c .refuses4 .ensures)
-
 -- src/send.rt:126:9
+returns-4 : tie.Need-returns-4
+returns-4 c =
+    let d = c .before .before .before .before in
+    let read = from3 d .before .before .read-access in
+    let bad = rw (read .ensures) at (sym (c .before .before .good2 .ensures) ∙ not-true _ (c .before .if4 .taken)) in
+    refused-sends _ _ _ BadTable _
+    (sends-end _ _ _ _ _ (room (from2 (from3 d))) (ok (from3 d)) (rules-pass instancesMost _ _ (rules d) ∙ bad)) (c .refuses4 .ensures)
+
+-- src/send.rt:129:9
 refuses-requires-5 : tie.Need-refuses-requires-5
 refuses-requires-5 c κs = search needs
 
--- src/send.rt:126:9
-returns-5 : tie.Need-returns-5
-returns-5 c = let a = c .before .before .before .before .before .before .before .before .before .before .before .before .before .before .args in refused-sends (sends (a .access .now) (a .operation) (a .r) (a .e) (length (a .out .now))) (a .e) (a .out .now) Exhausted _ (sends-last (a .access .now) (a .operation) (a .r) (a .e) (length (a .out .now)) (omega (arith, c .before .before .before .before .before .before .before .before .before .before .before .if1 .left)) (ap (λ (q : AccessRead). q .ok) (sym (c .before .before .before .before .before .before .before .before .before .before .read-access .ensures)) ∙ not-false _ (c .before .before .before .before .before .before .before .before .if2 .left)) (rw (c .before .before .before .before .before .before .before .before .before .before .read-access .ensures) at (sym (c .before .before .before .before .before .before .good2 .ensures) ∙ not-false _ (c .before .before .before .before .before .if3 .left))) (c .before .before .before .if4 .left) (c .before .if5 .taken)) (c .refuses5 .ensures)
-
--- src/send.rt:128:9
-is-sendable-requires : tie.Need-is-sendable-requires
-is-sendable-requires c κs = search needs
-
 -- src/send.rt:129:9
+returns-5 : tie.Need-returns-5
+returns-5 c =
+    let d = c .before .before .before in
+    let k = from3 (from4 d) in
+    refused-sends _ _ _ Outstanding _
+    (sends-waiting _ _ _ _ _ (room (from2 k)) (ok k) (good d) (c .before .if5 .taken)) (c .refuses5 .ensures)
+
+-- src/send.rt:132:9
 refuses-requires-6 : tie.Need-refuses-requires-6
 refuses-requires-6 c κs = search needs
 
--- src/send.rt:129:9
-returns-6 : tie.Need-returns-6
-returns-6 c = let a = c .before .before .before .before .before .before .before .before .before .before .before .before .before .before .before .before .args in refused-sends (sends (a .access .now) (a .operation) (a .r) (a .e) (length (a .out .now))) (a .e) (a .out .now) BadRequest _ (sends-unfit (a .access .now) (a .operation) (a .r) (a .e) (length (a .out .now)) (omega (arith, c .before .before .before .before .before .before .before .before .before .before .before .before .before .if1 .left)) (ap (λ (q : AccessRead). q .ok) (sym (c .before .before .before .before .before .before .before .before .before .before .before .before .read-access .ensures)) ∙ not-false _ (c .before .before .before .before .before .before .before .before .before .before .if2 .left)) (rw (c .before .before .before .before .before .before .before .before .before .before .before .before .read-access .ensures) at (sym (c .before .before .before .before .before .before .before .before .good2 .ensures) ∙ not-false _ (c .before .before .before .before .before .before .before .if3 .left))) (c .before .before .before .before .before .if4 .left) (c .before .before .before .if5 .left) (sym (c .before .before .is-sendable .ensures) ∙ not-true _ (c .before .if6 .taken))) (c .refuses6 .ensures)
-
--- src/send.rt:131:22
-add-identifier : tie.Need-add-identifier
-add-identifier c = let h = used-most instancesMost _ _ (rw (c .before .before .before .before .before .before .before .before .before .before .before .before .read-access .ensures) at (sym (c .before .before .before .before .before .before .before .before .good2 .ensures) ∙ not-false _ (c .before .before .before .before .before .before .before .if3 .left))) in search (needs, h)
-
--- src/send.rt:132:34
-cast-put-request : tie.Need-cast-put-request
-cast-put-request c = let h = used-most instancesMost _ _ (rw (c .before .before .before .before .before .before .before .before .before .before .before .before .before .read-access .ensures) at (sym (c .before .before .before .before .before .before .before .before .before .good2 .ensures) ∙ not-false _ (c .before .before .before .before .before .before .before .before .if3 .left))) in omega (arith, h, c .before .before .before .before .if5 .left)
-
 -- src/send.rt:132:9
+returns-6 : tie.Need-returns-6
+returns-6 c =
+    let d = c .before .before .before .before .before in
+    let k = from3 (from4 d) in
+    refused-sends _ _ _ Exhausted _
+    (sends-last _ _ _ _ _ (room (from2 k)) (ok k) (good d) (c .before .before .before .if5 .left) (c .before .if6 .taken)) (c .refuses6 .ensures)
+
+-- src/send.rt:134:9
+is-sendable-requires : tie.Need-is-sendable-requires
+is-sendable-requires c κs = search needs
+
+-- src/send.rt:135:9
+refuses-requires-7 : tie.Need-refuses-requires-7
+refuses-requires-7 c κs = search needs
+
+-- src/send.rt:135:9
+returns-7 : tie.Need-returns-7
+returns-7 c =
+    let d = c .before .before .before .before .before .before .before in
+    let k = from3 (from4 d) in
+    let unfit = sym (c .before .before .is-sendable .ensures) ∙ not-true _ (c .before .if7 .taken) in
+    refused-sends _ _ _ BadRequest _
+    (sends-unfit _ _ _ _ _ (room (from2 k)) (ok k) (good d) (c .before .before .before .before .before .if5 .left) (c .before .before .before .if6 .left) unfit) (c .refuses7 .ensures)
+
+-- src/send.rt:137:22
+add-identifier : tie.Need-add-identifier
+add-identifier c = let h = below (c .before .before .before) in search (needs, h)
+
+-- src/send.rt:138:34
+cast-put-request : tie.Need-cast-put-request
+cast-put-request c = omega (arith, below (c .before .before .before .before))
+
+-- src/send.rt:138:9
 put-request-requires : tie.Need-put-request-requires
 put-request-requires c κs = search needs
 
--- src/send.rt:133:9
-waiting-requires : tie.Need-waiting-requires
-waiting-requires c κs = let h = used-most instancesMost _ _ (rw (c .before .before .before .before .before .before .before .before .before .before .before .before .before .before .before .before .read-access .ensures) at (sym (c .before .before .before .before .before .before .before .before .before .before .before .before .good2 .ensures) ∙ not-false _ (c .before .before .before .before .before .before .before .before .before .before .before .if3 .left))) in omega (arith, h, c .before .before .before .before .before .before .before .if5 .left)
-
--- src/send.rt:108:1
+-- src/send.rt:110:1
 same-length : tie.Need-same-length
-same-length c = put-length _ _ _ _ _ _ (c .before .before .before .put-request .ensures)
+same-length c = search needs
 
--- src/send.rt:108:1
-returns-7 : tie.Need-returns-7
-returns-7 c = let a = c .before .before .before .before .before .before .before .before .before .before .before .before .before .before .before .before .before .before .before .before .before .args in let h = used-most instancesMost _ _ (rw (c .before .before .before .before .before .before .before .before .before .before .before .before .before .before .before .before .before .read-access .ensures) at (sym (c .before .before .before .before .before .before .before .before .before .before .before .before .before .good2 .ensures) ∙ not-false _ (c .before .before .before .before .before .before .before .before .before .before .before .before .if3 .left))) in let below : a .e .used < usedMost = omega (arith, h, c .before .before .before .before .before .before .before .before .if5 .left) in
-    let id : SFits w16 (pos (a .e .used + 1)) = omega (arith, below) in
-    let fit = sym (c .before .before .before .before .before .before .before .is-sendable .ensures) ∙ not-false _ (c .before .before .before .before .before .before .if6 .left) in
-    all-sends (sends (a .access .now) (a .operation) (a .r) (a .e) (length (a .out .now))) (a .operation) (a .r) (a .e) _ (a .out .now) _ _
-    (sends-all (a .access .now) (a .operation) (a .r) (a .e) (length (a .out .now)) (omega (arith, c .before .before .before .before .before .before .before .before .before .before .before .before .before .before .before .before .before .before .if1 .left)) (ap (λ (q : AccessRead). q .ok) (sym (c .before .before .before .before .before .before .before .before .before .before .before .before .before .before .before .before .before .read-access .ensures)) ∙ not-false _ (c .before .before .before .before .before .before .before .before .before .before .before .before .before .before .before .if2 .left)) (rw (c .before .before .before .before .before .before .before .before .before .before .before .before .before .before .before .before .before .read-access .ensures) at (sym (c .before .before .before .before .before .before .before .before .before .before .before .before .before .good2 .ensures) ∙ not-false _ (c .before .before .before .before .before .before .before .before .before .before .before .before .if3 .left))) (c .before .before .before .before .before .before .before .before .before .before .if4 .left) (c .before .before .before .before .before .before .before .before .if5 .left) fit) below (omega (arith, c .before .before .before .before .before .before .before .before .before .before .before .before .before .before .before .before .before .before .if1 .left)) fit
-    (rw (add-one (a .e .used)) at (rw (toZ-ofZ id) at (c .before .before .before .put-request .ensures))) (c .waiting .ensures)
+-- src/send.rt:110:1
+returns-8 : tie.Need-returns-8
+returns-8 c =
+    let m = c .before .before .before .before .before .before .before in
+    let d = m .before .before .before .before in
+    let k = from3 (from4 d) in
+    let used = entry4 d .args .e .used in
+    let id : SFits w16 (pos (used + 1)) = omega (arith, below m) in
+    let fit = sym (c .before .before .before .before .before .before .is-sendable .ensures) ∙ not-false _ (c .before .before .before .before .before .if7 .left) in
+    let is = sends-all _ _ _ _ _ (room (from2 k)) (ok k) (good d) (m .before .before .if5 .left) (m .if6 .left) fit in
+    let put = rw (add-one used) at (rw (toZ-ofZ id) at (c .before .before .put-request .ensures)) in
+    all-sends _ _ _ _ _ _ _ is (below m) (room (from2 k)) fit put
 
 pub send-spec : {M : Type 1} → statement M
 send-spec =
@@ -126,19 +203,21 @@ send-spec =
     read-access-requires
     refuses-requires-2
     returns-2
-    good-requires
+    rules-hold-requires
     refuses-requires-3
     returns-3
+    good-requires
     refuses-requires-4
     returns-4
     refuses-requires-5
     returns-5
-    is-sendable-requires
     refuses-requires-6
     returns-6
+    is-sendable-requires
+    refuses-requires-7
+    returns-7
     add-identifier
     cast-put-request
     put-request-requires
-    waiting-requires
     same-length
-    returns-7)
+    returns-8)
