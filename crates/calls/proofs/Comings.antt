@@ -1,7 +1,7 @@
 -- What comes of a call: its refusals, lowest first, and its instance. Assumes nothing.
 use Prim.Native.Nat.{ℕ, _+_, _-_, _≤_}
 use mathlib.Core.Path.{_≡_, refl, _∙_}
-use mathlib.Core.Bool.{Bool, true, false, not, false≢true}
+use mathlib.Core.Bool.{true, false, not, false≢true}
 use mathlib.Core.List.{List, []}
 use mathlib.Core.Option.{Option, none, some}
 use native.Mathlib.Omega.{arith}
@@ -26,6 +26,7 @@ use Rattle.calls.specs.declared.call.Call.{Call}
 use Rattle.calls.specs.Call.{originalAt, callFrom, callGood}
 use Rattle.calls.specs.Divert.{servedOf, onward, Comes, callRefused, byInstance, byCall, applying, comes}
 use Rattle.calls.specs.Original.{servedDigitsAt, handedOn, goesOn, originalIn}
+use Rattle.calls.specs.inner.Original.{GoesOn}
 use Rattle.calls.proofs.Records.{good-call}
 
 -- ---- the refusals, lowest first
@@ -67,18 +68,13 @@ redirects p c (some called) h =
     h
 
 -- neither its profile nor its record breaks a rule
-pub record GoesOn (access : List ℕ) (s : List ℕ) (x : Comes) : Type 0 where
-  pub ok : accessRead access .ok ≡ true
-  pub good : callGood (accessRead access .profile) s ≡ true
-  pub redirecting : x .call .redirecting ≡ servedOf (accessRead access .profile) (callFrom s)
-
 pub goes-good :
     (access : List ℕ) (t : Table) (s : List ℕ) → goesOn (comes access t s .told) ≡ true →
-    GoesOn access s (comes access t s)
+    GoesOn access s (comes access t s .call .redirecting)
 unfolding comes
 goes-good access t s =
     let p : Profile = accessRead access .profile in
-    let P : Comes → Type 0 = λ x. goesOn (x .told) ≡ true → GoesOn access s x in
+    let P : Comes → Type 0 = λ x. goesOn (x .told) ≡ true → GoesOn access s (x .call .redirecting) in
     pick-ind P (not (accessRead access .ok)) (λ _ h. absurd (false≢true h)) (λ ok.
     pick-ind P (not (tableGood instancesMost p t)) (λ _ h. absurd (false≢true h)) (λ _.
     pick-ind P (not (callGood p s)) (λ _ h. absurd (false≢true h)) (λ good h. record {
@@ -102,31 +98,30 @@ served-within access s ok good =
 
 -- ---- the original number handed on
 
-module _ (access : List ℕ) (t : Table) (s : List ℕ) where
-  abbrev goesHere : Bool
-  goesHere = goesOn (comes access t s .told)
+pub original-none :
+    (access : List ℕ) (t : Table) (s : List ℕ) → goesOn (comes access t s .told) ≡ false → originalIn access t s ≡ []
+unfolding originalIn
+original-none access t s h = rw h
 
-  pub original-none : goesHere ≡ false → originalIn access t s ≡ []
-  unfolding originalIn
-  original-none h = rw h
+module _ (access s : List ℕ) where
+  abbrev from : ℕ
+  from = servedDigitsAt (callFrom s .number)
 
-  module _ (goes : goesHere ≡ true) where
-    abbrev from : ℕ
-    from = servedDigitsAt (callFrom s .number)
+  abbrev to : ℕ
+  to = from + servedOf (accessRead access .profile) (callFrom s) .count
 
-    abbrev to : ℕ
-    to = from + servedOf (accessRead access .profile) (callFrom s) .count
+  -- on the first diversion the served number
+  pub original-first :
+      callFrom s .counter ≡ 0 → take (to - from) (drop from access) ≡ handedOn access s (accessRead access .profile) (callFrom s)
+  unfolding handedOn
+  original-first h = part-slice from to access ∙ rw (eq-eqb (callFrom s .counter) 0 h)
 
-    -- on the first diversion the served number
-    pub original-first : callFrom s .counter ≡ 0 → take (to - from) (drop from access) ≡ originalIn access t s
-    unfolding originalIn handedOn
-    original-first h = part-slice from to access ∙ rw (goes, eq-eqb (callFrom s .counter) 0 h)
+  abbrev end : ℕ
+  end = originalAt + callFrom s .count
 
-    abbrev end : ℕ
-    end = originalAt + callFrom s .count
-
-    -- later as received
-    pub original-later :
-        (callFrom s .counter ≡ 0 → ⊥) → take (end - originalAt) (drop originalAt s) ≡ originalIn access t s
-    unfolding originalIn handedOn
-    original-later h = part-slice originalAt end s ∙ rw (goes, ne-eqb (callFrom s .counter) 0 h)
+  -- later as received
+  pub original-later :
+      (callFrom s .counter ≡ 0 → ⊥) →
+      take (end - originalAt) (drop originalAt s) ≡ handedOn access s (accessRead access .profile) (callFrom s)
+  unfolding handedOn
+  original-later h = part-slice originalAt end s ∙ rw (ne-eqb (callFrom s .counter) 0 h)

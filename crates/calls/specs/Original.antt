@@ -3,16 +3,19 @@ use Prim.Native.Nat.{ℕ, _+_, _*_}
 use mathlib.Core.Path.{_≡_}
 use mathlib.Core.Bool.{Bool, true, false}
 use mathlib.Core.List.{List, []}
+use lib.ListN.{length}
 use lib.Seq.{slice}
 use lib.Dec.{eqb}
 use Rattle.laws.specs.Pick.{pick}
+use Rattle.laws.specs.Over.{Puts}
 use Rattle.refusals.specs.Refusal.{Told, refuses, tells}
 use Rattle.profile.specs.Access.{accessRead, numbersAt, numberSize}
 use Rattle.profile.specs.declared.profile.Profile.{Profile}
 use Rattle.exchange.specs.declared.table.Table.{Table}
 use Rattle.calls.specs.declared.call.Call.{Call}
 use Rattle.calls.specs.Call.{originalAt, callFrom}
-use Rattle.calls.specs.Divert.{Course, passes, diverts, servedOf, comes}
+use Rattle.calls.specs.Divert.{Course, passes, diverts, comingTold, servedOf, comes}
+use Rattle.calls.specs.declared.originals.Handed.{Handed}
 
 -- where the digits of a number stand in the access record: after its form, type and count
 abbrev pub servedDigitsAt : ℕ → ℕ
@@ -35,6 +38,9 @@ unfoldable pub originalIn : List ℕ → Table → List ℕ → List ℕ
 originalIn access t s =
     pick (goesOn (comes access t s .told)) (handedOn access s (accessRead access .profile) (callFrom s)) []
 
--- what `original` promises
-abbrev pub OriginalIn : List ℕ → Table → List ℕ → List ℕ → Type 0
-OriginalIn access t s r = r ≡ originalIn access t s
+-- what `original` promises: what becomes of the call, how many digits are handed on, and each octet of the output, which has all of them or, where
+-- there is no room, none
+pub record PutsOriginal (access : List ℕ) (t : Table) (s xs : List ℕ) (r : Handed) (ys : List ℕ) : Type 0 where
+  pub told : comingTold (r .outcome) ≡ comes access t s .told
+  pub digits : r .length ≡ length (originalIn access t s)
+  pub lent : Puts xs 0 (originalIn access t s) (r .count) ys

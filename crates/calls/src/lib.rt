@@ -11,4 +11,5 @@ pub use diverting::Notice;
 pub use diverting::Onward;
 pub use diverting::divert;
 pub use onward::Reason;
+pub use originals::Handed;
 pub use originals::original;

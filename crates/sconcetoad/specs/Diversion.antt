@@ -8,6 +8,7 @@ use Rattle.refusals.specs.Refusal.{Told, refuses, tells, refusalIn}
 use Rattle.exchange.specs.declared.table.Table.{Table}
 use Rattle.calls.specs.Divert.{Course, passes, diverts, comes}
 use Rattle.calls.specs.Original.{originalIn}
+use Rattle.sconcetoad.specs.declared.diversion.CallTold.{CallTold}
 use Rattle.sconcetoad.specs.declared.diversion.Diverted.{Diverted}
 use Rattle.sconcetoad.specs.declared.diversion.HandedOn.{HandedOn}
 
@@ -21,6 +22,10 @@ abbrev pub noticeIn : Told Course → ℕ
 noticeIn (refuses number) = 0
 noticeIn (tells passes) = 0
 noticeIn (tells (diverts reasonNumber noticeNumber)) = noticeNumber
+
+-- all of its numbers
+abbrev pub callTold : Told Course → CallTold
+callTold told = record { refusal = refusalIn told; reason = reasonIn told; notice = noticeIn told }
 
 -- what `sconcetoad_divert` promises
 pub record DivertedBy (access : List ℕ) (t : Table) (s : List ℕ) (r : Diverted) : Type 0 where

@@ -6,12 +6,11 @@ use calls::Reason;
 use calls::divert;
 use calls::original;
 use exchange::Table;
-use octets::put_all;
 use refusals::refusal_no;
 ghost use mathlib.Core.Path.{_≡_};
 ghost use Rattle.calls.specs.Onward.{reasonNo};
-ghost use Rattle.calls.specs.Divert.{noticeNo};
-ghost use Rattle.sconcetoad.specs.Diversion.{DivertedBy, HandsOn};
+ghost use Rattle.calls.specs.Divert.{noticeNo, comingTold};
+ghost use Rattle.sconcetoad.specs.Diversion.{callTold, DivertedBy, HandsOn};
 
 // The numbers of the refusal, of the reason and of the notice, each 0 where there is none; and the call that goes on.
 #[repr(C)]
@@ -29,6 +28,13 @@ pub struct HandedOn {
     pub reason: u8,
     pub length: usize,
     pub count: usize,
+}
+
+// The numbers that C is told of a call, whether or not it asks for the original number.
+struct CallTold {
+    refusal: u8,
+    reason: u8,
+    notice: u8,
 }
 
 fn reason_no(reason: Reason) -> u8
@@ -51,6 +57,28 @@ fn notice_no(notice: Notice) -> u8
     }
 }
 
+fn told_of(outcome: Coming) -> CallTold
+    ensures { λ r. ⌜ r ≡ callTold (comingTold outcome) ⌝ }
+{
+    match outcome {
+        Coming::Refuses { refusal } => CallTold {
+            refusal: refusal_no(refusal),
+            reason: 0,
+            notice: 0,
+        },
+        Coming::Passes => CallTold {
+            refusal: 0,
+            reason: 0,
+            notice: 0,
+        },
+        Coming::Diverts { reason, notice } => CallTold {
+            refusal: 0,
+            reason: reason_no(reason),
+            notice: notice_no(notice),
+        },
+    }
+}
+
 // What becomes of `call`.
 #[no_mangle]
 pub extern "C" fn sconcetoad_divert(table: Table, access: &[u8], call: &[u8]) -> Diverted
@@ -59,25 +87,12 @@ pub extern "C" fn sconcetoad_divert(table: Table, access: &[u8], call: &[u8]) ->
     let diversion = divert(table, access, call);
     let outcome = diversion.outcome;
     let call = diversion.call;
-    match outcome {
-        Coming::Refuses { refusal } => Diverted {
-            refusal: refusal_no(refusal),
-            reason: 0,
-            notice: 0,
-            call,
-        },
-        Coming::Passes => Diverted {
-            refusal: 0,
-            reason: 0,
-            notice: 0,
-            call,
-        },
-        Coming::Diverts { reason, notice } => Diverted {
-            refusal: 0,
-            reason: reason_no(reason),
-            notice: notice_no(notice),
-            call,
-        },
+    let told = told_of(outcome);
+    Diverted {
+        refusal: told.refusal,
+        reason: told.reason,
+        notice: told.notice,
+        call,
     }
 }
 
@@ -91,14 +106,13 @@ pub extern "C" fn sconcetoad_original<'a>(
 ) -> HandedOn
     ensures { λ r. ⌜ HandsOn (now (access .entry)) table (now (call .entry)) (now (out .entry)) r (now (out .exit)) ⌝ }
 {
-    let came = sconcetoad_divert(table, access, call);
-    let digits = original(table, access, call);
-    let length = digits.len();
-    let count = put_all(out, 0, digits);
+    let handed = original(table, access, call, out);
+    let outcome = handed.outcome;
+    let told = told_of(outcome);
     HandedOn {
-        refusal: came.refusal,
-        reason: came.reason,
-        length,
-        count,
+        refusal: told.refusal,
+        reason: told.reason,
+        length: handed.length,
+        count: handed.count,
     }
 }

@@ -1,31 +1,30 @@
-use mathlib.Core.Path.{ap}
-use lib.ListN.{length}
+use Rattle.sconcetoad.specs.Diversion.{callTold}
+use Rattle.sconcetoad.specs.declared.diversion.CallTold.{CallTold}
+use mathlib.Core.Path.{ap, _∙_}
 use borrow.Author.Needs.{needs}
 use Rattle.sconcetoad.proofs.diversion.sconcetoad_original.Statement.{statement}
 use Rattle.sconcetoad.proofs.diversion.sconcetoad_original.Tie as tie
 
-sconcetoad-divert-requires : tie.Need-sconcetoad-divert-requires
-sconcetoad-divert-requires c κs = search needs
-
 original-requires : tie.Need-original-requires
 original-requires c κs = search needs
 
-put-all-requires : tie.Need-put-all-requires
-put-all-requires c κs = search needs
+told-of-requires : tie.Need-told-of-requires
+told-of-requires c κs = search needs
 
 same-length : tie.Need-same-length
 same-length c = search needs
 
 returns : tie.Need-returns
 returns c =
-    let came = c .before .before .before .before .before .sconcetoad-divert .ensures in
+    let handed = c .before .before .before .original .ensures in
+    let told = c .told-of .ensures ∙ ap callTold (handed .told) in
     record {
-      refusal = came .refusal;
-      reason = came .reason;
-      digits = ap length (c .before .before .before .before .original .ensures);
-      lent = rw (← c .before .before .before .before .original .ensures) (c .before .before .put-all .ensures);
+      refusal = ap (λ (x : CallTold). x .refusal) told;
+      reason = ap (λ (x : CallTold). x .reason) told;
+      digits = handed .digits;
+      lent = handed .lent;
     }
 
 pub sconcetoad-original-spec : {M : Type 1} → statement M
 sconcetoad-original-spec =
-    tie.close (tie.spec sconcetoad-divert-requires original-requires put-all-requires same-length returns)
+    tie.close (tie.spec original-requires told-of-requires same-length returns)
