@@ -9,17 +9,18 @@ use lib.Signed.{mag}
 use lib.ListN.{length, length-append}
 use borrow.Author.Tests.{eq-eqb, ne-eqb}
 use Rattle.laws.specs.Stands.{Stands}
+use Rattle.laws.specs.Got.{orElse}
 use Rattle.laws.proofs.Stands.{stands-whole, stands-left, stands-right}
 use Rattle.octets.specs.Element.{element}
 use Rattle.values.specs.Ident.{identOctets}
 use Rattle.octets.proofs.Elements.{Inside, inside-element, length-small}
 use Rattle.values.proofs.Idents.{ident-back, ident-most, ident-other}
+use Rattle.skip.specs.Depth.{insideDepth, componentDepth}
+use Rattle.codes.specs.Codes.{interrogation}
 use Rattle.answers.specs.Answer.{problemNo, problemValue, problemOctets, answerOctets}
-use Rattle.requests.specs.Heard.{insideDepth, componentDepth, replyTag}
-use Rattle.requests.specs.Request.{interrogation}
+use Rattle.requests.specs.Heard.{replyTag}
 use Rattle.lists.specs.declared.entry.Entry.{Entry}
 use Rattle.requests.proofs.Tags.{result-tag, error-tag, reject-tag}
-use Rattle.requests.specs.Part.{orElse}
 use Rattle.answers.specs.Reply.{failedAt, resultAt, saidAt, ownAt, reply}
 use Rattle.answers.specs.declared.answer.Answer.the-variants as answer
 use Rattle.answers.specs.declared.answer.Problem.{Problem}

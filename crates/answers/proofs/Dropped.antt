@@ -12,8 +12,10 @@ use borrow.Author.Tests.{ne-eqb}
 use Rattle.laws.specs.Tests.{all}
 use Rattle.laws.specs.Got.{got, wrong}
 use Rattle.laws.proofs.Picks.{by-bool}
-use Rattle.requests.specs.Part.{signedAt, Part, partAt, lastAt}
-use Rattle.requests.specs.Heard.{insideDepth, componentDepth, replyTag}
+use Rattle.octets.specs.Part.{Part, partAt, lastAt}
+use Rattle.values.specs.Ident.{signedAt}
+use Rattle.skip.specs.Depth.{insideDepth, componentDepth}
+use Rattle.requests.specs.Heard.{replyTag}
 use Rattle.requests.proofs.Tags.{no-reply-tag}
 use Rattle.answers.specs.Reply.{sameIdent, ownAt, reply}
 use Rattle.answers.specs.declared.reply.Reply.the-variants.{Dropped}

@@ -4,11 +4,12 @@ use mathlib.Core.Path.{_≡_, sym, ap, _∙_}
 use mathlib.Core.List.{List}
 use lib.IntN.{ℤ}
 use lib.ListN.{length}
-use Rattle.laws.specs.Got.{Got, got, andThen}
+use Rattle.laws.specs.Got.{Got, got, andThen, orElse, onlyIf}
+use Rattle.octets.specs.Part.{Part, partOf}
 use Rattle.octets.specs.declared.head.Head.{Head}
+use Rattle.skip.specs.Depth.{componentDepth}
 use Rattle.reader.specs.Reader.{OneElement}
-use Rattle.requests.specs.Part.{orElse, onlyIf, Part, partOf}
-use Rattle.requests.specs.Heard.{componentDepth, replyTag}
+use Rattle.requests.specs.Heard.{replyTag}
 use Rattle.requests.proofs.Filled.{filled-last}
 use Rattle.answers.specs.Reply.{ownAt, reply}
 use Rattle.answers.specs.declared.reply.Reply.{Reply}

@@ -3,12 +3,13 @@ use Prim.Native.Nat.{ℕ}
 use mathlib.Core.Path.{_≡_, refl, sym, ap, _∙_}
 use mathlib.Core.List.{List}
 use native.Mathlib.Omega.{arith}
-use Rattle.laws.specs.Got.{Got, got, wrong}
+use Rattle.laws.specs.Got.{Got, got, wrong, orElse}
 use Rattle.octets.specs.Head.{headAt}
+use Rattle.octets.specs.Part.{Part, partOf, partAt}
 use Rattle.octets.specs.declared.head.Head.{Head}
 use Rattle.octets.specs.declared.head.Head.the-variants as head
+use Rattle.values.specs.Ident.{signedOf, signedAt}
 use Rattle.values.proofs.Idents.{ident-other, ident-bad}
-use Rattle.requests.specs.Part.{orElse, signedOf, signedAt, Part, partOf, partAt}
 
 module _ (depth : ℕ) (s : List ℕ) (at end : ℕ) where
   other-in :

@@ -1,16 +1,16 @@
 // What an arriving component says to the end that waits for an answer (document 01, "The customer end").
+use codes::INTERROGATION;
 use octets::Head;
 use octets::head_at;
 use reader::one_element;
-use requests::ARGUMENTDEPTH;
-use requests::COMPONENTDEPTH;
-use requests::INSIDEDEPTH;
-use requests::INTERROGATION;
 use requests::reply_tag;
+use skip::ARGUMENTDEPTH;
+use skip::COMPONENTDEPTH;
+use skip::INSIDEDEPTH;
 use values::Ident;
 use values::ident_at;
 ghost use mathlib.Core.Path.{_≡_};
-ghost use Rattle.requests.specs.Part.{orElse};
+ghost use Rattle.laws.specs.Got.{orElse};
 ghost use Rattle.answers.specs.Reply.{sameIdent, failedAt, setAt, sequenceAt, listAt, resultAt, saidAt, ownAt, ReplyTo};
 ghost use Rattle.answers.specs.declared.reply.Reply.the-variants.{Dropped, Wrong};
 

@@ -39,6 +39,16 @@ serviceCode code = any (eqb code 0 ∷ ltb (placeOf code services) (length servi
 unfoldable pub procedureCode : ℕ → Bool
 procedureCode code = ltb code 3
 
+-- "Operations: activation 7, deactivation 8, interrogation 11."
+abbrev pub activation : ℕ
+activation = 7
+
+abbrev pub deactivation : ℕ
+deactivation = 8
+
+abbrev pub interrogation : ℕ
+interrogation = 11
+
 -- what `service_place` promises
 abbrev pub ServicePlace : ℕ → ℕ → Type 0
 ServicePlace code r = r ≡ placeOf code services

@@ -1,4 +1,4 @@
-// The tables of codes (document 01, "Profile and table"; EN 300 207-1, clause 7.1).
+// The codes (document 01, "Profile and table"; EN 300 207-1, clause 7.1).
 ghost use Rattle.codes.specs.Codes.{ServicePlace, ServiceCode, TrunkReason};
 
 // How many basic services there are.
@@ -11,6 +11,16 @@ const REASONCOUNT: usize = 4;
 
 // The trunk's code for each of our reasons: unknown, cfu, cfb, cfnr. No code stands twice.
 const TRUNKREASONS: [u8; REASONCOUNT] = [0, 3, 1, 2];
+
+// How many procedures there are: cfu 0, cfb 1, cfnr 2.
+pub const PROCEDURES: u8 = 3;
+
+// The operations.
+pub const ACTIVATION: u8 = 7;
+
+pub const DEACTIVATION: u8 = 8;
+
+pub const INTERROGATION: u8 = 11;
 
 // Where a basic service stands among the sixteen; 16 where it is none of them.
 pub fn service_place(code: u8) -> usize

@@ -1,7 +1,11 @@
-// The tables of codes of document 01, and the characters and types of its numbers.
+// The codes of document 01, and the characters and types of its numbers.
 mod codes;
 mod digits;
 
+pub use codes::ACTIVATION;
+pub use codes::DEACTIVATION;
+pub use codes::INTERROGATION;
+pub use codes::PROCEDURES;
 pub use codes::SERVICECOUNT;
 pub use codes::service_code;
 pub use codes::service_place;

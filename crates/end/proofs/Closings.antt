@@ -15,8 +15,8 @@ use Rattle.refusals.specs.Refusal.{tells, outputLeast, componentMost}
 use Rattle.refusals.specs.declared.refusal.Refusal.{Refusal}
 use Rattle.refusals.specs.declared.refusal.Refusal.the-variants.{ShortOutput, BadProfile, BadTable, Outstanding, Exhausted, BadRequest}
 use Rattle.refusals.proofs.Refusals.{refuses-not}
+use Rattle.codes.specs.Codes.{interrogation}
 use Rattle.profile.specs.Access.{accessRead}
-use Rattle.requests.specs.Request.{interrogation}
 use Rattle.requests.specs.Sent.{sendable, requestOctets}
 use Rattle.requests.specs.declared.request.Request.{Request}
 use Rattle.lists.specs.Entries.{instancesMost, entriesFrom}

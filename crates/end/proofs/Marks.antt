@@ -18,11 +18,11 @@ use Rattle.laws.proofs.Picks.{pick-ind, pick-then, by-bool}
 use Rattle.laws.proofs.Tests.{all-at}
 use Rattle.refusals.specs.Refusal.{refusalNo, refuses, tells, componentMost}
 use Rattle.refusals.proofs.Refusals.{refuses-not}
+use Rattle.codes.specs.Codes.{interrogation}
 use Rattle.profile.specs.Access.{accessRead}
 use Rattle.profile.specs.Profile.{flag}
 use Rattle.profile.specs.declared.profile.Profile.{Profile}
 use Rattle.codes.proofs.Tables.{procedure-code}
-use Rattle.requests.specs.Request.{interrogation}
 use Rattle.requests.specs.Sent.{sendable}
 use Rattle.requests.specs.declared.request.Request.{Request}
 use Rattle.requests.proofs.Goods.{good-request}

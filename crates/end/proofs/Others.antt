@@ -12,12 +12,12 @@ use Rattle.laws.proofs.Picks.{pick-ind, by-bool}
 use Rattle.laws.proofs.Tests.{both-hold}
 use Rattle.laws.proofs.Thoses.{those-sub}
 use Rattle.laws.proofs.Eaches.{Each, each-so}
+use Rattle.codes.specs.Codes.{interrogation}
 use Rattle.numbers.specs.declared.address.Address.{Address}
 use Rattle.profile.specs.Access.{accessRead}
 use Rattle.profile.specs.declared.profile.Profile.{Profile}
 use Rattle.profile.proofs.Profiles.{good-profile}
 use Rattle.profile.proofs.Records.{access-good}
-use Rattle.requests.specs.Request.{interrogation}
 use Rattle.requests.specs.declared.request.Request.{Request}
 use Rattle.requests.proofs.Goods.{good-request, good-to}
 use Rattle.lists.specs.Entries.{instancesMost}

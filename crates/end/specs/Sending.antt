@@ -14,8 +14,9 @@ use Rattle.refusals.specs.Refusal.{refusalNo, Told, refuses, tells, outputLeast
 use Rattle.refusals.specs.Handling.{handlingTold}
 use Rattle.refusals.specs.declared.refusal.Refusal.{Refusal}
 use Rattle.refusals.specs.declared.refusal.Refusal.the-variants.{ShortOutput, BadProfile, BadTable, Outstanding, Exhausted, BadRequest}
+use Rattle.codes.specs.Codes.{activation, deactivation, interrogation}
 use Rattle.profile.specs.Access.{accessRead}
-use Rattle.requests.specs.Request.{activation, deactivation, interrogation, noForwarded, allNumbers, requestOf}
+use Rattle.requests.specs.Request.{noForwarded, allNumbers, requestOf}
 use Rattle.requests.specs.Sent.{sendable, requestOctets}
 use Rattle.requests.specs.declared.request.Request.{Request}
 use Rattle.lists.specs.Entries.{instancesMost}

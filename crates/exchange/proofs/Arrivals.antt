@@ -14,13 +14,13 @@ use Rattle.refusals.specs.declared.refusal.Refusal.{Refusal}
 use Rattle.refusals.specs.declared.refusal.Refusal.the-variants.{ShortOutput, LongComponent, BadProfile, BadTable}
 use Rattle.laws.specs.Over.{over, Puts}
 use Rattle.laws.proofs.Over.{over-nil, wrote}
+use Rattle.codes.specs.Codes.{interrogation}
 use Rattle.profile.specs.Access.{accessRead}
 use Rattle.profile.specs.Profile.{profileGood}
 use Rattle.profile.specs.declared.profile.Profile.{Profile}
 use Rattle.profile.specs.declared.access.AccessRead.{AccessRead}
 use Rattle.profile.proofs.Profiles.{good-profile}
 use Rattle.profile.proofs.Records.{access-good}
-use Rattle.requests.specs.Request.{interrogation}
 use Rattle.requests.specs.declared.request.Request.{Request}
 use Rattle.lists.specs.Entries.{instancesMost, entriesIn, entriesOf, allGood}
 use Rattle.lists.specs.declared.entry.Entry.{Entry}

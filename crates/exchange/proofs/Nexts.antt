@@ -17,12 +17,12 @@ use Rattle.refusals.specs.Refusal.{refuses, tells, outputLeast, componentMost}
 use Rattle.refusals.specs.declared.refusal.Refusal.{Refusal}
 use Rattle.refusals.specs.declared.refusal.Refusal.the-variants.{ShortOutput, LongComponent, BadProfile, BadTable}
 use Rattle.refusals.proofs.Refusals.{tells-same, refuses-not}
+use Rattle.codes.specs.Codes.{activation, deactivation, interrogation}
 use Rattle.profile.specs.Access.{accessRead}
 use Rattle.profile.specs.Profile.{profileGood}
 use Rattle.profile.specs.declared.profile.Profile.{Profile}
 use Rattle.profile.proofs.Profiles.{good-profile}
 use Rattle.profile.proofs.Records.{access-good}
-use Rattle.requests.specs.Request.{activation, deactivation, interrogation}
 use Rattle.requests.specs.declared.request.Request.{Request}
 use Rattle.lists.specs.Entries.{instancesMost}
 use Rattle.instances.specs.Run.{instancesOf, packed, runGood}

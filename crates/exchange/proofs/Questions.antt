@@ -16,11 +16,11 @@ use Rattle.laws.specs.Pick.{pick}
 use Rattle.laws.specs.Tests.{any}
 use Rattle.laws.specs.Got.{Got, got, wrong}
 use Rattle.laws.proofs.Picks.{pick-ind, pick-last}
-use Rattle.codes.specs.Codes.{serviceCode}
+use Rattle.codes.specs.Codes.{serviceCode, activation, deactivation, interrogation}
 use Rattle.numbers.proofs.Goods.{ToUnless}
 use Rattle.profile.specs.declared.profile.Profile.{Profile}
 use Rattle.requests.specs.Heard.{heard}
-use Rattle.requests.specs.Request.{activation, deactivation, interrogation, requestRead, argumentAt}
+use Rattle.requests.specs.Request.{requestRead, argumentAt}
 use Rattle.requests.specs.declared.heard.Heard.{Heard}
 use Rattle.requests.specs.declared.heard.Heard.the-variants as heard
 use Rattle.requests.specs.declared.heard.Operation.{Operation}

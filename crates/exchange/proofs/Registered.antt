@@ -14,10 +14,10 @@ use Rattle.laws.specs.Pick.{pick}
 use Rattle.laws.proofs.Picks.{by-bool}
 use Rattle.laws.proofs.Eaches.{Up, up-those}
 use Rattle.refusals.specs.Refusal.{tells}
+use Rattle.codes.specs.Codes.{activation, deactivation, interrogation}
 use Rattle.numbers.specs.declared.address.Address.{Address}
 use Rattle.profile.specs.Access.{accessRead}
 use Rattle.profile.specs.declared.profile.Profile.{Profile}
-use Rattle.requests.specs.Request.{activation, deactivation, interrogation}
 use Rattle.requests.specs.declared.request.Request.{Request}
 use Rattle.lists.specs.Entries.{instancesMost}
 use Rattle.instances.specs.Instance.{keyOf, chosen}

@@ -14,8 +14,8 @@ use mir.Facts.{toZ-ofZ}
 use borrow.Author.Tests.{ltb-true, eq-eqb, ne-eqb, eqb-true, eqb-false}
 use Rattle.laws.proofs.Picks.{pick-ind}
 use Rattle.values.proofs.Signs.{positive}
+use Rattle.codes.specs.Codes.{interrogation}
 use Rattle.profile.specs.declared.profile.Profile.{Profile}
-use Rattle.requests.specs.Request.{interrogation}
 use Rattle.requests.specs.declared.request.Request.{Request}
 use Rattle.lists.specs.Entries.{instancesMost}
 use Rattle.instances.specs.Run.{instancesOf, listed, entryFor}

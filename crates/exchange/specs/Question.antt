@@ -7,9 +7,10 @@ use lib.IntN.{ℤ, pos, negsuc}
 use lib.Dec.{leb, eqb}
 use Rattle.laws.specs.Pick.{pick}
 use Rattle.laws.specs.Got.{Got, got, wrong}
+use Rattle.codes.specs.Codes.{activation, deactivation, interrogation}
 use Rattle.profile.specs.declared.profile.Profile.{Profile}
 use Rattle.requests.specs.Heard.{heard}
-use Rattle.requests.specs.Request.{activation, deactivation, interrogation, argumentAt}
+use Rattle.requests.specs.Request.{argumentAt}
 use Rattle.requests.specs.declared.heard.Heard.{Heard}
 use Rattle.requests.specs.declared.heard.Heard.the-variants as heard
 use Rattle.requests.specs.declared.heard.Operation.{Operation}

@@ -2,11 +2,11 @@
 use answers::Answer;
 use answers::Problem;
 use answers::Whose;
+use codes::ACTIVATION;
+use codes::DEACTIVATION;
+use codes::INTERROGATION;
 use profile::Profile;
-use requests::ACTIVATION;
-use requests::DEACTIVATION;
 use requests::Heard;
-use requests::INTERROGATION;
 use requests::Operation;
 use requests::Request;
 use requests::argument_at;

@@ -13,7 +13,7 @@ use Rattle.refusals.specs.Handling.{Made, notMade, made}
 use Rattle.refusals.specs.declared.refusal.Refusal.the-variants.{ShortOutput, LongComponent}
 use Rattle.refusals.specs.declared.handling.Handling.the-variants.{Done}
 use Rattle.refusals.specs.declared.handling.Written.{Written}
-use Rattle.requests.specs.Heard.{componentDepth}
+use Rattle.skip.specs.Depth.{componentDepth}
 use Rattle.explanations.specs.Elements.{linesIn}
 use Rattle.explanations.specs.Explained.{said, explained, explanationMost, explainedIn, Explains}
 use Rattle.explanations.specs.inner.Pen.{Penned, notWritten}

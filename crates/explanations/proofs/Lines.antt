@@ -13,7 +13,7 @@ use Rattle.octets.specs.Head.{headAt}
 use Rattle.octets.specs.declared.head.Head.{Head}
 use Rattle.octets.specs.declared.head.Head.the-variants as head
 use Rattle.octets.proofs.Within.{Within, within, head-none}
-use Rattle.requests.specs.Heard.{componentDepth}
+use Rattle.skip.specs.Depth.{componentDepth}
 use Rattle.explanations.specs.Text.{chars}
 use Rattle.explanations.specs.Elements.{blanks, indent, Lines, linesOf, siblings, elementLines, linesIn}
 

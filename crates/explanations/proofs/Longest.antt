@@ -14,8 +14,8 @@ use Rattle.octets.specs.Head.{headAt}
 use Rattle.octets.specs.declared.head.Head.{Head}
 use Rattle.octets.specs.declared.head.Head.the-variants as head
 use Rattle.octets.proofs.Within.{Within, Lies, within}
-use Rattle.requests.specs.Heard.{componentDepth}
 use Rattle.refusals.specs.Refusal.{componentMost}
+use Rattle.skip.specs.Depth.{componentDepth}
 use Rattle.listings.specs.Listing.{hexText}
 use Rattle.listings.proofs.Words.{hex-length}
 use Rattle.explanations.specs.Text.{chars}

@@ -14,8 +14,9 @@ use lib.Dec.{eqb}
 use Rattle.laws.specs.Pick.{pick}
 use Rattle.laws.specs.Tests.{any}
 use Rattle.laws.specs.Got.{Got, got, wrong}
+use Rattle.codes.specs.Codes.{activation, deactivation, interrogation}
 use Rattle.requests.specs.Heard.{heard}
-use Rattle.requests.specs.Request.{activation, deactivation, interrogation, requestRead, argumentAt}
+use Rattle.requests.specs.Request.{requestRead, argumentAt}
 use Rattle.requests.specs.declared.heard.Operation.{Operation}
 use Rattle.requests.specs.declared.request.Request.{Request}
 use Rattle.requests.specs.declared.request.RequestRead.{RequestRead}

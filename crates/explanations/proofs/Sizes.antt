@@ -15,11 +15,13 @@ use Rattle.octets.specs.declared.head.Head.the-variants as head
 use Rattle.values.specs.Ident.{identAt}
 use Rattle.values.specs.declared.ident.Ident.{Ident}
 use Rattle.values.specs.declared.ident.Ident.the-variants as ident
+use Rattle.skip.specs.Depth.{componentDepth, insideDepth}
+use Rattle.codes.specs.Codes.{activation, deactivation}
 use Rattle.numbers.specs.Number.{most, other}
 use Rattle.numbers.specs.declared.number.Number.{Number}
 use Rattle.numbers.specs.declared.address.Forwarded.{Forwarded}
-use Rattle.requests.specs.Heard.{componentDepth, insideDepth, heard}
-use Rattle.requests.specs.Request.{activation, deactivation, argumentAt}
+use Rattle.requests.specs.Heard.{heard}
+use Rattle.requests.specs.Request.{argumentAt}
 use Rattle.requests.specs.declared.heard.Heard.{Heard}
 use Rattle.requests.specs.declared.heard.Heard.the-variants.{NotOne, Silent, OtherTag, NoIdentifier, NoOperation, Asks}
 use Rattle.requests.specs.declared.heard.Operation.{Operation}

@@ -8,7 +8,7 @@ use Rattle.laws.specs.Pick.{pick}
 use Rattle.octets.specs.Head.{headAt}
 use Rattle.octets.specs.declared.head.Head.{Head}
 use Rattle.octets.specs.declared.head.Head.the-variants as head
-use Rattle.requests.specs.Heard.{componentDepth}
+use Rattle.skip.specs.Depth.{componentDepth}
 use Rattle.listings.specs.Listing.{hexText}
 use Rattle.explanations.specs.Text.{chars}
 

@@ -17,8 +17,10 @@ use Rattle.octets.specs.declared.head.Head.the-variants as head
 use Rattle.values.specs.Ident.{identAt}
 use Rattle.values.specs.declared.ident.Ident.{Ident}
 use Rattle.values.specs.declared.ident.Ident.the-variants as ident
-use Rattle.requests.specs.Heard.{componentDepth, insideDepth, heard}
-use Rattle.requests.specs.Request.{activation, deactivation, interrogation, argumentAt}
+use Rattle.skip.specs.Depth.{componentDepth, insideDepth}
+use Rattle.codes.specs.Codes.{activation, deactivation, interrogation}
+use Rattle.requests.specs.Heard.{heard}
+use Rattle.requests.specs.Request.{argumentAt}
 use Rattle.requests.specs.declared.heard.Heard.{Heard}
 use Rattle.requests.specs.declared.heard.Heard.the-variants.{NotOne, Silent, OtherTag, NoIdentifier, NoOperation, Asks}
 use Rattle.requests.specs.declared.heard.Operation.{Operation}

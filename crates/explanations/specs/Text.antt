@@ -7,11 +7,11 @@ use lib.IntN.{ℤ, pos, negsuc}
 use lib.ListN.{take}
 use lib.Dec.{eqb}
 use Rattle.laws.specs.Pick.{pick}
+use Rattle.codes.specs.Codes.{activation, deactivation}
 use Rattle.listings.specs.Listing.{decimal, procedureName, kindText, hexText, marked}
 use Rattle.numbers.specs.Number.{most, other}
 use Rattle.numbers.specs.declared.number.Number.{Number}
 use Rattle.numbers.specs.declared.address.Forwarded.{Forwarded}
-use Rattle.requests.specs.Request.{activation, deactivation}
 use Rattle.requests.specs.declared.request.Request.{Request}
 use Rattle.requests.specs.declared.request.Served.{Served}
 

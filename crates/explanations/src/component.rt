@@ -4,7 +4,7 @@ use crate::row::write_said;
 use refusals::Handling;
 use refusals::Refusal;
 use refusals::Written;
-use requests::COMPONENTDEPTH;
+use skip::COMPONENTDEPTH;
 ghost use mathlib.Core.Path.{_≡_};
 ghost use Rattle.explanations.specs.Explained.{Explains};
 ghost use Rattle.explanations.specs.inner.Pen.{notWritten};

@@ -3,7 +3,7 @@ use crate::pen::write_text;
 use crate::word::write_hex;
 use octets::Head;
 use octets::head_at;
-use requests::COMPONENTDEPTH;
+use skip::COMPONENTDEPTH;
 ghost use mathlib.Core.Path.{_≡_};
 ghost use Prim.Native.Nat.{_+_, _≤_, _<_};
 ghost use lib.ListN.{length};

@@ -13,7 +13,7 @@ use lib.Signed.{mag}
 use borrow.Author.Tests.{le-ltb, lt-ltb}
 use Rattle.laws.proofs.Picks.{pick-ind}
 use Rattle.refusals.specs.declared.refusal.Refusal.the-variants.{BadProfile, BadTable, LongComponent, ShortOutput}
-use Rattle.requests.specs.Request.{interrogation}
+use Rattle.codes.specs.Codes.{interrogation}
 use Rattle.requests.specs.declared.request.Request.{Request}
 use Rattle.profile.specs.Access.{accessRead}
 use Rattle.profile.specs.Profile.{profileGood}

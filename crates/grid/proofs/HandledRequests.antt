@@ -12,9 +12,9 @@ use lib.ListN.{getD, length}
 use lib.Signed.{mag}
 use borrow.Author.Tests.{eq-eqb, ne-eqb}
 use Rattle.laws.proofs.Picks.{pick-ind}
+use Rattle.codes.specs.Codes.{activation, interrogation}
 use Rattle.numbers.specs.Address.{addressGood}
 use Rattle.numbers.proofs.Goods.{ToUnless}
-use Rattle.requests.specs.Request.{activation, interrogation}
 use Rattle.requests.specs.declared.request.Request.{Request}
 use Rattle.profile.specs.Profile.{profileGood, servicesMost}
 use Rattle.profile.specs.declared.profile.Profile.{Profile}

@@ -10,9 +10,9 @@ use borrow.Author.Tests.{eq-eqb, eqb-false, eqb-true, ltb-true, ne-eqb}
 use Rattle.laws.specs.Pick.{pick}
 use Rattle.laws.specs.Tests.{Test, all, any}
 use Rattle.laws.proofs.Picks.{pick-first, pick-ind, pick-map, pick-then}
+use Rattle.codes.specs.Codes.{activation, deactivation}
 use Rattle.numbers.specs.Number.{digitsOf}
 use Rattle.numbers.specs.declared.number.Number.{Number}
-use Rattle.requests.specs.Request.{activation, deactivation}
 use Rattle.requests.specs.declared.request.Request.{Request}
 use Rattle.profile.specs.Profile.{barred, same, servedNumbers}
 use Rattle.profile.specs.declared.profile.Profile.{Profile}

@@ -14,9 +14,9 @@ use borrow.Author.Tests.{eqb-true, ne-eqb}
 use Rattle.laws.specs.Pick.{pick}
 use Rattle.laws.specs.Places.{placesWhere}
 use Rattle.laws.proofs.Chosen.{places-same}
+use Rattle.codes.specs.Codes.{activation, deactivation, interrogation}
 use Rattle.numbers.specs.Address.{tidyAddress}
 use Rattle.numbers.specs.declared.address.Address.{Address}
-use Rattle.requests.specs.Request.{activation, deactivation, interrogation}
 use Rattle.requests.specs.declared.request.Request.{Request}
 use Rattle.profile.specs.Profile.{profileGood, servicesMost}
 use Rattle.profile.specs.declared.profile.Profile.{Profile}

@@ -10,11 +10,11 @@ use lib.ListN.{getD}
 use borrow.Author.Tests.{eqb-true, not-false}
 use Rattle.laws.specs.Tests.{Test, test}
 use Rattle.laws.proofs.Picks.{by-bool}
+use Rattle.codes.specs.Codes.{activation, deactivation}
 use Rattle.numbers.specs.Address.{addressGood}
 use Rattle.numbers.specs.Number.{digitsOf}
 use Rattle.numbers.specs.declared.number.Number.{Number}
 use Rattle.numbers.proofs.Goods.{ToUnless}
-use Rattle.requests.specs.Request.{activation, deactivation}
 use Rattle.requests.specs.declared.request.Request.{Request}
 use Rattle.profile.specs.Profile.{barred, servedNumbers}
 use Rattle.profile.specs.declared.profile.Profile.{Profile}

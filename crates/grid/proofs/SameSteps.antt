@@ -10,7 +10,7 @@ use lib.IntN.{ℤ}
 use lib.Signed.{mag}
 use borrow.Author.Tests.{eqb-false, eqb-true}
 use Rattle.laws.proofs.Picks.{by-bool}
-use Rattle.requests.specs.Request.{activation, interrogation}
+use Rattle.codes.specs.Codes.{activation, interrogation}
 use Rattle.requests.specs.declared.request.Request.{Request}
 use Rattle.profile.specs.declared.profile.Profile.{Profile}
 use Rattle.lists.specs.Entries.{instancesMost}

@@ -7,9 +7,9 @@ use mathlib.Core.Option.{Option}
 use lib.Dec.{eqb}
 use Rattle.laws.specs.Pick.{pick}
 use Rattle.laws.specs.Tests.{Test, all, any, test}
+use Rattle.codes.specs.Codes.{activation, deactivation}
 use Rattle.numbers.specs.Number.{digitsOf}
 use Rattle.numbers.specs.declared.number.Number.{Number}
-use Rattle.requests.specs.Request.{activation, deactivation}
 use Rattle.requests.specs.declared.request.Request.{Request}
 use Rattle.profile.specs.Profile.{barred, same, servedNumbers}
 use Rattle.profile.specs.declared.profile.Profile.{Profile}

@@ -7,7 +7,7 @@ use lib.Dec.{eqb}
 use lib.IntN.{ℤ}
 use lib.Signed.{mag}
 use Rattle.laws.specs.Pick.{pick}
-use Rattle.requests.specs.Request.{interrogation}
+use Rattle.codes.specs.Codes.{interrogation}
 use Rattle.requests.specs.declared.request.Request.{Request}
 use Rattle.profile.specs.declared.profile.Profile.{Profile}
 use Rattle.lists.specs.Entries.{instancesMost}

@@ -19,7 +19,7 @@ use Rattle.octets.proofs.Elements.{length-head}
 use Rattle.values.specs.Ident.{identTag, identFewest, identWith, identOctets, PutIdent}
 use Rattle.values.proofs.Signs.{bits-positive}
 use Rattle.values.proofs.Idents.{ident-octets, ident-one, length-ident}
-use Rattle.requests.specs.Request.{interrogation}
+use Rattle.codes.specs.Codes.{interrogation}
 use Rattle.lists.specs.Entry.{entrySize}
 use Rattle.lists.specs.Entries.{instancesMost, entriesOctets}
 use Rattle.lists.specs.Listed.{sequenceOctets, listOctets, opened, sequenceOpened, insideOpened, listOpened, listRoom, PutListHead}

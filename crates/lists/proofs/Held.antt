@@ -15,13 +15,13 @@ use Rattle.laws.proofs.Gots.{Something, found-then, found-is}
 use Rattle.laws.proofs.Picks.{by-bool, pick-ind}
 use Rattle.laws.proofs.Tests.{both-hold}
 use Rattle.laws.proofs.Eaches.{Each}
+use Rattle.octets.specs.Part.{partAt}
 use Rattle.values.specs.Enumerated.{enumeratedAt}
 use Rattle.numbers.specs.Number.{other, valueOf, numberAt}
 use Rattle.numbers.specs.Address.{addressAt, addressGood}
 use Rattle.numbers.specs.declared.number.Number.{Number}
 use Rattle.numbers.specs.declared.address.Forwarded.{Forwarded}
 use Rattle.numbers.proofs.Goods.{good-number, good-address, address-held}
-use Rattle.requests.specs.Part.{partAt}
 use Rattle.lists.specs.Entry.{fieldDepth, entryDepth, kept, lastField, codesIn, fieldsIn, entryAt}
 use Rattle.lists.specs.Entries.{instancesMost, withFirst, entriesIn, entriesFrom, entriesRead, EntriesAt}
 use Rattle.lists.specs.declared.entry.Entry.{Entry}

@@ -8,7 +8,7 @@ use numbers::blank_number;
 use numbers::number_at;
 use octets::Head;
 use octets::head_at;
-use requests::ARGUMENTDEPTH;
+use skip::ARGUMENTDEPTH;
 use values::Enumerated;
 use values::enumerated_at;
 ghost use mathlib.Core.Path.{_≡_};

@@ -8,10 +8,10 @@ use native.Mathlib.Omega.{arith}
 use lib.IntN.{ℤ, pos}
 use lib.ListN.{length}
 use Rattle.refusals.specs.Refusal.{tells, outputLeast}
+use Rattle.codes.specs.Codes.{activation, deactivation, interrogation}
 use Rattle.profile.specs.Access.{accessRead}
 use Rattle.profile.specs.declared.profile.Profile.{Profile}
 use Rattle.requests.specs.Heard.{local, heard}
-use Rattle.requests.specs.Request.{activation, deactivation, interrogation}
 use Rattle.requests.specs.declared.heard.Heard.the-variants as heard
 use Rattle.requests.specs.declared.heard.Operation.{Operation}
 use Rattle.requests.specs.Sent.{sendable, requestOctets, tidyRequest}

@@ -11,10 +11,10 @@ use borrow.Author.Tests.{eqb-true, eqb-false}
 use Rattle.laws.specs.Those.{those}
 use Rattle.laws.proofs.Picks.{by-bool}
 use Rattle.laws.proofs.Eaches.{Up, up-those}
+use Rattle.codes.specs.Codes.{activation, deactivation}
 use Rattle.numbers.specs.Address.{tidyAddress}
 use Rattle.numbers.specs.declared.address.Address.{Address}
 use Rattle.profile.specs.declared.profile.Profile.{Profile}
-use Rattle.requests.specs.Request.{activation, deactivation}
 use Rattle.requests.specs.Sent.{sendable, tidyRequest}
 use Rattle.requests.specs.declared.request.Request.{Request}
 use Rattle.instances.specs.Instance.{keyOf, spared}

@@ -12,11 +12,11 @@ use borrow.Author.Tests.{leb-true, leb-false, ne-eqb, eq-eqb, ltb-true, ltb-fals
 use Rattle.laws.specs.Those.{those}
 use Rattle.laws.proofs.Picks.{by-bool}
 use Rattle.refusals.specs.Refusal.{tells, outputLeast, componentMost}
+use Rattle.codes.specs.Codes.{interrogation}
 use Rattle.profile.specs.Access.{accessRead}
 use Rattle.profile.specs.declared.profile.Profile.{Profile}
 use Rattle.profile.proofs.Records.{access-good}
 use Rattle.requests.specs.Heard.{local}
-use Rattle.requests.specs.Request.{interrogation}
 use Rattle.requests.specs.Sent.{tidyRequest}
 use Rattle.requests.specs.declared.request.Request.{Request}
 use Rattle.requests.proofs.Goods.{good-request}

@@ -14,9 +14,9 @@ use borrow.Author.Tests.{eq-eqb, ne-eqb, eqb-true, eqb-false}
 use Rattle.laws.specs.Pick.{pick}
 use Rattle.laws.proofs.Picks.{by-bool}
 use Rattle.refusals.specs.Refusal.{Told, refuses, tells, outputLeast, componentMost}
+use Rattle.codes.specs.Codes.{interrogation}
 use Rattle.profile.specs.Access.{accessRead}
 use Rattle.profile.specs.declared.profile.Profile.{Profile}
-use Rattle.requests.specs.Request.{interrogation}
 use Rattle.requests.specs.Sent.{sendable, requestOctets}
 use Rattle.requests.specs.declared.request.Request.{Request}
 use Rattle.lists.specs.Entries.{instancesMost, tidyEntries}

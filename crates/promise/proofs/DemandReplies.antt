@@ -11,11 +11,12 @@ use lib.ListN.{length}
 use borrow.Author.Tests.{ne-eqb}
 use Rattle.laws.specs.Got.{Got, got, wrong}
 use Rattle.laws.proofs.Eaches.{Up}
+use Rattle.octets.specs.Part.{Part, partAt}
+use Rattle.values.specs.Ident.{signedAt}
+use Rattle.skip.specs.Depth.{insideDepth, componentDepth}
+use Rattle.codes.specs.Codes.{activation, deactivation, interrogation}
 use Rattle.profile.specs.Access.{accessRead}
 use Rattle.profile.specs.declared.profile.Profile.{Profile}
-use Rattle.requests.specs.Part.{Part, signedAt, partAt}
-use Rattle.requests.specs.Heard.{insideDepth, componentDepth}
-use Rattle.requests.specs.Request.{activation, deactivation, interrogation}
 use Rattle.lists.specs.Entries.{instancesMost, tidyEntries, entriesFrom}
 use Rattle.lists.specs.declared.entry.Entry.{Entry}
 use Rattle.instances.specs.Instance.{keyOf}

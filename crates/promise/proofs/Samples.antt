@@ -13,7 +13,7 @@ use Rattle.values.specs.Enumerated.{enumeratedAt}
 use Rattle.values.specs.Ident.{half, twos, bits, identHolds, identIn, identAt, identFewest}
 use Rattle.skip.specs.Skip.{fills}
 use Rattle.groups.specs.Groups.{groupsIn, groupsAt, groupsWith, groups}
-use Rattle.codes.specs.Codes.{placeOf, serviceCode, procedureCode}
+use Rattle.codes.specs.Codes.{placeOf, serviceCode, procedureCode, activation, interrogation}
 use Rattle.numbers.specs.Number.{fair, digitsGood, digitsIn, numberAt, numberOctets, numberGood}
 use Rattle.codes.specs.Digits.{allDigits, typeGood}
 use Rattle.numbers.specs.Address.{subAt, addressAt, subOctets, addressOctets, addressGood}
@@ -23,7 +23,7 @@ use Rattle.lists.specs.Listed.{listOctets}
 use Rattle.answers.specs.Answer.{answerOctets}
 use Rattle.answers.specs.Reply.{failedAt, setAt, sequenceAt, listAt, resultAt, ownAt, reply, saidAt, sameIdent}
 use Rattle.requests.specs.Heard.{replyTag, operationAt, identifierAt, heard}
-use Rattle.requests.specs.Request.{activation, interrogation, noRequest, codeAt, serviceAt, servedAt, privates, lastIn, activationIn, interrogationIn, contentsIn, argumentAt}
+use Rattle.requests.specs.Request.{noRequest, codeAt, serviceAt, servedAt, privates, lastIn, activationIn, interrogationIn, contentsIn, argumentAt}
 use Rattle.requests.specs.Sent.{servedGood, toGood, partsGood, sendable, servedOctets, toOctets, requestOctets}
 use Rattle.laws.specs.Places.{everyTo, eachFrom, gathered}
 use Rattle.profile.specs.Access.{numberFrom, prefixFrom, prefixesFrom, profileFrom, accessRead}

@@ -14,8 +14,8 @@ use Rattle.laws.proofs.Picks.{both, by-bool}
 use Rattle.refusals.specs.Refusal.{outputLeast, componentMost, tells}
 use Rattle.refusals.specs.declared.refusal.Refusal.{Refusal}
 use Rattle.refusals.specs.declared.handling.Handling.the-variants as handling
+use Rattle.codes.specs.Codes.{activation}
 use Rattle.profile.specs.Access.{accessRead}
-use Rattle.requests.specs.Request.{activation}
 use Rattle.lists.specs.Entries.{instancesMost}
 use Rattle.instances.specs.Run.{packed}
 use Rattle.exchange.specs.Table.{tableOf, tableGood, freshTable}

@@ -7,8 +7,8 @@ use mathlib.Core.Logic.{_⊎_}
 use lib.IntN.{ℤ, pos}
 use Rattle.laws.specs.Got.{got}
 use Rattle.refusals.specs.Refusal.{tells}
+use Rattle.codes.specs.Codes.{activation, deactivation, interrogation}
 use Rattle.profile.specs.Access.{accessRead}
-use Rattle.requests.specs.Request.{activation, deactivation, interrogation}
 use Rattle.requests.specs.Sent.{tidyRequest}
 use Rattle.lists.specs.Entries.{instancesMost, tidyEntries, entriesFrom}
 use Rattle.lists.specs.declared.entry.Entry.{Entry}

@@ -13,10 +13,10 @@ use lib.Dec.{eqb}
 use Rattle.laws.specs.Pick.{pick}
 use Rattle.laws.specs.Tests.{all}
 use Rattle.refusals.specs.Refusal.{Told, refuses, tells}
+use Rattle.codes.specs.Codes.{interrogation}
 use Rattle.numbers.specs.Number.{most}
 use Rattle.profile.specs.Access.{accessRead}
 use Rattle.profile.specs.declared.profile.Profile.{Profile}
-use Rattle.requests.specs.Request.{interrogation}
 use Rattle.requests.specs.Sent.{requestOctets}
 use Rattle.requests.specs.declared.request.Request.{Request}
 use Rattle.lists.specs.Entries.{tidyEntries}

@@ -13,6 +13,7 @@ use Rattle.values.specs.Ident.{identAt, identOctets}
 use Rattle.groups.specs.Groups.{groupsAt, groups}
 use Rattle.values.specs.declared.ident.Ident.{Ident}
 use Rattle.values.specs.declared.ident.Ident.the-variants as ident
+use Rattle.codes.specs.Codes.{activation, interrogation}
 use Rattle.groups.specs.declared.groups.Groups.{Groups}
 use Rattle.groups.specs.declared.groups.Groups.the-variants as groups
 use Rattle.numbers.specs.Number.{unknown, numberOf}
@@ -38,7 +39,7 @@ use Rattle.explanations.specs.Explained.{explained}
 use Rattle.sheets.specs.Sheets.{wroteSheet}
 use Rattle.calls.specs.Divert.{Course, passes, diverts, comes}
 use Rattle.requests.specs.Heard.{local, heard}
-use Rattle.requests.specs.Request.{activation, interrogation, allNumbers, noForwarded, noRequest, requestOf, argumentAt}
+use Rattle.requests.specs.Request.{allNumbers, noForwarded, noRequest, requestOf, argumentAt}
 use Rattle.requests.specs.Sent.{requestOctets}
 use Rattle.answers.specs.declared.answer.Answer.{Answer}
 use Rattle.answers.specs.declared.answer.Answer.the-variants as answer

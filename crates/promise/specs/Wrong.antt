@@ -11,9 +11,9 @@ use Rattle.laws.specs.Over.{over}
 use Rattle.refusals.specs.Refusal.{outputLeast, tells}
 use Rattle.refusals.specs.declared.refusal.Refusal.{Refusal}
 use Rattle.refusals.specs.declared.handling.Handling.the-variants as handling
+use Rattle.codes.specs.Codes.{activation, interrogation}
 use Rattle.profile.specs.Access.{accessRead}
 use Rattle.profile.specs.declared.profile.Profile.{Profile}
-use Rattle.requests.specs.Request.{activation, interrogation}
 use Rattle.lists.specs.declared.entry.Entry.{Entry}
 use Rattle.instances.specs.Run.{instancesOf, listed, entryFor}
 use Rattle.answers.specs.Answer.{answerOctets}

@@ -11,21 +11,23 @@ use lib.ListN.{length, getD, length-append}
 use lib.Dec.{ltb, eqb}
 use borrow.Author.Tests.{lt-ltb, eq-eqb, ne-eqb, eqb-true}
 use Rattle.laws.specs.Tests.{all}
-use Rattle.laws.specs.Got.{got, andThen}
+use Rattle.laws.specs.Got.{got, andThen, onlyIf}
 use Rattle.laws.specs.Stands.{Stands}
 use Rattle.laws.proofs.Picks.{pick-ind}
 use Rattle.laws.proofs.Tests.{both-hold}
 use Rattle.laws.proofs.Stands.{stands-left, stands-right}
 use Rattle.octets.specs.Head.{headAt}
 use Rattle.octets.specs.Spelt.{Spells}
+use Rattle.octets.specs.Part.{partOf}
 use Rattle.octets.specs.declared.head.Head.{Head}
 use Rattle.octets.specs.declared.head.Head.the-variants as head
 use Rattle.octets.proofs.Spellings.{spells-length, spells-back}
 use Rattle.octets.proofs.Firsts.{spells-first}
 use Rattle.values.specs.Enumerated.{enumeratedTag}
 use Rattle.values.proofs.Enumerateds.{enumerated-spells-back}
+use Rattle.skip.specs.Depth.{argumentDepth, insideDepth}
 use Rattle.skip.proofs.Skips.{fills-past}
-use Rattle.codes.specs.Codes.{procedureCode, serviceCode}
+use Rattle.codes.specs.Codes.{procedureCode, serviceCode, activation, deactivation, interrogation}
 use Rattle.numbers.specs.Number.{numberAt}
 use Rattle.numbers.specs.Spelt.{AddressSpelt}
 use Rattle.numbers.specs.declared.number.Number.{Number}
@@ -33,9 +35,8 @@ use Rattle.numbers.specs.declared.address.Forwarded.{Forwarded}
 use Rattle.numbers.proofs.Trips.{NotNull, number-not-null}
 use Rattle.numbers.proofs.SpellingTrips.{number-spelt-back, address-spelt-back}
 use Rattle.numbers.proofs.Firsts.{number-first}
-use Rattle.requests.specs.Part.{onlyIf, partOf}
-use Rattle.requests.specs.Heard.{argumentDepth, insideDepth, local}
-use Rattle.requests.specs.Request.{activation, deactivation, interrogation, codeAt, serviceAt, individual, servedIn, servedAt}
+use Rattle.requests.specs.Heard.{local}
+use Rattle.requests.specs.Request.{codeAt, serviceAt, individual, servedIn, servedAt}
 use Rattle.requests.specs.Request.{privateAt, privates, noForwarded, requestOf}
 use Rattle.requests.specs.Request.{lastIn, activationIn, deactivationIn, interrogationIn, contentsIn, argumentAt}
 use Rattle.requests.specs.Spelt.{Known, activation-is, deactivation-is, interrogation-is}

@@ -13,20 +13,20 @@ use Rattle.laws.specs.Tests.{all}
 use Rattle.laws.specs.Got.{Got, got}
 use Rattle.laws.proofs.Picks.{pick-ind}
 use Rattle.octets.specs.Head.{headAt}
+use Rattle.octets.specs.Part.{Part, partAt}
 use Rattle.octets.proofs.Slices.{slice-join}
 use Rattle.octets.proofs.Spellings.{head-only}
 use Rattle.values.specs.Enumerated.{enumeratedTag, enumeratedAt}
 use Rattle.values.proofs.Enumerateds.{enumerated-within}
 use Rattle.values.proofs.Spellings.{enumerated-only}
-use Rattle.codes.specs.Codes.{procedureCode, serviceCode}
+use Rattle.skip.specs.Depth.{argumentDepth}
+use Rattle.codes.specs.Codes.{procedureCode, serviceCode, activation, deactivation, interrogation}
 use Rattle.numbers.specs.Number.{valueOf, numberAt}
 use Rattle.numbers.specs.Address.{addressAt}
 use Rattle.numbers.specs.declared.address.Forwarded.{Forwarded}
 use Rattle.numbers.proofs.Readers.{number-within, address-within}
 use Rattle.numbers.proofs.Spellings.{number-only, address-only}
-use Rattle.requests.specs.Part.{Part, partAt}
-use Rattle.requests.specs.Heard.{argumentDepth}
-use Rattle.requests.specs.Request.{activation, deactivation, interrogation, codeAt, serviceAt, individual, allNumbers, servedIn, servedAt}
+use Rattle.requests.specs.Request.{codeAt, serviceAt, individual, allNumbers, servedIn, servedAt}
 use Rattle.requests.specs.Request.{privates, noForwarded, requestOf, lastIn, activationIn, deactivationIn, interrogationIn, contentsIn}
 use Rattle.requests.specs.Spelt.{Known, activation-is, deactivation-is, interrogation-is}
 use Rattle.requests.specs.Spelt.{CodeSpelt, ServiceSpelt, ToSpelt, ServedSpelt, ContentsSpelt}

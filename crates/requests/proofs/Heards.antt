@@ -20,7 +20,8 @@ use Rattle.octets.specs.declared.head.Head.the-variants as head
 use Rattle.octets.proofs.Spellings.{head-only, spells-back}
 use Rattle.octets.proofs.Bads.{head-past, head-ones}
 use Rattle.octets.proofs.Firsts.{spells-first}
-use Rattle.requests.specs.Heard.{componentDepth, replyTag, heardIn, heard}
+use Rattle.skip.specs.Depth.{componentDepth}
+use Rattle.requests.specs.Heard.{replyTag, heardIn, heard}
 use Rattle.requests.specs.declared.heard.Heard.the-variants.{NotOne, Silent, OtherTag}
 use Rattle.requests.proofs.Tags.{no-reply-tag}
 

@@ -20,7 +20,8 @@ use Rattle.values.specs.declared.ident.Ident.{Ident}
 use Rattle.values.specs.declared.ident.Ident.the-variants as ident
 use Rattle.values.proofs.Idents.{ident-range, ident-within, ident-spells-back}
 use Rattle.values.proofs.Spellings.{ident-only}
-use Rattle.requests.specs.Heard.{insideDepth, local, replyTag, operationAt, identifierAt, heard}
+use Rattle.skip.specs.Depth.{insideDepth}
+use Rattle.requests.specs.Heard.{local, replyTag, operationAt, identifierAt, heard}
 use Rattle.requests.specs.Spelt.{SignedSpelt, NoneFirst}
 use Rattle.requests.specs.declared.heard.Heard.the-variants.{NoIdentifier, NoOperation, Asks}
 use Rattle.requests.proofs.Heards.{heard-within}

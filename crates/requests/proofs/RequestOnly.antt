@@ -10,17 +10,18 @@ use lib.Seq.{slice, take-length}
 use lib.Dec.{eqb}
 use borrow.Author.Tests.{eqb-true}
 use Rattle.laws.specs.Tests.{all}
-use Rattle.laws.specs.Got.{Got, got}
+use Rattle.laws.specs.Got.{Got, got, orElse}
 use Rattle.laws.proofs.Picks.{pick-ind}
 use Rattle.laws.proofs.Tests.{both-hold}
 use Rattle.octets.specs.Head.{headAt}
 use Rattle.octets.specs.Spelt.{Spells}
+use Rattle.octets.specs.Part.{Part, partAt, lastAt, tagIs}
 use Rattle.octets.proofs.Slices.{slice-join}
 use Rattle.octets.proofs.Spellings.{head-only}
-use Rattle.values.specs.Ident.{identAt}
+use Rattle.values.specs.Ident.{identAt, signedAt}
 use Rattle.values.proofs.Idents.{ident-within}
-use Rattle.requests.specs.Part.{orElse, signedAt, Part, partAt, lastAt, tagIs}
-use Rattle.requests.specs.Heard.{insideDepth, componentDepth, replyTag, local, operationAt, identifierAt, heardIn, heard}
+use Rattle.skip.specs.Depth.{insideDepth, componentDepth}
+use Rattle.requests.specs.Heard.{replyTag, local, operationAt, identifierAt, heardIn, heard}
 use Rattle.requests.specs.Request.{argumentIn, localAt, argumentAt}
 use Rattle.requests.specs.Spelt.{SignedSpelt, ArgumentSpelt, RequestSpelt}
 use Rattle.requests.specs.declared.heard.Heard.{Heard}

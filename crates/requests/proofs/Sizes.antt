@@ -18,12 +18,13 @@ use Rattle.values.specs.Ident.{identOctets}
 use Rattle.octets.proofs.Elements.{length-small}
 use Rattle.values.proofs.Enumerateds.{length-enumerated}
 use Rattle.values.proofs.Idents.{ident-most, ident-one, ident-two}
+use Rattle.codes.specs.Codes.{activation}
 use Rattle.numbers.specs.Number.{numberOctets}
 use Rattle.numbers.specs.Address.{addressOctets}
 use Rattle.numbers.specs.declared.address.Forwarded.{Forwarded}
 use Rattle.codes.proofs.Tables.{procedure-three, service-all}
 use Rattle.numbers.proofs.Sizes.{number-most, address-most, longestNumber, longest-number, number-longest, longestAddress, longest-address, address-longest}
-use Rattle.requests.specs.Request.{activation, individual, requestOf}
+use Rattle.requests.specs.Request.{individual, requestOf}
 use Rattle.requests.specs.Sent.{servedGood, toGood, partsGood, sendable, servedOctets, toOctets, contentsOctets, requestOctets}
 use Rattle.requests.specs.declared.request.Served.{Served}
 use Rattle.requests.specs.declared.request.Request.{Request}

@@ -14,11 +14,10 @@ use Rattle.octets.proofs.Spellings.{element-spells}
 use Rattle.values.specs.Enumerated.{enumeratedTag, enumeratedOctets}
 use Rattle.values.specs.Ident.{identTag, identFewest, identWith, identOctets}
 use Rattle.values.proofs.Idents.{fewest-two, length-ident}
-use Rattle.codes.specs.Codes.{procedureCode, serviceCode}
+use Rattle.codes.specs.Codes.{procedureCode, serviceCode, activation, interrogation}
 use Rattle.numbers.specs.Number.{tidyNumber}
 use Rattle.numbers.specs.declared.address.Forwarded.{Forwarded}
 use Rattle.numbers.proofs.Trips.{number-spells, address-spells}
-use Rattle.requests.specs.Request.{activation, interrogation}
 use Rattle.requests.specs.Sent.{servedGood, servedOctets, toOctets, contentsOctets, tidyServed, tidyTo, tidyRequest}
 use Rattle.requests.specs.Invoke.{omittedOctets}
 use Rattle.requests.specs.Spelt.{SignedSpelt, CodeSpelt, ToSpelt, ServedSpelt, KnownSpelt}

@@ -1,4 +1,3 @@
-pub mod Part
 pub mod Heard
 pub mod Request
 pub mod Sent

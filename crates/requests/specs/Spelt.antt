@@ -13,11 +13,11 @@ use Rattle.values.specs.Enumerated.{enumeratedTag}
 use Rattle.values.specs.Ident.{identTag, identFewest, identWith}
 use Rattle.skip.specs.Skip.{skipDepth}
 use Rattle.skip.specs.Spelt.{Run, Skippable}
-use Rattle.codes.specs.Codes.{procedureCode, serviceCode}
+use Rattle.codes.specs.Codes.{procedureCode, serviceCode, activation, deactivation, interrogation}
 use Rattle.numbers.specs.Spelt.{NumberSpelt, AddressSpelt}
 use Rattle.numbers.specs.declared.number.Number.{Number}
 use Rattle.numbers.specs.declared.address.Forwarded.{Forwarded}
-use Rattle.requests.specs.Request.{activation, deactivation, interrogation, individual, allNumbers, noForwarded}
+use Rattle.requests.specs.Request.{individual, allNumbers, noForwarded}
 use Rattle.requests.specs.declared.request.Served.{Served}
 use Rattle.requests.specs.declared.request.Request.{Request}
 

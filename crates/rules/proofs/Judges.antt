@@ -12,13 +12,13 @@ use borrow.Author.Tests.{eq-eqb, ne-eqb, eqb-true, eqb-false, leb-true, ltb-true
 use Rattle.laws.specs.Pick.{pick}
 use Rattle.laws.specs.Tests.{any, Test}
 use Rattle.laws.proofs.Picks.{pick-ind, pick-then, pick-map, pick-first, not-passed}
+use Rattle.codes.specs.Codes.{activation, deactivation}
 use Rattle.numbers.specs.Number.{other, digitsOf}
 use Rattle.numbers.specs.Address.{addressGood}
 use Rattle.numbers.specs.declared.number.Number.{Number}
 use Rattle.profile.specs.Profile.{servedNumbers, barred}
 use Rattle.profile.specs.declared.profile.Profile.{Profile}
 use Rattle.profile.proofs.Profiles.{GoodProfile}
-use Rattle.requests.specs.Request.{activation, deactivation}
 use Rattle.requests.specs.declared.request.Request.{Request}
 use Rattle.instances.specs.Run.{instancesOf, packed, listed, countOf, deactivated, activated}
 use Rattle.instances.specs.Places.{placesOf}

@@ -13,13 +13,13 @@ use borrow.Author.Tests.{eq-eqb, ne-eqb, eqb-true, eqb-false}
 use Rattle.laws.specs.Pick.{pick}
 use Rattle.laws.specs.Tests.{all}
 use Rattle.laws.proofs.Picks.{by-bool}
+use Rattle.codes.specs.Codes.{activation}
 use Rattle.numbers.specs.Number.{most, digitsOf, tidyNumber, numberGood}
 use Rattle.numbers.specs.declared.number.Number.{Number}
 use Rattle.numbers.proofs.Goods.{good-address}
 use Rattle.profile.specs.Profile.{barred, servedNumbers, placeIn}
 use Rattle.profile.specs.declared.profile.Profile.{Profile}
 use Rattle.profile.proofs.Tidied.{digits-tidied, count-tidied, same-tidied, place-tidied}
-use Rattle.requests.specs.Request.{activation}
 use Rattle.requests.specs.Sent.{sendable, tidyServed, tidyRequest}
 use Rattle.requests.specs.declared.request.Request.{Request}
 use Rattle.requests.specs.declared.request.Served.{Served}

@@ -9,13 +9,12 @@ use lib.ListN.{length, getD}
 use lib.Dec.{ltb, leb, eqb}
 use Rattle.laws.specs.Pick.{pick}
 use Rattle.laws.specs.Tests.{all, any, Test, test, first}
-use Rattle.codes.specs.Codes.{placeOf}
+use Rattle.codes.specs.Codes.{placeOf, activation, deactivation}
 use Rattle.numbers.specs.Number.{public, other, digitsOf}
 use Rattle.numbers.specs.declared.number.Number.{Number}
 use Rattle.profile.specs.Profile.{servedNumbers, subscribedServices, barred, same, placeIn}
 use Rattle.rules.specs.Prefix.{beginsAny}
 use Rattle.profile.specs.declared.profile.Profile.{Profile}
-use Rattle.requests.specs.Request.{activation, deactivation}
 use Rattle.requests.specs.declared.request.Request.{Request}
 use Rattle.lists.specs.Entries.{instancesMost}
 use Rattle.instances.specs.Instance.{everyNumber, named}

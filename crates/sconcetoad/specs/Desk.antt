@@ -6,7 +6,7 @@ use lib.ListN.{length, getD}
 use lib.Dec.{ltb}
 use Rattle.laws.specs.Over.{over}
 use Rattle.refusals.specs.Refusal.{Told, refuses, tells, refusalIn}
-use Rattle.requests.specs.Request.{activation, deactivation, interrogation}
+use Rattle.codes.specs.Codes.{activation, deactivation, interrogation}
 use Rattle.requests.specs.declared.request.Request.{Request}
 use Rattle.lists.specs.Entry.{noEntry}
 use Rattle.end.specs.End.{doubtMark}

@@ -6,7 +6,7 @@ ghost use Rattle.skip.specs.Skip.{skipElement, SkipAt};
 ghost use Rattle.skip.specs.inner.Skip.{skipContents};
 
 // The deepest that a skipped element goes, the outermost being 1.
-pub const SKIPDEPTH: u8 = 8;
+pub(crate) const SKIPDEPTH: u8 = 8;
 
 // The place after a skipped element.
 pub enum Skip {

@@ -1,7 +1,7 @@
 use Prim.Native.Nat.{_-_}
 use mathlib.Core.Path.{_≡_, refl}
 use lib.ListN.{length}
-use Rattle.requests.specs.Heard.{componentDepth}
+use Rattle.skip.specs.Depth.{componentDepth}
 use Rattle.explanations.specs.Elements.{indent}
 use Rattle.explanations.proofs.Pens.{Going, going-first, going-next, going-last}
 use Rattle.explanations.proofs.Lines.{indent-step, indent-none}

@@ -7,7 +7,7 @@ use Rattle.values.proofs.Idents.{ident-most, ident-one}
 use Rattle.values.specs.Ident.{identOctets}
 use Rattle.octets.proofs.Elements.{head-most}
 use Rattle.octets.specs.Element.{headOctets}
-use Rattle.requests.specs.Request.{interrogation}
+use Rattle.codes.specs.Codes.{interrogation}
 use Rattle.lists.specs.Listed.{listOpened}
 use Rattle.lists.proofs.Heads.{lengths, list-long, head-room, head-wrote, head-large, head-none, head-all}
 use borrow.Author.Needs.{needs}

@@ -1,6 +1,6 @@
-use Rattle.requests.specs.Heard.{insideDepth}
 use Rattle.octets.proofs.Within.{within}
 use Rattle.values.proofs.Signs.{machine-positive}
+use Rattle.skip.specs.Depth.{insideDepth}
 use mir.Val.{SFits}
 use mir.Syntax.{w16}
 use Rattle.requests.proofs.Readers.{argument-negative, argument-local}
