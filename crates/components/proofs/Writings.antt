@@ -11,7 +11,7 @@ use borrow.Author.Tests.{lt-ltb, le-ltb}
 use Rattle.laws.specs.Over.{Puts}
 use Rattle.laws.proofs.Over.{wrote-none, puts-all}
 use Rattle.refusals.specs.Refusal.{outputLeast}
-use Rattle.refusals.specs.Handling.{Made, notMade, made}
+use Rattle.refusals.specs.Handling.{Made, notMade, made, notWritten, allWritten}
 use Rattle.refusals.specs.declared.refusal.Refusal.{Refusal}
 use Rattle.refusals.specs.declared.refusal.Refusal.the-variants.{ShortOutput, BadTable, BadRequest}
 use Rattle.refusals.specs.declared.handling.Written.{Written}
@@ -24,7 +24,6 @@ use Rattle.lists.specs.Entries.{instancesMost, entriesIn}
 use Rattle.lists.specs.Listed.{listOctets}
 use Rattle.lists.specs.declared.entries.Entries.{Entries}
 use Rattle.components.specs.Written.{wroteRequest, wroteList, MadeIn}
-use Rattle.components.specs.inner.Refused.{notWritten, allWritten}
 
 module _ (identifier : ℤ) (operation : ℕ) (r : Request) (size : ℕ) where
   pub request-short : size < outputLeast → wroteRequest identifier operation r size ≡ notMade ShortOutput

@@ -10,7 +10,7 @@ use requests::is_sendable;
 use requests::put_request;
 ghost use mathlib.Core.Path.{_≡_};
 ghost use Rattle.components.specs.Written.{WritesRequest, WritesList};
-ghost use Rattle.components.specs.inner.Refused.{notWritten, allWritten};
+ghost use Rattle.refusals.specs.Handling.{notWritten, allWritten};
 
 // The least output for any component.
 const OUTPUTLEAST: usize = 707;

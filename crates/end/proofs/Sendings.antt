@@ -23,7 +23,8 @@ use Rattle.requests.proofs.Senders.{sent-whole}
 use Rattle.lists.specs.Entries.{instancesMost}
 use Rattle.end.specs.End.{usedMost, endGood}
 use Rattle.end.specs.Sending.{sent, Sends, notSent, sends}
-use Rattle.end.specs.inner.Sending.{notWritten, WrittenBy}
+use Rattle.refusals.specs.Handling.{notWritten}
+use Rattle.end.specs.inner.Sending.{WrittenBy}
 use Rattle.end.specs.declared.end.End.{End}
 
 -- what is not refused

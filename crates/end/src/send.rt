@@ -22,7 +22,8 @@ ghost use Prim.Native.Nat.{_<_};
 ghost use lib.ListN.{length};
 ghost use Rattle.end.specs.End.{usedMost, markAt, marked};
 ghost use Rattle.end.specs.Sending.{interrogationOf, marksSent, sent, sends, Activates, Deactivates, Interrogates};
-ghost use Rattle.end.specs.inner.Sending.{notWritten, WrittenBy, IdentifierLeft, endAfter};
+ghost use Rattle.refusals.specs.Handling.{notWritten};
+ghost use Rattle.end.specs.inner.Sending.{WrittenBy, IdentifierLeft, endAfter};
 
 // The least output.
 const OUTPUTLEAST: usize = 707;

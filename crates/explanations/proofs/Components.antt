@@ -9,14 +9,14 @@ use borrow.Author.Tests.{lt-ltb, le-ltb, ltb-false}
 use Rattle.laws.proofs.Picks.{pick-ind}
 use Rattle.laws.proofs.Over.{over-nil, length-over}
 use Rattle.refusals.specs.Refusal.{componentMost}
-use Rattle.refusals.specs.Handling.{Made, notMade, made}
+use Rattle.refusals.specs.Handling.{Made, notMade, made, notWritten}
 use Rattle.refusals.specs.declared.refusal.Refusal.the-variants.{ShortOutput, LongComponent}
 use Rattle.refusals.specs.declared.handling.Handling.the-variants.{Done}
 use Rattle.refusals.specs.declared.handling.Written.{Written}
 use Rattle.skip.specs.Depth.{componentDepth}
 use Rattle.explanations.specs.Elements.{linesIn}
 use Rattle.explanations.specs.Explained.{said, explained, explanationMost, explainedIn, Explains}
-use Rattle.explanations.specs.inner.Pen.{Penned, notWritten}
+use Rattle.explanations.specs.inner.Pen.{Penned}
 use Rattle.explanations.proofs.Pens.{pen-then}
 use Rattle.explanations.proofs.Longest.{explained-most}
 

@@ -7,7 +7,7 @@ use refusals::Written;
 use skip::COMPONENTDEPTH;
 ghost use mathlib.Core.Path.{_≡_};
 ghost use Rattle.explanations.specs.Explained.{Explains};
-ghost use Rattle.explanations.specs.inner.Pen.{notWritten};
+ghost use Rattle.refusals.specs.Handling.{notWritten};
 
 // "component over 1,024 octets"
 const COMPONENTMOST: usize = 1024;

@@ -24,7 +24,7 @@ use Rattle.instances.proofs.Goods.{Few, few-of}
 use Rattle.forms.specs.Form.{form1}
 use Rattle.forms.specs.Sheet.{Sheet, sheetIn}
 use Rattle.forms.specs.Formed.{ReadForm}
-use Rattle.forms.specs.inner.Refused.{notWritten}
+use Rattle.refusals.specs.Handling.{notWritten}
 use Rattle.refusals.specs.declared.handling.Handling.the-variants.{Done}
 use Rattle.refusals.specs.declared.handling.Written.{Written}
 use Rattle.forms.specs.declared.sheet.FormRead.{FormRead}

@@ -14,7 +14,7 @@ ghost use Rattle.laws.specs.Over.{Wrote};
 ghost use Rattle.instances.specs.Places.{runMost};
 ghost use Rattle.instances.specs.Run.{instancesOf};
 ghost use Rattle.forms.specs.Form.{form1};
-ghost use Rattle.forms.specs.inner.Refused.{notWritten};
+ghost use Rattle.refusals.specs.Handling.{notWritten};
 ghost use Rattle.listings.specs.Listing.{listing, ListsSheet, PrintsSheet};
 ghost use Rattle.listings.specs.inner.Write.{AllCounted, sheetOf};
 

@@ -5,6 +5,7 @@ use Rattle.refusals.specs.Refusal.{refusalNo, Told, refuses, tells}
 use Rattle.refusals.specs.declared.refusal.Refusal.{Refusal}
 use Rattle.refusals.specs.declared.handling.Handling.{Handling}
 use Rattle.refusals.specs.declared.handling.Handling.the-variants.{Refuses, Done}
+use Rattle.refusals.specs.declared.handling.Written.{Written}
 
 -- what is told: the refusal, or that it is done
 abbrev pub handlingTold : Handling → Told (Unit {0})
@@ -22,3 +23,10 @@ notMade refusal = record { told = refuses (refusalNo refusal); octets = [] }
 
 abbrev pub made : List ℕ → Made
 made octets = record { told = tells tt; octets = octets }
+
+-- what is answered where nothing is written, and where all is
+abbrev pub notWritten : Refusal → Written
+notWritten refusal = record { outcome = Refuses refusal; count = 0 }
+
+abbrev pub allWritten : ℕ → Written
+allWritten count = record { outcome = Done; count = count }

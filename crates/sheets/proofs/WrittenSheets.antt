@@ -25,8 +25,7 @@ use Rattle.exchange.proofs.Tables.{table-good}
 use Rattle.forms.specs.Form.{form1}
 use Rattle.forms.specs.Size.{sheetMost}
 use Rattle.forms.specs.Sheet.{sheetOctets}
-use Rattle.refusals.specs.Handling.{Made, notMade, made}
-use Rattle.forms.specs.inner.Refused.{notWritten}
+use Rattle.refusals.specs.Handling.{Made, notMade, made, notWritten}
 use Rattle.refusals.specs.declared.handling.Handling.the-variants.{Done}
 use Rattle.refusals.specs.declared.handling.Written.{Written}
 use Rattle.sheets.specs.Sheets.{wroteSheet, WritesSheet}

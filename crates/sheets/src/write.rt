@@ -20,7 +20,7 @@ ghost use Rattle.numbers.specs.Number.{most};
 ghost use Rattle.numbers.specs.Address.{addressGood};
 ghost use Rattle.instances.specs.Run.{instancesOf};
 ghost use Rattle.forms.specs.Instance.{allGroups, addressFields};
-ghost use Rattle.forms.specs.inner.Refused.{notWritten};
+ghost use Rattle.refusals.specs.Handling.{notWritten};
 ghost use Rattle.sheets.specs.Sheets.{WritesSheet};
 ghost use Rattle.sheets.specs.inner.Write.{Room, above, NoneBelow, Space, WroteInstances, Writable, AllWritable};
 

@@ -5,7 +5,6 @@ use mathlib.Core.List.{List}
 use lib.ListN.{length}
 use Rattle.laws.specs.Over.{over}
 use Rattle.refusals.specs.Handling.{handlingTold}
-use Rattle.refusals.specs.declared.refusal.Refusal.{Refusal}
 use Rattle.refusals.specs.declared.handling.Handling.{Handling}
 use Rattle.refusals.specs.declared.handling.Handling.the-variants.{Refuses, Done}
 use Rattle.refusals.specs.declared.handling.Written.{Written}
@@ -13,10 +12,6 @@ use Rattle.requests.specs.declared.request.Request.{Request}
 use Rattle.end.specs.End.{usedMost}
 use Rattle.end.specs.Sending.{sent, Sends}
 use Rattle.end.specs.declared.end.End.{End}
-
--- what is answered where nothing is written
-abbrev pub notWritten : Refusal → Written
-notWritten refusal = record { outcome = Refuses refusal; count = 0 }
 
 -- all that `SendsBy` says but for the next end
 pub record WrittenBy (done : Sends) (xs : List ℕ) (w : Written) (ys : List ℕ) : Type 0 where

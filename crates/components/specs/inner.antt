@@ -1,2 +1,0 @@
--- What private functions promise: no public promise cites it.
-pub mod Refused
