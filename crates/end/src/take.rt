@@ -2,6 +2,7 @@
 use crate::end::DOUBT;
 use crate::end::End;
 use crate::end::KNOWN;
+use crate::end::rules_hold;
 use crate::list::list_good;
 use crate::list::run_from;
 use crate::picture::replaced_by;
@@ -76,23 +77,25 @@ fn applied(p: Profile, e: End) -> End
     }
 }
 
-// A list, whose entries stand from `at` up to `end`.
+// A list, whose entries stand from `at` up to `end`. One expression, since an early return would copy the end.
 fn learned(p: Profile, e: End, s: &[u8], at: usize, end: usize) -> End
     ensures { λ r. ⌜ r ≡ learnedBy p e (entriesFrom instancesMost (now (s .entry)) at end) ⌝ }
 {
     let read = entries_at(s, at, end);
     if !read.ok {
-        return doubted(e);
+        doubted(e)
+    } else {
+        let list = read.list;
+        let procedure = e.request.procedure;
+        let new = run_from(p, list);
+        if !list_good(p, procedure, new) {
+            doubted(e)
+        } else {
+            let picture = e.picture;
+            let next = replaced_by(picture, procedure, new);
+            closed(e, KNOWN, next)
+        }
     }
-    let list = read.list;
-    let procedure = e.request.procedure;
-    let new = run_from(p, list);
-    if !list_good(p, procedure, new) {
-        return doubted(e);
-    }
-    let picture = e.picture;
-    let next = replaced_by(picture, procedure, new);
-    closed(e, KNOWN, next)
 }
 
 fn took(p: Profile, e: End, s: &[u8]) -> End
@@ -125,7 +128,7 @@ fn refuses(end: End, refusal: Refusal) -> Moved
 }
 
 impl End {
-    // The step of an arriving component, by value; others have `lent`.
+    // The step of an arriving component, by value; others have `lent`. Its tests are `good`'s, one by one, since that would copy the end.
     pub(crate) fn take(self, access: &[u8], component: &[u8]) -> Moved
         ensures { λ r. ⌜ MovesBy (takes (now (access .entry)) self (now (component .entry))) r ⌝ }
     {
@@ -137,7 +140,11 @@ impl End {
             return refuses(self, Refusal::BadProfile);
         }
         let p = read.profile;
-        if !self.good(p) {
+        if !rules_hold(self) {
+            return refuses(self, Refusal::BadTable);
+        }
+        let picture = self.picture;
+        if !picture.good(p) {
             return refuses(self, Refusal::BadTable);
         }
         let end = took(p, self, component);

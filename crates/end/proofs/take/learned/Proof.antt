@@ -10,54 +10,62 @@ use mathlib.Core.Path.{_≡_, sym, _∙_}
 use borrow.Author.Needs.{needs}
 use Rattle.end.proofs.take.learned.Statement.{statement}
 use Rattle.end.proofs.take.learned.Tie as tie
-use Rattle.end.proofs.take.learned.Reads as reads
-use Rattle.end.proofs.take.learned.Lts as lts
-use Rattle.end.proofs.list.list_good.Reads as list-good-reads
-use Rattle.end.proofs.list.run_from.Reads as run-from-reads
-use Rattle.end.proofs.picture.replaced_by.Reads as replaced-by-reads
-use Rattle.end.proofs.take.closed.Reads as closed-reads
-use Rattle.end.proofs.take.doubted.Reads as doubted-reads
-use Rattle.lists.proofs.entries_at.Reads as entries-at-reads
 
--- src/take.rt:83:9
 entries-at-requires : tie.Need-entries-at-requires
 entries-at-requires c κs = search needs
 
--- src/take.rt:85:9
 doubted-requires : tie.Need-doubted-requires
 doubted-requires c κs = search needs
 
--- src/take.rt:85:9
-returns : tie.Need-returns
-returns c = let a = c .before .before .before .before .before .args in c .doubted .ensures ∙ learned-wrong (a .p) (a .e) (entriesFrom instancesMost (a .s .now) (a .at) (a .end)) _ (c .before .before .before .entries-at .ensures) (not-true _ (c .before .if1 .taken))
-
--- src/take.rt:89:9
 run-from-requires : tie.Need-run-from-requires
 run-from-requires c κs = search needs
 
--- src/take.rt:90:9
 list-good-requires : tie.Need-list-good-requires
-list-good-requires c κs = rw (c .run-from .ensures) (omega (arith, length-take runMost (instancesFrom (c .before .before .before .before .before .before .args .p) (entriesIn (c .before .before .before .before .entries-at .result .list)))))
+list-good-requires c κs =
+    rw (c .run-from .ensures)
+    (omega (arith, length-take runMost (instancesFrom (c .before .before .before .before .before .before .args .p) (entriesIn (c .before .before .before .before .entries-at .result .list)))))
 
--- src/take.rt:91:9
 doubted-requires-2 : tie.Need-doubted-requires-2
 doubted-requires-2 c κs = search needs
 
--- src/take.rt:91:9
-returns-2 : tie.Need-returns-2
-returns-2 c = let a = c .before .before .before .before .before .before .before .before .before .args in let got = entered (a .p) (a .e) (entriesFrom instancesMost (a .s .now) (a .at) (a .end)) _ (c .before .before .before .before .before .before .before .entries-at .ensures) (not-false _ (c .before .before .before .before .before .if1 .left)) in let long : length (c .before .before .before .before .before .before .before .entries-at .result .list .entries) ≡ instancesMost = search (unmapped, needs, c .before .before .before .before .before .before .before .entries-at .ok) in c .doubted2 .ensures ∙ learned-bad (a .p) (a .e) (got .es) _ (got .is) long _ (c .before .before .before .run-from .ensures) (sym (c .before .before .list-good .ensures) ∙ not-true _ (c .before .if2 .taken)) ∙ got .by
-
--- src/take.rt:94:9
 replaced-by-requires : tie.Need-replaced-by-requires
 replaced-by-requires c κs = search needs
 
--- src/take.rt:95:5
 closed-requires : tie.Need-closed-requires
 closed-requires c κs = search needs
 
--- src/take.rt:80:1
+returns : tie.Need-returns
+returns c =
+    let a = c .before .before .before .before .before .args in
+    c .doubted .ensures ∙
+    learned-wrong (a .p) (a .e) (entriesFrom instancesMost (a .s .now) (a .at) (a .end)) _ (c .before .before .before .entries-at .ensures)
+    (not-true _ (c .before .if1 .taken))
+
+returns-2 : tie.Need-returns-2
+returns-2 c =
+    let a = c .before .before .before .before .before .before .before .before .before .args in
+    let got = entered (a .p) (a .e) (entriesFrom instancesMost (a .s .now) (a .at) (a .end)) _
+    (c .before .before .before .before .before .before .before .entries-at .ensures)
+    (not-false _ (c .before .before .before .before .before .if1 .left)) in
+    let long : length (c .before .before .before .before .before .before .before .entries-at .result .list .entries) ≡ instancesMost =
+    search (unmapped, needs, c .before .before .before .before .before .before .before .entries-at .ok) in
+    c .doubted2 .ensures ∙
+    learned-bad (a .p) (a .e) (got .es) _ (got .is) long _ (c .before .before .before .run-from .ensures)
+    (sym (c .before .before .list-good .ensures) ∙ not-true _ (c .before .if2 .taken)) ∙
+    got .by
+
 returns-3 : tie.Need-returns-3
-returns-3 c = let a = c .before .before .before .before .before .before .before .before .before .before .before .args in let got = entered (a .p) (a .e) (entriesFrom instancesMost (a .s .now) (a .at) (a .end)) _ (c .before .before .before .before .before .before .before .before .before .entries-at .ensures) (not-false _ (c .before .before .before .before .before .before .before .if1 .left)) in let long : length (c .before .before .before .before .before .before .before .before .before .entries-at .result .list .entries) ≡ instancesMost = search (unmapped, needs, c .before .before .before .before .before .before .before .before .before .entries-at .ok) in c .closed .ensures ∙ learned-good (a .p) (a .e) (got .es) _ (got .is) long _ (c .before .before .before .before .before .run-from .ensures) (sym (c .before .before .before .before .list-good .ensures) ∙ not-false _ (c .before .before .before .if2 .left)) _ (c .before .replaced-by .ensures) ∙ got .by
+returns-3 c =
+    let a = c .before .before .before .before .before .before .before .before .before .before .before .args in
+    let got = entered (a .p) (a .e) (entriesFrom instancesMost (a .s .now) (a .at) (a .end)) _
+    (c .before .before .before .before .before .before .before .before .before .entries-at .ensures) (not-false _
+    (c .before .before .before .before .before .before .before .if1 .left)) in
+    let long : length (c .before .before .before .before .before .before .before .before .before .entries-at .result .list .entries) ≡ instancesMost =
+    search (unmapped, needs, c .before .before .before .before .before .before .before .before .before .entries-at .ok) in
+    c .closed .ensures ∙
+    learned-good (a .p) (a .e) (got .es) _ (got .is) long _ (c .before .before .before .before .before .run-from .ensures)
+    (sym (c .before .before .before .before .list-good .ensures) ∙ not-false _ (c .before .before .before .if2 .left)) _ (c .before .replaced-by .ensures) ∙
+    got .by
 
 pub learned-spec : {M : Type 1} → statement M
 learned-spec =
@@ -65,11 +73,11 @@ learned-spec =
     (tie.spec
     entries-at-requires
     doubted-requires
-    returns
     run-from-requires
     list-good-requires
     doubted-requires-2
-    returns-2
     replaced-by-requires
     closed-requires
+    returns
+    returns-2
     returns-3)
