@@ -21,7 +21,7 @@ use Rattle.instances.specs.Run.{instancesOf, packed, runGood}
 use Rattle.instances.specs.declared.run.Run.{Run}
 use Rattle.instances.proofs.Goods.{good-run, empty-good}
 use Rattle.rules.specs.Judge.{changed, applied}
-use Rattle.rules.proofs.Judges.{applied-ind}
+use Rattle.rules.proofs.Changes.{applied-ind}
 use Rattle.end.specs.End.{knownMark, doubtMark, markAt, marked, freshEnd, closed, usedMost, marksGood, waitingGood, endGood}
 use Rattle.end.specs.Sending.{marksSent, sent, sends}
 use Rattle.end.specs.Listed.{instancesFrom, replaced}

@@ -1,7 +1,7 @@
 -- What arrives is taken, or refused, and so is giving up: each refusal by its test. Assumes nothing.
 use Prim.Native.Nat.{ℕ, _<_, _≤_}
 use mathlib.Core.Path.{_≡_, sym, ap, _∙_}
-use mathlib.Core.Bool.{true, false}
+use mathlib.Core.Bool.{Bool, true, false}
 use mathlib.Core.List.{List}
 use lib.IntN.{pos}
 use lib.ListN.{length}
@@ -90,10 +90,10 @@ module _ (p : Profile) (e : End) (v : Verdict)
   applied-fails error is = ap (appliedBy p e) (sym (ap verdictNo is) ∙ judged)
 
   pub applied-passes :
-      v ≡ Passes →
+      (renews : Bool) → v ≡ Passes renews →
       closed (e .before) (applied p (e .operation) (e .request) (e .picture)) e
       ≡ appliedBy p e (judge instancesMost p (e .operation) (e .request) (instancesOf (e .picture)))
-  applied-passes is = ap (appliedBy p e) (sym (ap verdictNo is) ∙ judged)
+  applied-passes renews is = ap (appliedBy p e) (sym (ap verdictNo is) ∙ judged)
 
 -- ---- what a reply does, told by the reader's answer
 

@@ -36,7 +36,7 @@ use Rattle.instances.proofs.Goods.{GoodList, good-list, list-good, good-short, 
 use Rattle.rules.specs.Judge.{changed, applied}
 use Rattle.rules.specs.Selection.{selectionOf}
 use Rattle.rules.proofs.Selections.{selection-procedure}
-use Rattle.rules.proofs.Judges.{changed-ind, changed-good, applied-ind}
+use Rattle.rules.proofs.Changes.{changed-ind, changed-good, applied-ind}
 use Rattle.end.specs.End.{knownMark, doubtMark, markAt, marked, closed, endGood}
 use Rattle.end.specs.Sending.{marksSent, sent, sends}
 use Rattle.end.specs.Listed.{instancesFrom, listGood, everyOf, replaced}

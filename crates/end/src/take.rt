@@ -70,7 +70,7 @@ fn applied(p: Profile, e: End) -> End
     let request = e.request;
     match judge_request(p, e.operation, request, picture) {
         Verdict::Fails { error: _ } => doubted(e),
-        Verdict::Passes => {
+        Verdict::Passes { renews: _ } => {
             let next = apply_request(p, e.operation, request, picture);
             closed(e, e.before, next)
         }

@@ -1,7 +1,7 @@
 -- What arrives: its refusals, lowest first, and its step, whose reply fits the least output. Assumes nothing.
 use Prim.Native.Nat.{ℕ, _≤_, _<_}
-use mathlib.Core.Path.{_≡_, sym, ap, _∙_}
-use mathlib.Core.Bool.{true, false}
+use mathlib.Core.Path.{_≡_, refl, sym, ap, _∙_}
+use mathlib.Core.Bool.{Bool, true, false}
 use mathlib.Core.List.{List, []}
 use mathlib.Core.Option.{none}
 use native.Mathlib.Nat.{zero-add}
@@ -30,11 +30,12 @@ use Rattle.instances.specs.declared.run.Run.{Run}
 use Rattle.instances.proofs.Goods.{run-good}
 use Rattle.instances.proofs.Listeds.{listed-most, listed-good}
 use Rattle.rules.specs.Selection.{selectionOf}
-use Rattle.rules.specs.Judge.{verdictNo, applied}
+use Rattle.rules.specs.Judge.{verdictNo, applied, JudgeRequest, RenewRequest}
 use Rattle.rules.specs.declared.verdict.Verdict.{Verdict}
 use Rattle.rules.specs.declared.verdict.Verdict.the-variants.{Passes, Fails}
 use Rattle.rules.proofs.Selections.{selection-procedure}
-use Rattle.rules.proofs.Judges.{judge-errors}
+use Rattle.rules.proofs.Judges.{judge-errors, passes-none}
+use Rattle.rules.proofs.Changes.{renew-applied}
 use Rattle.answers.specs.Answer.{answerOctets, PutAnswer}
 use Rattle.answers.specs.declared.answer.Answer.the-variants as answer
 use Rattle.answers.proofs.Fits.{EntriesFit, answer-most}
@@ -148,6 +149,19 @@ answered-arrives access t s xs x n ys is fits room put =
       lent = rw is (w .holds);
     }
 
+-- a request that only renews the instances of a good run
+pub renews-applied :
+    (access : List ℕ) (read : AccessRead) → read ≡ accessRead access → read .ok ≡ true →
+    (run : Run) → runGood instancesMost (read .profile) run ≡ true →
+    (operation : ℕ) (r : Request) (v : Verdict) → JudgeRequest (read .profile) operation r run v →
+    (renews : Bool) → v ≡ Passes renews → renews ≡ true →
+    (next : Run) → RenewRequest (read .profile) r run next → next ≡ applied (read .profile) operation r run
+renews-applied access read reads ok run good operation r v judged renews is h next e =
+    let profile : profileGood (read .profile) ≡ true = rw reads (access-good access (rw reads at ok)) in
+    renew-applied (read .profile) operation r run next (selectionOf (read .profile) r) refl
+    (good-profile (read .profile) profile) instancesMost (run-good (read .profile) instancesMost run good)
+    (sym (passes-none _ _ v judged renews is .1) ∙ h) e
+
 -- ---- the four answers, as the code tells them
 
 module _
@@ -199,9 +213,9 @@ module _
             (asked ∙ handled-fails p t (q .identifier) (q .operation) (q .request) error (sym judged ∙ ap verdictNo is))
             put)
 
-        module _ (v : Verdict) (judged : verdictNo v ≡ verdict p t (q .identifier) (q .operation) (q .request)) (is : v ≡ Passes) where
+        module _ (v : Verdict) (judged : JudgeRequest p (q .operation) (q .request) (t .run) v) (renews : Bool) (is : v ≡ Passes renews) where
           passes : verdict p t (q .identifier) (q .operation) (q .request) ≡ none
-          passes = sym judged ∙ ap verdictNo is
+          passes = passes-none _ _ v judged renews is .0
 
           -- at most 8 are listed, so that the record of 8 has them all
           pub lists-arrives :

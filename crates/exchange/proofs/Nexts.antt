@@ -29,7 +29,8 @@ use Rattle.instances.specs.Run.{instancesOf, packed, runGood}
 use Rattle.instances.proofs.Runs.{packed-all}
 use Rattle.instances.proofs.Goods.{GoodList, good-short, run-good, good-run}
 use Rattle.rules.specs.Judge.{changed, applied}
-use Rattle.rules.proofs.Judges.{kind-known, judge-activation, changed-good, applied-changes}
+use Rattle.rules.proofs.Judges.{kind-known, judge-activation}
+use Rattle.rules.proofs.Changes.{changed-good, applied-changes}
 use Rattle.answers.specs.Answer.{answerNo, answerWhose, Answered, answeredBy}
 use Rattle.answers.specs.declared.answer.Answer.{Answer}
 use Rattle.answers.specs.declared.answer.Whose.the-variants.{Own}

@@ -27,7 +27,8 @@ use Rattle.instances.specs.declared.instance.Selection.{Selection}
 use Rattle.instances.proofs.Finds.{names, hasPlace, find-cleared, find-put}
 use Rattle.rules.specs.Selection.{selectionOf}
 use Rattle.rules.specs.Judge.{firstError, everyTests, changed}
-use Rattle.rules.proofs.Judges.{judge-rest, none-fails, changed-activation, changed-deactivation}
+use Rattle.rules.proofs.Judges.{judge-rest, none-fails}
+use Rattle.rules.proofs.Changes.{changed-activation, changed-deactivation}
 use Rattle.answers.specs.Answer.{answerNo, answerOctets, Answered}
 use Rattle.answers.specs.Reply.{replyNo, reply}
 use Rattle.answers.specs.declared.answer.Answer.the-variants as answer

@@ -12,6 +12,7 @@ use refusals::Refusal;
 use rules::Verdict;
 use rules::apply_request;
 use rules::judge_request;
+use rules::renew_request;
 use rules::selection_of;
 ghost use mathlib.Core.Path.{_≡_};
 ghost use Rattle.exchange.specs.Table.{tableOf};
@@ -110,14 +111,18 @@ impl Table {
                         let count = put_answer(out, answer);
                         answers(last, run, answer, count)
                     }
-                    Verdict::Passes => {
+                    Verdict::Passes { renews } => {
                         if operation == INTERROGATION {
                             let sel = selection_of(p, r);
                             let answer = Answer::Listing { identifier };
                             let count = run.put_listed(out, identifier, p, sel);
                             answers(last, run, answer, count)
                         } else {
-                            let next = apply_request(p, operation, r, run);
+                            let next = if renews {
+                                renew_request(p, r, run)
+                            } else {
+                                apply_request(p, operation, r, run)
+                            };
                             let answer = Answer::Result { identifier };
                             let count = put_answer(out, answer);
                             answers(last, next, answer, count)

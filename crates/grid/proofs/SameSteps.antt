@@ -18,7 +18,8 @@ use Rattle.instances.specs.Run.{entryFor, instancesOf, listed}
 use Rattle.instances.specs.declared.instance.Instance.{Instance}
 use Rattle.rules.specs.Selection.{selectionOf}
 use Rattle.rules.specs.Judge.{changed, judge}
-use Rattle.rules.proofs.Judges.{changed-activation, changed-deactivation, kind-known}
+use Rattle.rules.proofs.Judges.{kind-known}
+use Rattle.rules.proofs.Changes.{changed-activation, changed-deactivation}
 use Rattle.exchange.specs.Question.{Question, asks, question, says}
 use Rattle.exchange.specs.Step.{Step, handled, lastAfter, step}
 use Rattle.exchange.specs.declared.table.Table.{Table}

@@ -223,7 +223,7 @@ module _ (q n s : ℕ) (sel : Selection) (address : Address) where
       let every = placesFrom (subscribedServices p) (length (servedNumbers p)) 0 in
       each-those (λ w. Unit {0}) (picks sel) every (each-any every)
 
-  stands-of : (p : Profile) → selected sel n s ≡ true → stands n s (placesOf p sel) ≡ hasPlace p n s
+  pub stands-of : (p : Profile) → selected sel n s ≡ true → stands n s (placesOf p sel) ≡ hasPlace p n s
   unfolding placesOf
   stands-of p h =
       let many = length (servedNumbers p) in

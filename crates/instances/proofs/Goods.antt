@@ -46,7 +46,7 @@ key-apart sel x y hx hy e =
 -- ---- the places of a profile, each with the address
 
 module _ (q : ℕ) where
-  abbrev placeKey : Place → ℕ
+  abbrev pub placeKey : Place → ℕ
   placeKey w = key q (w .number) (w .service)
 
   up-row :
@@ -57,7 +57,7 @@ module _ (q : ℕ) where
       let first = rising-first low code codes h in
       (key-more q a low code (first .above), up-row a code codes rest (omega (arith, service-most code (first .known))) (first .rest) u)
 
-  up-places :
+  pub up-places :
       (services : List ℕ) (many from : ℕ) → rising 0 services ≡ true →
       Up placeKey (key q from 0) (placesFrom services many from)
   unfolding placesFrom

@@ -5,6 +5,7 @@ pub mod Orders
 pub mod Placings
 pub mod Merged
 pub mod Puts
+pub mod Renewals
 pub mod Fits
 pub mod Keys
 pub mod Goods
@@ -13,3 +14,4 @@ pub mod Founds
 pub mod Listings
 pub mod Listeds
 pub mod Picked
+pub mod Renewed

@@ -27,6 +27,7 @@ use Rattle.instances.specs.declared.instance.Instance.{Instance}
 use Rattle.instances.specs.declared.instance.Selection.{Selection}
 use Rattle.instances.specs.declared.places.Place.{Place}
 use Rattle.instances.specs.declared.run.Run.{Run}
+use Rattle.instances.specs.declared.run.After.{After}
 use Rattle.instances.specs.declared.run.Found.{Found}
 
 -- the instances that a record counts
@@ -91,6 +92,15 @@ activatedAt sel address ws is = merged (map (instanceAt (sel .procedure) address
 abbrev pub activated : Profile → Selection → Address → List Instance → List Instance
 activated p sel address is = activatedAt sel address (placesOf p sel) is
 
+-- "replacing an older one": a selected instance gets the address where it stands
+abbrev pub renewed : Selection → Address → Instance → Instance
+renewed sel address x = pick (chosen sel x) (instanceOf (x .procedure) (x .number) (x .service) address) x
+
+-- whether as many instances are selected as places: then an activation of instances that break no rule only renews them
+-- (`activated-renewed`)
+abbrev pub renews : Profile → Selection → List Instance → Bool
+renews p sel is = eqb (length (listed sel is)) (length (placesOf p sel))
+
 -- ---- instances that break no rule
 
 -- "strictly ascending by the first three": each key is above the one before it, the first above `below`; no service has the code 0
@@ -141,9 +151,13 @@ abbrev pub Put : Profile → Selection → Address → Run → Run → Type 0
 Put p sel address run r = r ≡ packed (activated p sel address (instancesOf run))
 
 -- how many of the procedure there are after an activation: the places that are selected, and the instances that are not
--- (`count-activated`)
-abbrev pub CountAfter : Profile → Selection → Run → ℕ → Type 0
-CountAfter p sel run r = r ≡ length (placesOf p sel) + countOf (sel .procedure) (deactivated sel (instancesOf run))
+-- (`count-activated`); and whether it only renews
+pub record CountAfter (p : Profile) (sel : Selection) (run : Run) (r : After) : Type 0 where
+  pub count : r .count ≡ length (placesOf p sel) + countOf (sel .procedure) (deactivated sel (instancesOf run))
+  pub renews : r .renews ≡ renews p sel (instancesOf run)
+
+abbrev pub Renew : Selection → Address → Run → Run → Type 0
+Renew sel address run r = r ≡ packed (map (renewed sel address) (instancesOf run))
 
 -- a run that breaks no rule has no more than 8 of a procedure
 abbrev pub EntriesOf : Profile → Selection → Run → Entries → Type 0

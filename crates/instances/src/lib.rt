@@ -9,6 +9,7 @@ pub use instance::Selection;
 pub use instance::blank_instance;
 pub use instance::key_of;
 pub use places::stored;
+pub use run::After;
 pub use run::Found;
 pub use run::ROOM;
 pub use run::Run;

@@ -22,7 +22,7 @@ use numbers::blank_number;
 use profile::NUMBERS;
 use profile::Profile;
 ghost use mathlib.Core.Path.{_≡_};
-ghost use Rattle.instances.specs.Run.{servedNumber, FreshRun, FindsAddress, ChosenCount, Clear, Ordered, RunGood, Put, CountAfter, EntriesOf};
+ghost use Rattle.instances.specs.Run.{servedNumber, FreshRun, FindsAddress, ChosenCount, Clear, Ordered, RunGood, Put, Renew, CountAfter, EntriesOf};
 
 // The most instances: 8 for each procedure. A profile has no more places.
 pub const ROOM: usize = PROCEDURES * INSTANCESMOST;
@@ -38,6 +38,12 @@ pub struct Run {
 pub struct Found {
     pub ok: bool,
     pub address: Address,
+}
+
+// How many instances of a procedure there are after an activation; `renews` where as many are selected as places.
+pub struct After {
+    pub count: usize,
+    pub renews: bool,
 }
 
 // A run that holds nothing.
@@ -259,23 +265,56 @@ impl Run {
         next
     }
 
-    // How many instances of the procedure there are after an activation.
-    pub fn count_after(self, p: Profile, sel: Selection) -> usize
-        ensures { λ r. ⌜ CountAfter p sel self r ⌝ }
+    // Each selected instance gets the address where it stands.
+    pub fn renew(self, sel: Selection, address: Address) -> Run
+        ensures { λ r. ⌜ Renew sel address self r ⌝ }
     {
+        let none = blank_instance();
         let n = stored(self.count, ROOM);
-        let mut k = places_count(p, sel);
+        let mut next = self;
         let mut i: usize = 0;
-        while i < n {
-            let x = self.run[i];
-            if is_concerned(sel, x.procedure) {
-                if !is_chosen(sel, x) {
-                    k += 1;
+        while i < ROOM {
+            if i < n {
+                let x = next.run[i];
+                if is_chosen(sel, x) {
+                    next.run[i] = Instance {
+                        procedure: x.procedure,
+                        number: x.number,
+                        service: x.service,
+                        address,
+                    };
                 }
+            } else {
+                next.run[i] = none;
             }
             i += 1;
         }
-        k
+        next.count = n as u8;
+        next
+    }
+
+    // How many instances of the procedure there are after an activation, and whether it only renews those that are selected.
+    pub fn count_after(self, p: Profile, sel: Selection) -> After
+        ensures { λ r. ⌜ CountAfter p sel self r ⌝ }
+    {
+        let n = stored(self.count, ROOM);
+        let places = places_count(p, sel);
+        let mut found: usize = 0;
+        let mut others: usize = 0;
+        let mut i: usize = 0;
+        while i < n {
+            let x = self.run[i];
+            if is_chosen(sel, x) {
+                found += 1;
+            } else if is_concerned(sel, x.procedure) {
+                others += 1;
+            }
+            i += 1;
+        }
+        After {
+            count: places + others,
+            renews: found == places,
+        }
     }
 
     // The selected instances, in order.

@@ -25,7 +25,8 @@ use Rattle.instances.specs.declared.instance.Selection.{Selection}
 use Rattle.rules.specs.Selection.{selectionOf}
 use Rattle.rules.specs.Judge.{firstError, everyTests, afterwards, judge, changed}
 use Rattle.rules.proofs.Selections.{selection-procedure}
-use Rattle.rules.proofs.Judges.{count-afterwards, judge-fails, judge-rest, changed-activation, changed-deactivation, changed-other, changed-ind}
+use Rattle.rules.proofs.Judges.{count-afterwards, judge-fails, judge-rest}
+use Rattle.rules.proofs.Changes.{changed-activation, changed-deactivation, changed-other, changed-ind}
 use Rattle.forms.proofs.Fits.{tidyInstance}
 use Rattle.promise.proofs.DemandLists as L
 use Rattle.promise.proofs.DemandLists.{heldOf}

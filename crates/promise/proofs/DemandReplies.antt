@@ -27,7 +27,7 @@ use Rattle.instances.specs.declared.run.Run.{Run}
 use Rattle.instances.proofs.Runs.{packed-all}
 use Rattle.instances.proofs.Goods.{good-short, run-good}
 use Rattle.rules.specs.Judge.{applied, changed}
-use Rattle.rules.proofs.Judges.{applied-changes}
+use Rattle.rules.proofs.Changes.{applied-changes}
 use Rattle.answers.specs.Reply.{reply}
 use Rattle.answers.specs.declared.reply.Reply.{Reply}
 use Rattle.answers.specs.declared.reply.Reply.the-variants.{Dropped, Rejected, Failed, Done, Listed, Wrong}

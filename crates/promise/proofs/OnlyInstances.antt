@@ -1,6 +1,6 @@
 -- Each promise of the crate instances admits one answer, and one lent output afterwards. Assumes nothing.
 use Prim.Native.Nat.{ℕ}
-use mathlib.Core.Path.{_≡_}
+use mathlib.Core.Path.{_≡_, ap, _∙_}
 use mathlib.Core.Bool.{Bool}
 use mathlib.Core.List.{List}
 use lib.IntN.{ℤ}
@@ -11,10 +11,11 @@ use Rattle.profile.specs.declared.profile.Profile.{Profile}
 use Rattle.lists.specs.declared.entries.Entries.{Entries}
 use Rattle.instances.specs.Instance.{KeyOf, BlankInstance}
 use Rattle.instances.specs.Places.{Stored}
-use Rattle.instances.specs.Run.{FreshRun, FindsAddress, ChosenCount, Clear, Ordered, RunGood, Put, CountAfter, EntriesOf, PutListed}
+use Rattle.instances.specs.Run.{FreshRun, FindsAddress, ChosenCount, Clear, Ordered, RunGood, Put, Renew, CountAfter, EntriesOf, PutListed}
 use Rattle.instances.specs.declared.instance.Instance.{Instance}
 use Rattle.instances.specs.declared.instance.Selection.{Selection}
 use Rattle.instances.specs.declared.run.Run.{Run}
+use Rattle.instances.specs.declared.run.After.{After}
 use Rattle.instances.specs.declared.run.Found.{Found}
 
 pub only-blank-instance : {a b : Instance} → BlankInstance a → BlankInstance b → a ≡ b
@@ -47,9 +48,18 @@ pub only-put :
     a ≡ b
 only-put p sel address run = both
 
+pub only-renew :
+    (sel : Selection) (address : Address) (run : Run) {a b : Run} → Renew sel address run a → Renew sel address run b → a ≡ b
+only-renew sel address run = both
+
+abbrev afterOf : ℕ → Bool → After
+afterOf count renews = record { count = count; renews = renews }
+
 pub only-count-after :
-    (p : Profile) (sel : Selection) (run : Run) {a b : ℕ} → CountAfter p sel run a → CountAfter p sel run b → a ≡ b
-only-count-after p sel run = both
+    (p : Profile) (sel : Selection) (run : Run) {a b : After} → CountAfter p sel run a → CountAfter p sel run b → a ≡ b
+only-count-after p sel run {a = a} {b = b} h k =
+    ap (λ (n : ℕ). afterOf n (a .renews)) (both (h .count) (k .count))
+    ∙ ap (λ (only : Bool). afterOf (b .count) only) (both (h .renews) (k .renews))
 
 pub only-entries :
     (p : Profile) (sel : Selection) (run : Run) {a b : Entries} → EntriesOf p sel run a → EntriesOf p sel run b → a ≡ b

@@ -7,7 +7,7 @@ use Rattle.requests.specs.declared.request.Request.{Request}
 use Rattle.instances.specs.declared.instance.Selection.{Selection}
 use Rattle.instances.specs.declared.run.Run.{Run}
 use Rattle.rules.specs.Selection.{SelectionOf}
-use Rattle.rules.specs.Judge.{JudgeRequest, ApplyRequest}
+use Rattle.rules.specs.Judge.{JudgeRequest, ApplyRequest, RenewRequest}
 use Rattle.rules.specs.declared.verdict.Verdict.{Verdict}
 use Rattle.rules.proofs.Judges.{verdict-same}
 
@@ -18,10 +18,14 @@ pub only-judge-request :
     (p : Profile) (operation : ℕ) (r : Request) (run : Run) {a b : Verdict} → JudgeRequest p operation r run a →
     JudgeRequest p operation r run b →
     a ≡ b
-only-judge-request p operation r run {a = a} {b = b} h k = verdict-same a b (both h k)
+only-judge-request p operation r run {a = a} {b = b} h k = verdict-same a b h k
 
 pub only-apply-request :
     (p : Profile) (operation : ℕ) (r : Request) (run : Run) {a b : Run} → ApplyRequest p operation r run a →
     ApplyRequest p operation r run b →
     a ≡ b
 only-apply-request p operation r run = both
+
+pub only-renew-request :
+    (p : Profile) (r : Request) (run : Run) {a b : Run} → RenewRequest p r run a → RenewRequest p r run b → a ≡ b
+only-renew-request p r run = both

@@ -4,34 +4,30 @@ use mathlib.Core.Path.{_≡_, refl, sym, ap, subst, _∙_}
 use mathlib.Core.Bool.{Bool, true, false, not, false≢true}
 use mathlib.Core.List.{List, [], _∷_, _++_}
 use mathlib.Core.Option.{Option, none, some}
-use mathlib.Core.Logic.{_⊎_, ⊎-elim}
 use native.Mathlib.Omega.{arith}
 use lib.ListN.{length, getD, List·getD-eq-default}
 use lib.Dec.{ltb, eqb}
 use borrow.Author.Tests.{eq-eqb, ne-eqb, eqb-true, eqb-false, leb-true, ltb-true}
 use Rattle.laws.specs.Pick.{pick}
-use Rattle.laws.specs.Tests.{any, Test}
-use Rattle.laws.proofs.Picks.{pick-ind, pick-then, pick-map, pick-first, not-passed}
+use Rattle.laws.specs.Tests.{Test}
+use Rattle.laws.proofs.Picks.{pick-ind, pick-then, pick-last, pick-map, pick-first, not-passed}
 use Rattle.codes.specs.Codes.{activation, deactivation}
 use Rattle.numbers.specs.Number.{other, digitsOf}
-use Rattle.numbers.specs.Address.{addressGood}
 use Rattle.numbers.specs.declared.number.Number.{Number}
 use Rattle.profile.specs.Profile.{servedNumbers, barred}
 use Rattle.profile.specs.declared.profile.Profile.{Profile}
-use Rattle.profile.proofs.Profiles.{GoodProfile}
 use Rattle.requests.specs.declared.request.Request.{Request}
-use Rattle.instances.specs.Run.{instancesOf, packed, listed, countOf, deactivated, activated}
+use Rattle.instances.specs.Run.{listed, countOf, deactivated, activated, renews}
 use Rattle.instances.specs.Places.{placesOf}
 use Rattle.instances.specs.declared.instance.Instance.{Instance}
 use Rattle.instances.specs.declared.instance.Selection.{Selection}
-use Rattle.instances.specs.declared.run.Run.{Run}
+use Rattle.instances.specs.declared.run.After.{After}
 use Rattle.instances.proofs.Counts.{count-activated}
-use Rattle.instances.proofs.Goods.{GoodList, cleared-good, activated-good}
 use Rattle.rules.specs.Prefix.{beginsAny}
 use Rattle.rules.specs.Selection.{numberAsked, selectionOf}
 use Rattle.rules.specs.Judge.{firstError, verdictNo, notInUse, isSubscribed, servedInvalid, notProvided, userSpecified, otherKind}
 use Rattle.rules.specs.Judge.{selectedSame, fits, afterwards, everyTests, activationTests, deactivationTests, testsOf, judge}
-use Rattle.rules.specs.Judge.{changed, applied}
+use Rattle.rules.specs.Judge.{renewsBy, passing, onlyRenews, JudgedBy}
 use Rattle.rules.specs.declared.verdict.Verdict.{Verdict}
 use Rattle.rules.specs.declared.verdict.Verdict.the-variants.{Passes, Fails}
 use Rattle.rules.proofs.Selections.{selection-procedure, selection-number}
@@ -83,18 +79,35 @@ first-small (t ∷ ts) h =
 
 -- ---- verdicts
 
--- the verdict of an error or none
-abbrev verdictBy : Option ℕ → Verdict
-verdictBy none = Passes
-verdictBy (some error) = Fails error
+-- the verdict of an error or none, and of whether it renews
+abbrev verdictBy : Option ℕ → Bool → Verdict
+verdictBy none renews = Passes renews
+verdictBy (some error) renews = Fails error
 
-verdict-by : (v : Verdict) → verdictBy (verdictNo v) ≡ v
-verdict-by Passes = refl
+verdict-by : (v : Verdict) → verdictBy (verdictNo v) (renewsBy v) ≡ v
+verdict-by (Passes renews) = refl
 verdict-by (Fails error) = refl
 
--- verdicts of the same number are the same
-pub verdict-same : (a b : Verdict) → verdictNo a ≡ verdictNo b → a ≡ b
-verdict-same a b h = sym (verdict-by a) ∙ ap verdictBy h ∙ verdict-by b
+-- verdicts of the same error, which renew alike, are the same
+pub verdict-same : {error : Option ℕ} {renews : Bool} (a b : Verdict) → JudgedBy error renews a → JudgedBy error renews b → a ≡ b
+verdict-same a b h k =
+    sym (verdict-by a)
+    ∙ rw (h .verdict ∙ sym (k .verdict), h .renewal ∙ sym (k .renewal)) (verdict-by b)
+
+-- the two cases
+pub judged-fails : (error : ℕ) (renews : Bool) → JudgedBy (some error) renews (Fails error)
+judged-fails error renews = record { verdict = refl; renewal = refl }
+
+pub judged-passes : (renews : Bool) → JudgedBy none renews (Passes renews)
+judged-passes renews = record { verdict = refl; renewal = refl }
+
+-- what passes has no error, and tells whether it renews
+pub passes-none :
+    (error : Option ℕ) (renews : Bool) (v : Verdict) → JudgedBy error renews v → (b : Bool) → v ≡ Passes b →
+    (error ≡ none) × (b ≡ renews)
+passes-none error renews v h b is =
+    let free : error ≡ none = sym (h .verdict) ∙ ap verdictNo is in
+    (free, ap renewsBy (sym is) ∙ h .renewal ∙ ap (λ e. passing e renews) free)
 
 -- ---- the tests, as the code makes them
 
@@ -183,12 +196,28 @@ module _ (most : ℕ) (p : Profile) (operation : ℕ) (r : Request) (is : List I
       (λ _. refl)
       (λ _. pick-ind (λ ts. small ts ≡ true) (eqb operation deactivation) (λ _. refl) (λ _. refl))))
 
+-- no other operation renews
+pub renews-other :
+    (p : Profile) (operation : ℕ) (r : Request) (is : List Instance) → (operation ≡ activation → ⊥) →
+    onlyRenews p operation r is ≡ false
+unfolding onlyRenews
+renews-other p operation r is activates = rw (ne-eqb operation activation activates)
+
+-- and what renews is an activation of as many instances as places
+pub renews-only :
+    (p : Profile) (operation : ℕ) (r : Request) (is : List Instance) → onlyRenews p operation r is ≡ true →
+    (operation ≡ activation) × (renews p (selectionOf p r) is ≡ true)
+unfolding onlyRenews
+renews-only p operation r is h =
+    let both = pick-then (eqb operation activation) (pick (renews p (selectionOf p r) is) true false) h in
+    (eqb-true operation activation (both .0), sym (pick-last (renews p (selectionOf p r) is)) ∙ both .1)
+
 -- the tests of an operation as the code makes them, by a selection that is the request's
 module _
     (most : ℕ) (p : Profile) (operation : ℕ) (r : Request) (is : List Instance) (sel : Selection)
     (every : firstError (everyTests p r) ≡ none) (same : sel ≡ selectionOf p r)
   where
-    pub judge-put :
+    judge-put :
         (after : ℕ) → operation ≡ activation →
         after ≡ length (placesOf p sel) + countOf (sel .procedure) (deactivated sel is) →
         firstError (activationTests most p r (sel .number) after) ≡ judge most p operation r is
@@ -200,7 +229,19 @@ module _
           count-afterwards p r is sel same after e,
         )
 
-    pub judge-clear :
+    -- and whether it renews
+    pub judged-put :
+        (after : After) → operation ≡ activation →
+        after .count ≡ length (placesOf p sel) + countOf (sel .procedure) (deactivated sel is) →
+        after .renews ≡ renews p sel is →
+        (v : Verdict) → JudgedBy (firstError (activationTests most p r (sel .number) (after .count))) (after .renews) v →
+        JudgedBy (judge most p operation r is) (onlyRenews p operation r is) v
+    unfolding onlyRenews
+    judged-put after activates e n v h =
+        let same-renews : after .renews ≡ renews p (selectionOf p r) is = n ∙ ap (λ (x : Selection). renews p x is) same in
+        rw (← judge-put (after .count) activates e, eq-eqb operation activation activates, ← same-renews, pick-last (after .renews)) h
+
+    judge-clear :
         (count : ℕ) → (operation ≡ activation → ⊥) → operation ≡ deactivation → count ≡ length (listed sel is) →
         firstError (deactivationTests count) ≡ judge most p operation r is
     judge-clear count activates deactivates e =
@@ -210,6 +251,13 @@ module _
           eq-eqb operation deactivation deactivates,
           e ∙ ap (λ (x : Selection). length (listed x is)) same,
         )
+
+    pub judged-clear :
+        (count : ℕ) → (operation ≡ activation → ⊥) → operation ≡ deactivation → count ≡ length (listed sel is) →
+        (v : Verdict) → JudgedBy (firstError (deactivationTests count)) false v →
+        JudgedBy (judge most p operation r is) (onlyRenews p operation r is) v
+    judged-clear count activates deactivates e v h =
+        rw (← judge-clear count activates deactivates e, renews-other p operation r is activates) h
 
 module _ (most : ℕ) (p : Profile) (r : Request) (is : List Instance) where
   pub record ActivationPasses : Type 0 where
@@ -257,103 +305,3 @@ module _ (most : ℕ) (p : Profile) (r : Request) (is : List Instance) where
       let b : Bool = eqb active 0 in
       let e : pick {A = Option ℕ} b (some 46) none ≡ some 46 = sym (judge-rest most p deactivation r is every) ∙ h in
       eqb-true active 0 (pick-first {A = Option ℕ} b (some 46) none (λ q. apart 46 (sym q ∙ e)))
-
--- ---- what the instances become
-
-module _ (p : Profile) (r : Request) (is : List Instance) where
-  pub changed-activation : changed p activation r is ≡ activated p (selectionOf p r) (r .to .address) is
-  unfolding changed
-  changed-activation = refl
-
-  pub changed-deactivation : changed p deactivation r is ≡ deactivated (selectionOf p r) is
-  unfolding changed
-  changed-deactivation = refl
-
-  pub changed-other :
-      (operation : ℕ) → (operation ≡ activation → ⊥) → (operation ≡ deactivation → ⊥) →
-      changed p operation r is ≡ is
-  unfolding changed
-  changed-other operation activates deactivates = rw (ne-eqb _ _ activates, ne-eqb _ _ deactivates)
-
-  -- what holds after an activation, after a deactivation and of the instances as they were holds of what they become
-  pub changed-ind :
-      (P : List Instance → Type 0) (operation : ℕ) →
-      (operation ≡ activation → P (activated p (selectionOf p r) (r .to .address) is)) →
-      (operation ≡ deactivation → P (deactivated (selectionOf p r) is)) →
-      P is →
-      P (changed p operation r is)
-  unfolding changed
-  changed-ind P operation puts clears stays =
-      pick-ind P (eqb operation activation) (λ e. puts (eqb-true operation activation e)) (λ _.
-      pick-ind P (eqb operation deactivation) (λ e. clears (eqb-true operation deactivation e)) (λ _. stays))
-
--- the limit, of the procedure of the selection
-afterwards-few :
-    (p : Profile) (r : Request) (is : List Instance) (most : ℕ) → afterwards p r is ≤ most →
-    countOf (selectionOf p r .procedure) (activated p (selectionOf p r) (r .to .address) is) ≤ most
-unfolding afterwards
-afterwards-few p r is most h =
-    let ends : List Instance = activated p (selectionOf p r) (r .to .address) is in
-    subst (λ (q : ℕ). countOf q ends ≤ most) (sym (selection-procedure p r)) h
-
--- good instances stay good where the request passes
-pub changed-good :
-    (most : ℕ) (p : Profile) (operation : ℕ) (r : Request) (is : List Instance) → GoodProfile p → r .procedure < 3 →
-    judge most p operation r is ≡ none → (operation ≡ activation → addressGood (r .to .address) ≡ true) →
-    GoodList p most is → GoodList p most (changed p operation r is)
-changed-good most p operation r is profile three passes address good =
-    let sel = selectionOf p r in
-    let flag = subscribed-flag p (r .procedure) (judge-subscribed most p operation r is passes .subscribed) in
-    let subscribes : getD (p .subscribed) (r .procedure) 0 ≡ 1 = omega (arith, profile .flags (r .procedure) three, flag) in
-    changed-ind p r is (GoodList p most) operation
-    (λ e.
-    let told = judge-activation most p r is (rw e at passes) in
-    activated-good p profile sel (r .to .address) (rw (selection-procedure p r) three) (rw (selection-procedure p r) subscribes)
-    (address e) most is good (afterwards-few p r is most (told .room)))
-    (λ _. cleared-good p sel most is good)
-    good
-
--- ---- and their record
-
-module _ (p : Profile) (operation : ℕ) (r : Request) (run : Run) where
-  pub applied-changes :
-      (operation ≡ activation) ⊎ (operation ≡ deactivation) →
-      applied p operation r run ≡ packed (changed p operation r (instancesOf run))
-  unfolding applied
-  applied-changes h =
-      ⊎-elim
-      (λ e. rw (eq-eqb operation activation e))
-      (λ e. rw (ne-eqb operation activation (λ other. omega (arith, e, other)), eq-eqb operation deactivation e))
-      h
-
-  pub applied-other :
-      (operation ≡ activation → ⊥) → (operation ≡ deactivation → ⊥) → applied p operation r run ≡ run
-  unfolding applied
-  applied-other activates deactivates = rw (ne-eqb _ _ activates, ne-eqb _ _ deactivates)
-
-  -- what holds of the record of the changed instances and of the record as it was holds of what it becomes
-  pub applied-ind :
-      (P : Run → Type 0) → P (packed (changed p operation r (instancesOf run))) → P run → P (applied p operation r run)
-  unfolding applied
-  applied-ind P changes stays =
-      pick-ind P (any (eqb operation activation ∷ eqb operation deactivation ∷ [])) (λ _. changes) (λ _. stays)
-
-  -- as the code makes it, by a selection that is the request's
-  module _ (next : Run) (sel : Selection) (same : sel ≡ selectionOf p r) where
-    pub put-applied :
-        operation ≡ activation → next ≡ packed (activated p sel (r .to .address) (instancesOf run)) →
-        next ≡ applied p operation r run
-    unfolding applied changed
-    put-applied activates e =
-        e
-        ∙ ap (λ (x : Selection). packed (activated p x (r .to .address) (instancesOf run))) same
-        ∙ rw (eq-eqb operation activation activates)
-
-    pub clear-applied :
-        (operation ≡ activation → ⊥) → operation ≡ deactivation → next ≡ packed (deactivated sel (instancesOf run)) →
-        next ≡ applied p operation r run
-    unfolding applied changed
-    clear-applied activates deactivates e =
-        e
-        ∙ ap (λ (x : Selection). packed (deactivated x (instancesOf run))) same
-        ∙ rw (ne-eqb operation activation activates, eq-eqb operation deactivation deactivates)

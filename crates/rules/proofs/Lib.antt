@@ -2,5 +2,6 @@ pub mod Selections
 pub mod TestLaws
 pub mod SelectedSames
 pub mod Judges
+pub mod Changes
 pub mod Begins
 pub mod Tidied

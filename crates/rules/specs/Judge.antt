@@ -3,7 +3,7 @@
 use Prim.Native.Nat.{ℕ, _+_}
 use mathlib.Core.Path.{_≡_}
 use mathlib.Core.Bool.{Bool, false, not}
-use mathlib.Core.List.{List, [], _∷_, _++_}
+use mathlib.Core.List.{List, [], _∷_, _++_, map}
 use mathlib.Core.Option.{Option, none, some}
 use lib.ListN.{length, getD}
 use lib.Dec.{ltb, leb, eqb}
@@ -18,7 +18,7 @@ use Rattle.profile.specs.declared.profile.Profile.{Profile}
 use Rattle.requests.specs.declared.request.Request.{Request}
 use Rattle.lists.specs.Entries.{instancesMost}
 use Rattle.instances.specs.Instance.{everyNumber, named}
-use Rattle.instances.specs.Run.{instancesOf, packed, listed, countOf, deactivated, activated}
+use Rattle.instances.specs.Run.{instancesOf, packed, listed, countOf, deactivated, activated, renewed, renews}
 use Rattle.instances.specs.declared.instance.Instance.{Instance}
 use Rattle.instances.specs.declared.run.Run.{Run}
 use Rattle.rules.specs.Selection.{numberAsked, selectionOf}
@@ -31,8 +31,18 @@ firstError tests = first tests some none
 
 -- a verdict: it passes, or the number of the error that it earns
 abbrev pub verdictNo : Verdict → Option ℕ
-verdictNo Passes = none
+verdictNo (Passes renews) = none
 verdictNo (Fails error) = some error
+
+-- and whether it says that the request only renews instances
+abbrev pub renewsBy : Verdict → Bool
+renewsBy (Passes renews) = renews
+renewsBy (Fails error) = false
+
+-- a request that earns an error renews nothing
+abbrev pub passing : Option ℕ → Bool → Bool
+passing none renews = renews
+passing (some error) renews = false
 
 -- ---- the tests of every request
 
@@ -146,10 +156,24 @@ applied p operation r run =
     (packed (changed p operation r (instancesOf run)))
     run
 
+-- whether a request that passes only renews instances
+unfoldable pub onlyRenews : Profile → ℕ → Request → List Instance → Bool
+onlyRenews p operation r is = all (eqb operation activation ∷ renews p (selectionOf p r) is ∷ [])
+
+-- the verdict of an error or none, and whether the request renews where there is none
+pub record JudgedBy (error : Option ℕ) (renews : Bool) (v : Verdict) : Type 0 where
+  pub verdict : verdictNo v ≡ error
+  pub renewal : renewsBy v ≡ passing error renews
+
 -- what `judge_request` promises
 abbrev pub JudgeRequest : Profile → ℕ → Request → Run → Verdict → Type 0
-JudgeRequest p operation r run v = verdictNo v ≡ judge instancesMost p operation r (instancesOf run)
+JudgeRequest p operation r run v =
+    JudgedBy (judge instancesMost p operation r (instancesOf run)) (onlyRenews p operation r (instancesOf run)) v
 
 -- what `apply_request` promises
 abbrev pub ApplyRequest : Profile → ℕ → Request → Run → Run → Type 0
 ApplyRequest p operation r run next = next ≡ applied p operation r run
+
+-- what `renew_request` promises: where it only renews instances that break no rule, that is what they become (`renew-applied`)
+abbrev pub RenewRequest : Profile → Request → Run → Run → Type 0
+RenewRequest p r run next = next ≡ packed (map (renewed (selectionOf p r) (r .to .address)) (instancesOf run))

@@ -9,13 +9,15 @@ use crate::verdict::Verdict;
 use codes::ACTIVATION;
 use codes::DEACTIVATION;
 use codes::PROCEDURES;
+use instances::After;
 use instances::Run;
 use lists::INSTANCESMOST;
 use profile::Profile;
 use requests::Request;
 ghost use mathlib.Core.Path.{_≡_};
+ghost use mathlib.Core.Bool.{false};
 ghost use Rattle.lists.specs.Entries.{instancesMost};
-ghost use Rattle.rules.specs.Judge.{isSubscribed, fits, firstError, verdictNo, everyTests, activationTests, deactivationTests, JudgeRequest, ApplyRequest};
+ghost use Rattle.rules.specs.Judge.{isSubscribed, fits, firstError, verdictNo, everyTests, activationTests, deactivationTests, JudgedBy, JudgeRequest, ApplyRequest, RenewRequest};
 
 // Whether the profile has the procedure.
 fn is_subscribed(p: Profile, procedure: u8) -> bool
@@ -41,7 +43,7 @@ fn judge_every(p: Profile, r: Request) -> Verdict
     if served_invalid(p, r) {
         return Verdict::Fails { error: 6 };
     }
-    Verdict::Passes
+    Verdict::Passes { renews: false }
 }
 
 // Whether so many instances of a procedure may be.
@@ -51,9 +53,9 @@ fn fits(p: Profile, count: usize) -> bool
     count <= INSTANCESMOST
 }
 
-// The tests of an activation that selects the number `asked`, or all, and leaves `after` instances of its procedure.
-fn judge_activation(p: Profile, r: Request, asked: u8, after: usize) -> Verdict
-    ensures { λ v. ⌜ verdictNo v ≡ firstError (activationTests instancesMost p r asked after) ⌝ }
+// The tests of an activation that selects the number `asked`, or all, and after which there are so many instances of its procedure.
+fn judge_activation(p: Profile, r: Request, asked: u8, after: After) -> Verdict
+    ensures { λ v. ⌜ JudgedBy (firstError (activationTests instancesMost p r asked (after .count))) (after .renews) v ⌝ }
 {
     if not_provided(p, r) {
         return Verdict::Fails { error: 8 };
@@ -72,20 +74,22 @@ fn judge_activation(p: Profile, r: Request, asked: u8, after: usize) -> Verdict
     if selected_same(p, asked, number) {
         return Verdict::Fails { error: 15 };
     }
-    if !fits(p, after) {
+    if !fits(p, after.count) {
         return Verdict::Fails { error: 11 };
     }
-    Verdict::Passes
+    Verdict::Passes {
+        renews: after.renews,
+    }
 }
 
 // The test of a deactivation of so many instances.
 fn judge_deactivation(count: usize) -> Verdict
-    ensures { λ v. ⌜ verdictNo v ≡ firstError (deactivationTests count) ⌝ }
+    ensures { λ v. ⌜ JudgedBy (firstError (deactivationTests count)) false v ⌝ }
 {
     if count == 0 {
         return Verdict::Fails { error: 46 };
     }
-    Verdict::Passes
+    Verdict::Passes { renews: false }
 }
 
 // The first test that holds decides.
@@ -94,7 +98,7 @@ pub fn judge_request(p: Profile, operation: u8, r: Request, run: Run) -> Verdict
 {
     match judge_every(p, r) {
         Verdict::Fails { error } => Verdict::Fails { error },
-        Verdict::Passes => {
+        Verdict::Passes { renews: _ } => {
             let sel = selection_of(p, r);
             if operation == ACTIVATION {
                 let after = run.count_after(p, sel);
@@ -104,7 +108,7 @@ pub fn judge_request(p: Profile, operation: u8, r: Request, run: Run) -> Verdict
                 let count = run.chosen_count(sel);
                 return judge_deactivation(count);
             }
-            Verdict::Passes
+            Verdict::Passes { renews: false }
         }
     }
 }
@@ -124,4 +128,14 @@ pub fn apply_request(p: Profile, operation: u8, r: Request, run: Run) -> Run
         return run.clear(sel);
     }
     run
+}
+
+// What the instances become where an activation only renews them, each where it stands.
+pub fn renew_request(p: Profile, r: Request, run: Run) -> Run
+    ensures { λ next. ⌜ RenewRequest p r run next ⌝ }
+{
+    let sel = selection_of(p, r);
+    let to = r.to;
+    let address = to.address;
+    run.renew(sel, address)
 }

@@ -7,5 +7,6 @@ mod verdict;
 
 pub use judge::apply_request;
 pub use judge::judge_request;
+pub use judge::renew_request;
 pub use selection::selection_of;
 pub use verdict::Verdict;

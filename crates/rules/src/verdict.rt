@@ -1,6 +1,6 @@
-// Whether a request may be applied, or the error that it earns.
+// Whether a request may be applied, or the error that it earns; `renews` of an activation that makes no further instance.
 
 pub enum Verdict {
-    Passes,
+    Passes { renews: bool },
     Fails { error: u8 },
 }

@@ -1,4 +1,4 @@
-use Rattle.rules.proofs.Judges.{put-applied, clear-applied, applied-other}
+use Rattle.rules.proofs.Changes.{put-applied, clear-applied, applied-other}
 use borrow.Author.Needs.{needs}
 use mathlib.Core.Path.{sym}
 use Rattle.rules.proofs.judge.apply_request.Statement.{statement}

@@ -1,5 +1,5 @@
 use Rattle.rules.specs.Judge.{verdictNo}
-use Rattle.rules.proofs.Judges.{judge-fails, judge-put, judge-clear, judge-interrogation}
+use Rattle.rules.proofs.Judges.{judged-fails, judged-passes, judged-put, judged-clear, renews-other, judge-fails, judge-interrogation}
 use Rattle.lists.specs.Entries.{instancesMost}
 use Rattle.instances.specs.Run.{instancesOf}
 use borrow.Author.Needs.{needs}
@@ -31,9 +31,9 @@ returns c =
     let every = sel .before .before .before in
     let s = every .before .args in
     let passes = sym (every .judge-every .ensures) ∙ ap verdictNo (sel .before .enum-told .given .1) in
-    c .judge-activation .ensures
-    ∙ judge-put instancesMost (s .p) (s .operation) (s .r) (instancesOf (s .run)) (sel .selection-of .result) passes
-    (sel .selection-of .ensures) (c .before .count-after .result) (c .before .before .if1 .taken) (c .before .count-after .ensures)
+    judged-put instancesMost (s .p) (s .operation) (s .r) (instancesOf (s .run)) (sel .selection-of .result) passes
+    (sel .selection-of .ensures) (c .before .count-after .result) (c .before .before .if1 .taken) (c .before .count-after .ensures .count)
+    (c .before .count-after .ensures .renews) _ (c .judge-activation .ensures)
 
 chosen-count-requires : tie.Need-chosen-count-requires
 chosen-count-requires c κs = search needs
@@ -48,17 +48,16 @@ returns-2 c =
     let every = sel .before .before .before in
     let s = every .before .args in
     let passes = sym (every .judge-every .ensures) ∙ ap verdictNo (sel .before .enum-told .given .1) in
-    c .judge-deactivation .ensures
-    ∙ judge-clear instancesMost (s .p) (s .operation) (s .r) (instancesOf (s .run)) (sel .selection-of .result) passes
+    judged-clear instancesMost (s .p) (s .operation) (s .r) (instancesOf (s .run)) (sel .selection-of .result) passes
     (sel .selection-of .ensures) (c .before .chosen-count .result) (off .before .if1 .left) (off .if2 .taken)
-    (c .before .chosen-count .ensures)
+    (c .before .chosen-count .ensures) _ (c .judge-deactivation .ensures)
 
 returns-3 : tie.Need-returns-3
 returns-3 c =
     let every = c .before .before .before in
     let s = every .before .args in
     let fails = sym (every .judge-every .ensures) ∙ ap verdictNo (c .before .error .given .1) in
-    sym (judge-fails instancesMost (s .p) (s .operation) (s .r) (instancesOf (s .run)) _ fails)
+    rw (judge-fails instancesMost (s .p) (s .operation) (s .r) (instancesOf (s .run)) _ fails) (judged-fails _ _)
 
 returns-4 : tie.Need-returns-4
 returns-4 c =
@@ -66,8 +65,8 @@ returns-4 c =
     let every = sel .before .before .before in
     let s = every .before .args in
     let passes = sym (every .judge-every .ensures) ∙ ap verdictNo (sel .before .enum-told .given .1) in
-    sym (judge-interrogation instancesMost (s .p) (s .operation) (s .r) (instancesOf (s .run))
-    (c .before .if1 .left) (c .if2 .left) ∙ passes)
+    rw (judge-interrogation instancesMost (s .p) (s .operation) (s .r) (instancesOf (s .run)) (c .before .if1 .left) (c .if2 .left) ∙ passes)
+    (rw (renews-other (s .p) (s .operation) (s .r) (instancesOf (s .run)) (c .before .if1 .left)) (judged-passes _))
 
 pub judge-request-spec : {M : Type 1} → statement M
 judge-request-spec =

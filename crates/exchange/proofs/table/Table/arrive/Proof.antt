@@ -1,11 +1,13 @@
 use Rattle.exchange.proofs.Arrivals.{done-short, done-long, done-profile, done-table, refused-arrives}
-use Rattle.exchange.proofs.Arrivals.{says-arrives, fails-arrives, lists-arrives, changes-arrives}
+use Rattle.exchange.proofs.Arrivals.{says-arrives, fails-arrives, lists-arrives, changes-arrives, renews-applied}
 use Rattle.exchange.proofs.Tables.{table-over, table-run}
 use Rattle.refusals.specs.declared.refusal.Refusal.the-variants.{ShortOutput, LongComponent, BadProfile, BadTable}
 use Rattle.lists.specs.Entries.{instancesMost}
+use Rattle.rules.specs.Judge.{applied}
 use Rattle.profile.specs.declared.access.AccessRead.{AccessRead}
 use lib.ListN.{length}
-use mathlib.Core.Path.{sym, ap, _∙_}
+use mathlib.Core.Path.{_≡_, sym, ap, _∙_}
+use mathlib.Core.Logic.{⊎-elim}
 use mir.Facts.{toZ-ofZ}
 use mir.Syntax.{w16}
 use mir.Val.{SFits}
@@ -60,8 +62,8 @@ put-answer-requires-2 c κs = search needs
 answers-requires-2 : tie.Need-answers-requires-2
 answers-requires-2 c κs = search needs
 
-enum-told : tie.Need-enum-told
-enum-told c = search needs
+enum-known-renews : tie.Need-enum-known-renews
+enum-known-renews c = search needs
 
 selection-of-requires : tie.Need-selection-of-requires
 selection-of-requires c κs = search needs
@@ -71,6 +73,9 @@ put-listed-requires c κs = search needs
 
 answers-requires-3 : tie.Need-answers-requires-3
 answers-requires-3 c κs = search needs
+
+renew-request-requires : tie.Need-renew-request-requires
+renew-request-requires c κs = search needs
 
 apply-request-requires : tie.Need-apply-request-requires
 apply-request-requires c κs = search needs
@@ -155,7 +160,7 @@ returns-7 c =
     (k .before .before .before .if4 .left) (sym (k .before .before .good2 .ensures) ∙ not-false _ (k .before .if5 .left))
     (k .question-of .result) (k .question-of .ensures) _ _
     (not-false _ (c .before .before .before .before .before .before .before .before .before .before .before .before .if6 .left)) _ (rw (toZ-ofZ id) at (c .before .before .before .before .before .before .before .before .before .last-after .ensures))
-    _ (c .before .before .before .before .before .before .before .before .judge-request .ensures) _ (c .before .before .before .before .before .before .error .given .1)
+    _ (c .before .before .before .before .before .before .before .before .judge-request .ensures .verdict) _ (c .before .before .before .before .before .before .error .given .1)
     (rw (toZ-ofZ id) at (c .before .before .before .put-answer2 .ensures)))
 
 same-length-3 : tie.Need-same-length-3
@@ -163,7 +168,7 @@ same-length-3 c = search needs
 
 returns-8 : tie.Need-returns-8
 returns-8 c =
-    let k = c .before .before .before .before .before .before .before .before .before .before .before .before .before .before .before in
+    let k = c .before .before .before .before .before .before .before .before .before .before .before .before .before .before .before .before in
     let g = k .before .before .before .before .before .before .before .before .before .before in
     let a = g .before .before .before .before .before .args in
     let id : SFits w16 (k .question-of .result .identifier) = search (needs, k .question-of .ok) in
@@ -172,8 +177,8 @@ returns-8 c =
     (omega (arith, k .before .before .before .before .before .before .before .before .if1 .left)) (omega (arith, k .before .before .before .before .before .before .before .if2 .left)) (not-false _ (k .before .before .before .before .before .if3 .left))
     (k .before .before .before .if4 .left) (sym (k .before .before .good2 .ensures) ∙ not-false _ (k .before .if5 .left))
     (k .question-of .result) (k .question-of .ensures) _ _
-    (not-false _ (c .before .before .before .before .before .before .before .before .before .before .before .before .before .if6 .left)) _ (rw (toZ-ofZ id) at (c .before .before .before .before .before .before .before .before .before .before .last-after .ensures))
-    _ (c .before .before .before .before .before .before .before .before .before .judge-request .ensures) (c .before .before .before .before .before .before .before .enum-told .given .1)
+    (not-false _ (c .before .before .before .before .before .before .before .before .before .before .before .before .before .before .if6 .left)) _ (rw (toZ-ofZ id) at (c .before .before .before .before .before .before .before .before .before .before .before .last-after .ensures))
+    _ (c .before .before .before .before .before .before .before .before .before .before .judge-request .ensures) _ (c .before .before .before .before .before .before .before .before .renews .given .1)
     (c .before .before .before .before .before .before .if7 .taken)
     (rw (c .before .before .before .before .before .selection-of .ensures) at (rw (toZ-ofZ id) at (c .before .before .before .put-listed .ensures))))
 
@@ -182,18 +187,25 @@ same-length-4 c = search needs
 
 returns-9 : tie.Need-returns-9
 returns-9 c =
-    let k = c .before .before .before .before .before .before .before .before .before .before .before .before .before .before .before in
+    let k = c .before .before .before .before .before .before .before .before .before .before .before .before .before .before .before .before in
     let g = k .before .before .before .before .before .before .before .before .before .before in
     let a = g .before .before .before .before .before .args in
     let id : SFits w16 (k .question-of .result .identifier) = search (needs, k .question-of .ok) in
+    let good = sym (k .before .before .good2 .ensures) ∙ not-false _ (k .before .if5 .left) in
+    let applies : c .before .before .before .before .before .if8 .next ≡ applied (g .read-access .result .profile) (k .question-of .result .operation) (k .question-of .result .request) (a .self .run) =
+    ⊎-elim
+    (λ v. v .2 ∙ renews-applied (a .access .now) (g .read-access .result) (g .read-access .ensures) (not-false _ (k .before .before .before .before .before .if3 .left)) (a .self .run) good _ _ _
+    (c .before .before .before .before .before .before .before .before .before .before .judge-request .ensures) _ (c .before .before .before .before .before .before .before .before .renews .given .1) (v .0 .taken) _ (v .1 .ensures))
+    (λ v. v .2 ∙ v .1 .ensures)
+    (c .before .before .before .before .before .if8 .came) in
     rw (c .answers4 .ensures, toZ-ofZ id)
     (changes-arrives (a .access .now) (a .self) (a .component .now) (a .out .now) (g .read-access .result) (g .read-access .ensures)
     (omega (arith, k .before .before .before .before .before .before .before .before .if1 .left)) (omega (arith, k .before .before .before .before .before .before .before .if2 .left)) (not-false _ (k .before .before .before .before .before .if3 .left))
-    (k .before .before .before .if4 .left) (sym (k .before .before .good2 .ensures) ∙ not-false _ (k .before .if5 .left))
+    (k .before .before .before .if4 .left) good
     (k .question-of .result) (k .question-of .ensures) _ _
-    (not-false _ (c .before .before .before .before .before .before .before .before .before .before .before .before .before .if6 .left)) _ (rw (toZ-ofZ id) at (c .before .before .before .before .before .before .before .before .before .before .last-after .ensures))
-    _ (c .before .before .before .before .before .before .before .before .before .judge-request .ensures) (c .before .before .before .before .before .before .before .enum-told .given .1)
-    (c .before .before .before .before .before .before .if7 .left) _ (c .before .before .before .before .before .apply-request .ensures)
+    (not-false _ (c .before .before .before .before .before .before .before .before .before .before .before .before .before .before .if6 .left)) _ (rw (toZ-ofZ id) at (c .before .before .before .before .before .before .before .before .before .before .before .last-after .ensures))
+    _ (c .before .before .before .before .before .before .before .before .before .before .judge-request .ensures) _ (c .before .before .before .before .before .before .before .before .renews .given .1)
+    (c .before .before .before .before .before .before .if7 .left) _ applies
     (rw (toZ-ofZ id) at (c .before .before .before .put-answer3 .ensures)))
 
 pub arrive-spec : {M : Type 1} → statement M
@@ -215,10 +227,11 @@ arrive-spec =
     enum-known-error
     put-answer-requires-2
     answers-requires-2
-    enum-told
+    enum-known-renews
     selection-of-requires
     put-listed-requires
     answers-requires-3
+    renew-request-requires
     apply-request-requires
     put-answer-requires-3
     answers-requires-4

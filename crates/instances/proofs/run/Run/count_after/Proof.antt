@@ -1,30 +1,30 @@
 use borrow.Author.Needs.{needs}
 use Prim.Native.Nat.{_+_, _-_, _≤_, min}
 use mathlib.Core.Path.{_≡_, refl, sym, ap, _∙_}
+use mathlib.Core.List.{[]}
 use mathlib.Core.Logic.{⊎-elim}
 use native.Mathlib.Omega.{arith}
 use lib.ListN.{length, drop}
 use Rattle.laws.proofs.Parts.{unmapped}
-use borrow.Author.Tests.{not-true, not-false}
+use Rattle.laws.proofs.Thoses.{those-take, those-skip, those-none}
+use Rattle.instances.specs.Instance.{chosen, spared}
 use Rattle.instances.specs.Places.{runMost}
-use Rattle.instances.specs.Run.{instancesOf, deactivated, isOf, countOf}
-use Rattle.instances.specs.Instance.{spared}
-use mathlib.Core.List.{[]}
-use Rattle.instances.proofs.Runs.{next-is, none-left}
-use Rattle.laws.proofs.Thoses.{those-none}
-use Rattle.instances.proofs.Counts.{after-one, after-chosen, after-other}
+use Rattle.instances.specs.Run.{instancesOf, listed, deactivated, isOf, countOf}
 use Rattle.instances.proofs.Choices.{concerns-is, concerns-not}
+use Rattle.instances.proofs.Counts.{after-one, after-chosen, after-other}
+use Rattle.instances.proofs.Runs.{next-is, none-left}
 use Rattle.instances.proofs.run.Run.count_after.Statement.{statement}
 use Rattle.instances.proofs.run.Run.count_after.Tie as tie
 
 abbrev Inv-loop : tie.InvT-loop
-Inv-loop sel self n k₀ i₀ k i =
-    (i ≤ n) × (n ≡ min (self .count) runMost) × (length (self .run) ≡ runMost) × (k ≤ runMost + i) ×
-    (k + countOf (sel .procedure) (deactivated sel (drop i (instancesOf self))) ≡
-    k₀ + countOf (sel .procedure) (deactivated sel (instancesOf self)))
+Inv-loop sel self n places found₀ others₀ i₀ found others i =
+    (i ≤ n) × (n ≡ min (self .count) runMost) × (length (self .run) ≡ runMost) × (found ≤ i) × (others ≤ i) ×
+    (found + length (listed sel (drop i (instancesOf self))) ≡ length (listed sel (instancesOf self))) ×
+    (others + countOf (sel .procedure) (deactivated sel (drop i (instancesOf self))) ≡
+    countOf (sel .procedure) (deactivated sel (instancesOf self)))
 
 abbrev μ-loop : tie.MeasureT-loop
-μ-loop sel self n k₀ i₀ k i = n - i
+μ-loop sel self n places found₀ others₀ i₀ found others i = n - i
 
 stored-requires : tie.Need-stored-requires Inv-loop μ-loop
 stored-requires c κs = search needs
@@ -37,7 +37,9 @@ loop-holds c = (
   omega arith,
   c .before .stored .ensures,
   search (unmapped, needs),
-  omega (arith, c .places-count .ensures .1),
+  omega arith,
+  omega arith,
+  omega arith,
   omega arith,
 )
 
@@ -47,14 +49,17 @@ mul-x c = search needs
 element-copy-out-x : tie.Need-element-copy-out-x Inv-loop μ-loop
 element-copy-out-x c = search needs
 
-is-concerned-requires : tie.Need-is-concerned-requires Inv-loop μ-loop
-is-concerned-requires c κs = search needs
-
 is-chosen-requires : tie.Need-is-chosen-requires Inv-loop μ-loop
 is-chosen-requires c κs = search needs
 
-add-k : tie.Need-add-k Inv-loop μ-loop
-add-k c = search needs
+add-found : tie.Need-add-found Inv-loop μ-loop
+add-found c = search needs
+
+is-concerned-requires : tie.Need-is-concerned-requires Inv-loop μ-loop
+is-concerned-requires c κs = search needs
+
+add-others : tie.Need-add-others Inv-loop μ-loop
+add-others c = search needs
 
 add-i : tie.Need-add-i Inv-loop μ-loop
 add-i c = search needs
@@ -66,16 +71,18 @@ loop-again : tie.Need-loop-again Inv-loop μ-loop
 loop-again c =
     let l = c .before .before .before .before .loop in
     let a = c .before .before .before .before .before .before .before .args in
+    let q = a .sel .procedure in
     let on = next-is (a .t1) _ (l .i) (l .inv .1) (l .inv .2) (omega arith) in
-    let so = l .inv .4 in
-    let test = sym (c .before .is-concerned .ensures) in
+    let test = sym (c .before .is-chosen .ensures) in
     ⊎-elim
     (λ v. (
       omega arith,
       l .inv .1,
       l .inv .2,
       omega arith,
-      omega (arith, so, v .3, after-one (a .sel) _ _ _ on (a .sel .procedure) (concerns-is (a .sel) _ (test ∙ v .0 .taken)) (sym (v .1 .ensures) ∙ not-true _ (v .2 .taken))),
+      omega arith,
+      omega (arith, v .1, l .inv .5, ap length (those-take (chosen (a .sel)) _ _ _ on (test ∙ v .0 .taken))),
+      omega (arith, v .2, l .inv .6, after-chosen (a .sel) _ _ _ on q (test ∙ v .0 .taken)),
     ))
     (⊎-elim
     (λ v. (
@@ -83,18 +90,37 @@ loop-again c =
       l .inv .1,
       l .inv .2,
       omega arith,
-      omega (arith, so, v .3, after-chosen (a .sel) _ _ _ on (a .sel .procedure) (sym (v .1 .ensures) ∙ not-false _ (v .2 .left))),
+      omega arith,
+      omega (arith, v .3, l .inv .5, ap length (those-skip (chosen (a .sel)) _ _ _ on (test ∙ v .0 .left))),
+      omega (arith, v .4, l .inv .6, after-one (a .sel) _ _ _ on q (concerns-is (a .sel) _ (sym (v .1 .ensures) ∙ v .2 .taken)) (test ∙ v .0 .left)),
     ))
-    (λ v. (omega arith, l .inv .1, l .inv .2, omega arith, omega (arith, so, v .1, after-other (a .sel) _ _ _ on (a .sel .procedure) (concerns-not (a .sel) _ (test ∙ v .0 .left))))))
+    (λ v. (
+      omega arith,
+      l .inv .1,
+      l .inv .2,
+      omega arith,
+      omega arith,
+      omega (arith, v .3, l .inv .5, ap length (those-skip (chosen (a .sel)) _ _ _ on (test ∙ v .0 .left))),
+      omega (arith, v .4, l .inv .6, after-other (a .sel) _ _ _ on q (concerns-not (a .sel) _ (sym (v .1 .ensures) ∙ v .2 .left))),
+    )))
     (c .if1 .came)
+
+add-t19 : tie.Need-add-t19 Inv-loop μ-loop
+add-t19 c = omega (arith, c .before .before .places-count .ensures .1)
 
 returns : tie.Need-returns Inv-loop μ-loop
 returns c =
     let l = c .before .loop in
     let a = c .before .before .before .before .args in
-    let none = those-none (spared (a .sel)) _ (none-left (a .t1) _ (l .i) (l .inv .1) (l .inv .2) (omega arith)) in
-    let gone = ap (countOf (a .sel .procedure)) none ∙ ap length (those-none (isOf (a .sel .procedure)) [] refl) in
-    rw (← c .before .before .places-count .ensures .0) (omega (arith, l .inv .4, gone))
+    let gone = none-left (a .t1) _ (l .i) (l .inv .1) (l .inv .2) (omega arith) in
+    let found : l .found ≡ length (listed (a .sel) (instancesOf (a .t1))) =
+    omega (arith, l .inv .5, ap length (those-none (chosen (a .sel)) _ gone)) in
+    let spares = those-none (spared (a .sel)) _ gone in
+    let none = ap (countOf (a .sel .procedure)) spares ∙ ap length (those-none (isOf (a .sel .procedure)) [] refl) in
+    record {
+      count = rw (← c .before .before .places-count .ensures .0) (omega (arith, l .inv .6, none));
+      renews = rw (← c .before .before .places-count .ensures .0, ← found) (search needs);
+    }
 
 pub count-after-spec : {M : Type 1} → statement M
 count-after-spec =
@@ -107,10 +133,12 @@ count-after-spec =
     loop-holds
     mul-x
     element-copy-out-x
-    is-concerned-requires
     is-chosen-requires
-    add-k
+    add-found
+    is-concerned-requires
+    add-others
     add-i
     loop-less
     loop-again
+    add-t19
     returns)
