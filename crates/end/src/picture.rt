@@ -2,7 +2,7 @@
 use instances::ROOM;
 use instances::Run;
 use instances::fresh_run;
-use instances::key_of;
+use instances::is_before;
 use instances::stored;
 ghost use mathlib.Core.Path.{_≡_};
 ghost use Rattle.instances.specs.Run.{instancesOf, packed};
@@ -25,9 +25,7 @@ pub(crate) fn replaced_by(picture: Run, procedure: u8, list: Run) -> Run
                 i += 1;
             } else if m < many {
                 let w = list.run[m];
-                if key_of(x.procedure, x.number, x.service)
-                    < key_of(w.procedure, w.number, w.service)
-                {
+                if is_before(w.procedure, w.number, w.service, x) {
                     next.run[k] = x;
                     i += 1;
                 } else {

@@ -47,6 +47,10 @@ pub chosen-of : (sel : Selection) (x : Instance) → chosen sel x ≡ pick (conc
 unfolding chosen
 chosen-of sel x = rw (pick-last (selected sel (x .number) (x .service)))
 
+-- of another procedure none is chosen
+pub chosen-other : (sel : Selection) (x : Instance) → concerns sel (x .procedure) ≡ false → chosen sel x ≡ false
+chosen-other sel x h = chosen-of sel x ∙ rw h
+
 -- ---- a test that fails, or holds, turned round
 
 pub kept-test : (b : Bool) → b ≡ false → not b ≡ true

@@ -1,14 +1,14 @@
 -- Keys: one number for procedure, number and service; ascending lists of instances by their keys. Assumes nothing.
 use Prim.Native.Nat.{ℕ, suc, _<_, _≤_}
 use mathlib.Core.Logic.{_⊎_, inl, inr, ⊎-elim}
-use mathlib.Core.Path.{_≡_, refl}
+use mathlib.Core.Path.{_≡_, refl, sym, _∙_}
 use mathlib.Core.Bool.{true}
 use mathlib.Core.List.{List, [], _∷_}
 use native.Mathlib.Nat.{eq-or-lt-of-le}
 use native.Mathlib.Omega.{arith}
 use lib.Dec.{ltb}
-use borrow.Author.Tests.{lt-ltb, ltb-true, ltb-false}
-use Rattle.laws.proofs.Picks.{pick-ind}
+use borrow.Author.Tests.{lt-ltb, le-ltb, ltb-true, ltb-false}
+use Rattle.laws.proofs.Picks.{pick-ind, by-bool}
 use Rattle.laws.proofs.Tests.{both-hold}
 use Rattle.laws.proofs.Eaches.{Each, Up}
 use Rattle.instances.specs.Instance.{key, keyOf}
@@ -35,6 +35,36 @@ key-procedure q a c r b d ha hc h = omega arith
 pub key-number : (q a c b d : ℕ) → c < 256 → a < b → key q a c < key q b d
 unfolding key
 key-number q a c b d hc h = omega arith
+
+-- which of two keys is lower, by the first of the three that differs
+module _ (q a c r b d : ℕ) (ha : a < 256) (hc : c < 256) (hb : b < 256) (hd : d < 256) where
+  abbrev mine : ℕ
+  mine = key q a c
+
+  abbrev yours : ℕ
+  yours = key r b d
+
+  pub before-procedure : (q ≡ r → ⊥) → ltb q r ≡ ltb (key q a c) (key r b d)
+  before-procedure other =
+      by-bool (ltb q r ≡ ltb mine yours) (ltb q r)
+      (λ h. h ∙ sym (lt-ltb mine yours (key-procedure q a c r b d ha hc (ltb-true q r h))))
+      (λ h.
+      let more : r < q = omega (arith, ltb-false q r h, other) in
+      h ∙ sym (le-ltb mine yours (omega (arith, key-procedure r b d q a c hb hd more))))
+
+  pub before-number : q ≡ r → (a ≡ b → ⊥) → ltb a b ≡ ltb (key q a c) (key r b d)
+  unfolding key
+  before-number same other =
+      by-bool (ltb a b ≡ ltb mine yours) (ltb a b)
+      (λ h. h ∙ sym (lt-ltb mine yours (omega (arith, ltb-true a b h, same))))
+      (λ h. h ∙ sym (le-ltb mine yours (omega (arith, ltb-false a b h, other, same))))
+
+  pub before-service : q ≡ r → a ≡ b → ltb c d ≡ ltb (key q a c) (key r b d)
+  unfolding key
+  before-service same equal =
+      by-bool (ltb c d ≡ ltb mine yours) (ltb c d)
+      (λ h. h ∙ sym (lt-ltb mine yours (omega (arith, ltb-true c d h, same, equal))))
+      (λ h. h ∙ sym (le-ltb mine yours (omega (arith, ltb-false c d h, same, equal))))
 
 -- a service has a code above 0, and so the key
 pub key-some : (q a c : ℕ) → (c ≡ 0 → ⊥) → 0 < key q a c

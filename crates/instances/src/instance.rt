@@ -5,7 +5,7 @@ use numbers::blank_address;
 use profile::SERVICES;
 ghost use mathlib.Core.Path.{_≡_};
 ghost use lib.ListN.{take};
-ghost use Rattle.instances.specs.Instance.{named, selected, concerns, chosen, isAt, among, instanceFits, KeyOf, BlankInstance};
+ghost use Rattle.instances.specs.Instance.{named, selected, concerns, chosen, isAt, among, instanceFits, IsBefore, KeyOf, BlankInstance};
 
 // cfu 0, cfb 1, cfnr 2.
 pub(crate) const PROCEDURES: usize = 3;
@@ -89,6 +89,19 @@ pub(crate) fn is_at(procedure: u8, number: u8, service: u8, x: Instance) -> bool
         return false;
     }
     x.service == service
+}
+
+// Whether an instance comes before one of this procedure, number and service: by the keys, which need not be made for it.
+pub fn is_before(procedure: u8, number: u8, service: u8, x: Instance) -> bool
+    ensures { λ r. ⌜ IsBefore procedure number service x r ⌝ }
+{
+    if x.procedure != procedure {
+        return x.procedure < procedure;
+    }
+    if x.number != number {
+        return x.number < number;
+    }
+    x.service < service
 }
 
 // One number for procedure, number and service.

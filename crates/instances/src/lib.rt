@@ -7,6 +7,7 @@ mod run;
 pub use instance::Instance;
 pub use instance::Selection;
 pub use instance::blank_instance;
+pub use instance::is_before;
 pub use instance::key_of;
 pub use places::stored;
 pub use run::After;

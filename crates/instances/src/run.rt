@@ -5,6 +5,7 @@ use crate::instance::Selection;
 use crate::instance::blank_instance;
 use crate::instance::instance_good;
 use crate::instance::is_at;
+use crate::instance::is_before;
 use crate::instance::is_chosen;
 use crate::instance::is_concerned;
 use crate::instance::key_of;
@@ -226,9 +227,7 @@ impl Run {
                     i += 1;
                 } else if m < many {
                     let w = made.places[m];
-                    if key_of(x.procedure, x.number, x.service)
-                        < key_of(procedure, w.number, w.service)
-                    {
+                    if is_before(procedure, w.number, w.service, x) {
                         next.run[k] = x;
                         i += 1;
                     } else {
@@ -304,10 +303,12 @@ impl Run {
         let mut i: usize = 0;
         while i < n {
             let x = self.run[i];
-            if is_chosen(sel, x) {
-                found += 1;
-            } else if is_concerned(sel, x.procedure) {
-                others += 1;
+            if is_concerned(sel, x.procedure) {
+                if is_chosen(sel, x) {
+                    found += 1;
+                } else {
+                    others += 1;
+                }
             }
             i += 1;
         }

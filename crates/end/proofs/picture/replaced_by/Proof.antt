@@ -1,7 +1,9 @@
 use borrow.Author.Needs.{needs}
 use Prim.Native.Nat.{_+_, _-_, _≤_}
+use mathlib.Core.Path.{sym, _∙_}
 use mathlib.Core.Logic.{⊎-elim}
 use native.Mathlib.Omega.{arith}
+use borrow.Author.Tests.{ltb-true, ltb-false}
 use lib.ListN.{drop}
 use Rattle.laws.proofs.Parts.{unmapped}
 use Rattle.laws.proofs.Filled.{Filled, filled-none, filled-next}
@@ -66,11 +68,8 @@ mul-w c = search needs
 element-copy-out-w : tie.Need-element-copy-out-w Inv-loop μ-loop
 element-copy-out-w c = search needs
 
-key-of-requires : tie.Need-key-of-requires Inv-loop μ-loop
-key-of-requires c κs = search needs
-
-key-of-requires-2 : tie.Need-key-of-requires-2 Inv-loop μ-loop
-key-of-requires-2 c κs = search needs
+is-before-requires : tie.Need-is-before-requires Inv-loop μ-loop
+is-before-requires c κs = search needs
 
 mul-x-2 : tie.Need-mul-x-2 Inv-loop μ-loop
 mul-x-2 c = search needs
@@ -98,19 +97,18 @@ loop-less-2 c = ⊎-elim (λ v. omega (arith, v .2, v .3)) (λ v. omega (arith, 
 
 loop-again-2 : tie.Need-loop-again-2 Inv-loop μ-loop
 loop-again-2 c =
-    let l = c .before .before .before .before .before .before .before .before .before .before .loop in
-    let a = c .before .before .before .before .before .before .before .before .before .before .before .before .before .before .args in
+    let l = c .before .before .before .before .before .before .before .before .before .loop in
+    let a = c .before .before .before .before .before .before .before .before .before .before .before .before .before .args in
     let new = l .inv .0 in
     let old = l .inv .1 in
-    let other = c .before .before .before .before .before .if2 .left in
-    let keyx = c .before .before .key-of .ensures in
-    let keyw = c .before .key-of2 .ensures in
+    let other = c .before .before .before .before .if2 .left in
+    let test = sym (c .before .is-before .ensures) in
     ⊎-elim
     (λ v.
-    let turn = turn-lower (a .t3) (a .t1) (a .procedure) _ _ (l .m) (l .i) new old (omega arith) other (omega arith) (omega (arith, keyx, keyw, v .0 .taken)) in
+    let turn = turn-lower (a .t3) (a .t1) (a .procedure) _ _ (l .m) (l .i) new old (omega arith) other (omega arith) (ltb-true _ _ (test ∙ v .0 .taken)) in
     rw (v .1, v .2, v .3) (new, met-next _ _ _ old (omega arith), omega arith, filled-next _ _ _ _ _ _ _ (omega arith) (rw turn at (l .inv .3))))
     (λ v.
-    let turn = turn-higher (a .t3) (a .t1) (a .procedure) _ _ (l .m) (l .i) new old (omega arith) other (omega arith) (omega (arith, keyx, keyw, v .0 .left)) in
+    let turn = turn-higher (a .t3) (a .t1) (a .procedure) _ _ (l .m) (l .i) new old (omega arith) other (omega arith) (ltb-false _ _ (test ∙ v .0 .left)) in
     rw (v .1, v .2, v .3) (met-next _ _ _ new (omega arith), old, omega arith, filled-next _ _ _ _ _ _ _ (omega arith) (rw turn at (l .inv .3))))
     (c .if4 .came)
 
@@ -144,8 +142,8 @@ mul-next c = search needs
 element-copy-out-next : tie.Need-element-copy-out-next Inv-loop μ-loop
 element-copy-out-next c = search needs
 
-mul-t43 : tie.Need-mul-t43 Inv-loop μ-loop
-mul-t43 c = search needs
+mul-t42 : tie.Need-mul-t42 Inv-loop μ-loop
+mul-t42 c = search needs
 
 element-set-from-next : tie.Need-element-set-from-next Inv-loop μ-loop
 element-set-from-next c = search needs
@@ -207,8 +205,7 @@ replaced-by-spec =
     loop-again
     mul-w
     element-copy-out-w
-    key-of-requires
-    key-of-requires-2
+    is-before-requires
     mul-x-2
     element-set-from-x
     add-i-2
@@ -226,7 +223,7 @@ replaced-by-spec =
     loop-again-3
     mul-next
     element-copy-out-next
-    mul-t43
+    mul-t42
     element-set-from-next
     add-k-3
     add-m-2

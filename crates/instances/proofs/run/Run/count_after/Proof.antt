@@ -10,7 +10,7 @@ use Rattle.laws.proofs.Thoses.{those-take, those-skip, those-none}
 use Rattle.instances.specs.Instance.{chosen, spared}
 use Rattle.instances.specs.Places.{runMost}
 use Rattle.instances.specs.Run.{instancesOf, listed, deactivated, isOf, countOf}
-use Rattle.instances.proofs.Choices.{concerns-is, concerns-not}
+use Rattle.instances.proofs.Choices.{concerns-is, concerns-not, chosen-other}
 use Rattle.instances.proofs.Counts.{after-one, after-chosen, after-other}
 use Rattle.instances.proofs.Runs.{next-is, none-left}
 use Rattle.instances.proofs.run.Run.count_after.Statement.{statement}
@@ -49,14 +49,14 @@ mul-x c = search needs
 element-copy-out-x : tie.Need-element-copy-out-x Inv-loop μ-loop
 element-copy-out-x c = search needs
 
+is-concerned-requires : tie.Need-is-concerned-requires Inv-loop μ-loop
+is-concerned-requires c κs = search needs
+
 is-chosen-requires : tie.Need-is-chosen-requires Inv-loop μ-loop
 is-chosen-requires c κs = search needs
 
 add-found : tie.Need-add-found Inv-loop μ-loop
 add-found c = search needs
-
-is-concerned-requires : tie.Need-is-concerned-requires Inv-loop μ-loop
-is-concerned-requires c κs = search needs
 
 add-others : tie.Need-add-others Inv-loop μ-loop
 add-others c = search needs
@@ -73,7 +73,7 @@ loop-again c =
     let a = c .before .before .before .before .before .before .before .args in
     let q = a .sel .procedure in
     let on = next-is (a .t1) _ (l .i) (l .inv .1) (l .inv .2) (omega arith) in
-    let test = sym (c .before .is-chosen .ensures) in
+    let test = sym (c .before .is-concerned .ensures) in
     ⊎-elim
     (λ v. (
       omega arith,
@@ -81,8 +81,8 @@ loop-again c =
       l .inv .2,
       omega arith,
       omega arith,
-      omega (arith, v .1, l .inv .5, ap length (those-take (chosen (a .sel)) _ _ _ on (test ∙ v .0 .taken))),
-      omega (arith, v .2, l .inv .6, after-chosen (a .sel) _ _ _ on q (test ∙ v .0 .taken)),
+      omega (arith, v .3, l .inv .5, ap length (those-take (chosen (a .sel)) _ _ _ on (sym (v .1 .ensures) ∙ v .2 .taken))),
+      omega (arith, v .4, l .inv .6, after-chosen (a .sel) _ _ _ on q (sym (v .1 .ensures) ∙ v .2 .taken)),
     ))
     (⊎-elim
     (λ v. (
@@ -91,8 +91,8 @@ loop-again c =
       l .inv .2,
       omega arith,
       omega arith,
-      omega (arith, v .3, l .inv .5, ap length (those-skip (chosen (a .sel)) _ _ _ on (test ∙ v .0 .left))),
-      omega (arith, v .4, l .inv .6, after-one (a .sel) _ _ _ on q (concerns-is (a .sel) _ (sym (v .1 .ensures) ∙ v .2 .taken)) (test ∙ v .0 .left)),
+      omega (arith, v .3, l .inv .5, ap length (those-skip (chosen (a .sel)) _ _ _ on (sym (v .1 .ensures) ∙ v .2 .left))),
+      omega (arith, v .4, l .inv .6, after-one (a .sel) _ _ _ on q (concerns-is (a .sel) _ (test ∙ v .0 .taken)) (sym (v .1 .ensures) ∙ v .2 .left)),
     ))
     (λ v. (
       omega arith,
@@ -100,8 +100,8 @@ loop-again c =
       l .inv .2,
       omega arith,
       omega arith,
-      omega (arith, v .3, l .inv .5, ap length (those-skip (chosen (a .sel)) _ _ _ on (test ∙ v .0 .left))),
-      omega (arith, v .4, l .inv .6, after-other (a .sel) _ _ _ on q (concerns-not (a .sel) _ (sym (v .1 .ensures) ∙ v .2 .left))),
+      omega (arith, v .1, l .inv .5, ap length (those-skip (chosen (a .sel)) _ _ _ on (chosen-other (a .sel) _ (test ∙ v .0 .left)))),
+      omega (arith, v .2, l .inv .6, after-other (a .sel) _ _ _ on q (concerns-not (a .sel) _ (test ∙ v .0 .left))),
     )))
     (c .if1 .came)
 
@@ -133,9 +133,9 @@ count-after-spec =
     loop-holds
     mul-x
     element-copy-out-x
+    is-concerned-requires
     is-chosen-requires
     add-found
-    is-concerned-requires
     add-others
     add-i
     loop-less

@@ -3,6 +3,7 @@ use Prim.Native.Nat.{_+_, _-_, _≤_, min}
 use mathlib.Core.Path.{_≡_, sym, _∙_}
 use mathlib.Core.Logic.{⊎-elim, inl, inr}
 use native.Mathlib.Omega.{arith}
+use borrow.Author.Tests.{ltb-true, ltb-false}
 use lib.ListN.{length, drop}
 use Rattle.laws.proofs.Parts.{unmapped}
 use Rattle.instances.specs.Instance.{blankInstance}
@@ -80,11 +81,8 @@ mul-w c = search needs
 element-copy-out-w : tie.Need-element-copy-out-w Inv-loop μ-loop
 element-copy-out-w c = search needs
 
-key-of-requires : tie.Need-key-of-requires Inv-loop μ-loop
-key-of-requires c κs = search needs
-
-key-of-requires-2 : tie.Need-key-of-requires-2 Inv-loop μ-loop
-key-of-requires-2 c κs = search needs
+is-before-requires : tie.Need-is-before-requires Inv-loop μ-loop
+is-before-requires c κs = search needs
 
 mul-x-2 : tie.Need-mul-x-2 Inv-loop μ-loop
 mul-x-2 c = search needs
@@ -95,8 +93,8 @@ element-set-from-x c = search needs
 add-i-2 : tie.Need-add-i-2 Inv-loop μ-loop
 add-i-2 c = search needs
 
-mul-t37 : tie.Need-mul-t37 Inv-loop μ-loop
-mul-t37 c = search needs
+mul-t36 : tie.Need-mul-t36 Inv-loop μ-loop
+mul-t36 c = search needs
 
 element-set-from-next : tie.Need-element-set-from-next Inv-loop μ-loop
 element-set-from-next c = search needs
@@ -112,18 +110,17 @@ loop-less-2 c = ⊎-elim (λ v. omega (arith, v .2, v .3)) (λ v. omega (arith, 
 
 loop-again-2 : tie.Need-loop-again-2 Inv-loop μ-loop
 loop-again-2 c =
-    let l = c .before .before .before .before .before .before .before .before .before .before .loop in
-    let a = c .before .before .before .before .before .before .before .before .before .before .before .before .before .before .before .args in
-    let made = c .before .before .before .before .before .before .before .before .before .before .before .before .before .before .places-of .result in
+    let l = c .before .before .before .before .before .before .before .before .before .loop in
+    let a = c .before .before .before .before .before .before .before .before .before .before .before .before .before .before .args in
+    let made = c .before .before .before .before .before .before .before .before .before .before .before .before .before .places-of .result in
     let so = l .inv .7 in
     let on = next-is (a .t1) _ (l .i) (l .inv .1) (l .inv .2) (omega arith) in
     let more = next-place made _ (l .m) (l .inv .4) (l .inv .5) (omega arith) in
-    let stays = sym (c .before .before .before .before .before .before .is-chosen .ensures) ∙ c .before .before .before .before .before .if2 .left in
-    let keyx = c .before .before .key-of .ensures in
-    let keyw = c .before .key-of2 .ensures in
+    let stays = sym (c .before .before .before .before .before .is-chosen .ensures) ∙ c .before .before .before .before .if2 .left in
+    let test = sym (c .before .is-before .ensures) in
     ⊎-elim
     (λ v.
-    let keeps = put-kept (a .sel) (a .address) _ _ _ _ on stays _ _ more (omega (arith, keyx, keyw, v .0 .taken)) in
+    let keeps = put-kept (a .sel) (a .address) _ _ _ _ on stays _ _ more (ltb-true _ _ (test ∙ v .0 .taken)) in
     rw (v .1, v .2, v .3) (
       omega arith,
       l .inv .1,
@@ -135,7 +132,7 @@ loop-again-2 c =
       filled-next _ _ _ _ _ _ _ (omega arith) (rw keeps at so),
     ))
     (λ v.
-    let makes = put-made (a .sel) (a .address) _ _ _ _ on stays _ _ more (omega (arith, keyx, keyw, v .0 .left)) in
+    let makes = put-made (a .sel) (a .address) _ _ _ _ on stays _ _ more (ltb-false _ _ (test ∙ v .0 .left)) in
     rw (v .1, v .2, v .3) (
       omega arith,
       l .inv .1,
@@ -180,8 +177,8 @@ mul-w-2 c = search needs
 element-copy-out-w-2 : tie.Need-element-copy-out-w-2 Inv-loop μ-loop
 element-copy-out-w-2 c = search needs
 
-mul-t44 : tie.Need-mul-t44 Inv-loop μ-loop
-mul-t44 c = search needs
+mul-t43 : tie.Need-mul-t43 Inv-loop μ-loop
+mul-t43 c = search needs
 
 element-set-from-next-2 : tie.Need-element-set-from-next-2 Inv-loop μ-loop
 element-set-from-next-2 c = search needs
@@ -251,12 +248,11 @@ put-spec =
     loop-again
     mul-w
     element-copy-out-w
-    key-of-requires
-    key-of-requires-2
+    is-before-requires
     mul-x-2
     element-set-from-x
     add-i-2
-    mul-t37
+    mul-t36
     element-set-from-next
     add-m
     add-k
@@ -270,7 +266,7 @@ put-spec =
     loop-again-3
     mul-w-2
     element-copy-out-w-2
-    mul-t44
+    mul-t43
     element-set-from-next-2
     add-k-3
     add-m-2
