@@ -1,4 +1,4 @@
-/* One turn of each thing that the customer end does, at the widest profile, with an empty picture or one of 24 instances. */
+/* One turn of each thing that the customer end does, at the widest profile, with an empty picture, one of a procedure's eight instances, or one of 24. */
 #include <stdio.h>
 #include <string.h>
 #include "drive.h"
@@ -55,12 +55,13 @@ static int bench_shown(long turns)
 
 int bench_desk(const char *what, long turns)
 {
-    int full = strstr(what, "-full") != NULL;
-    if (!occasion_named("arrive-activation-full", &occasion))
+    int empty = strstr(what, "-empty") != NULL;
+    int eight = strstr(what, "-eight") != NULL;
+    if (!occasion_named(eight ? "arrive-interrogation-eight" : "arrive-activation-full", &occasion))
         return 2;
     occasion.table.last = 0;
     end = sconcetoad_fresh_end();
-    if (full)
+    if (!empty)
         end.picture = occasion.table.run;
     if (strncmp(what, "send-", 5) == 0)
         return bench_send(turns);

@@ -159,7 +159,8 @@ int occasion_named(const char *name, struct occasion *occasion);
 
 /* ---- scale.c: arrivals that grow */
 
-/* `scale-instances-N`, `scale-octets-N` or `scale-prefixes-N`, and `arrive-dearest`; answers whether there is such an occasion. */
+/* `scale-instances-N`, `scale-octets-N` or `scale-prefixes-N`; `arrive-dearest` and, of activations, `arrive-dearest-activation`; answers whether
+   there is such an occasion. */
 int scale_named(const char *name, struct occasion *occasion);
 
 /* ---- desk.c: the customer end's lines of a dialogue */

@@ -84,6 +84,15 @@ static void full(struct sconcetoad_table *table)
         eight_of(table, procedure);
 }
 
+/* All of these but the four that the activation sample selects. */
+static void twenty(struct sconcetoad_table *table)
+{
+    eight_of(table, 0);
+    for (int number = 0; number < 4; number++)
+        add_instance(table, 1, number, 1);
+    eight_of(table, 2);
+}
+
 /* What arrives at which profile and table, with the last handled identifier, and how many octets the reply has. */
 static const struct kind {
     const char *name;
@@ -98,6 +107,7 @@ static const struct kind {
     {"arrive-sample-full", sample_access, one, activation, sizeof activation, 1, 5},
     {"arrive-interrogation-eight", wide_access, eight, interrogation, sizeof interrogation, 1, 207},
     {"arrive-activation-empty", wide_access, none, activation, sizeof activation, 1, 5},
+    {"arrive-activation-twenty", wide_access, twenty, activation, sizeof activation, 1, 5},
     {"arrive-activation-full", wide_access, full, activation, sizeof activation, 1, 5},
     {"arrive-deactivation-empty", wide_access, none, deactivation, sizeof deactivation, 1, 8}, /* error 46 */
     {"arrive-deactivation-full", wide_access, full, deactivation, sizeof deactivation, 1, 5},

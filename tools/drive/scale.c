@@ -17,6 +17,9 @@ static const uint8_t asked[] = {0x0A, 0x01, 0x01, 0x0A, 0x01, 0x00, 0x05, 0x00};
 static const uint8_t longest[] = {0x0A, 0x01, 0x01, 0x0A, 0x01, 0x01, 0x30, 0x16, 0x80, 0x14, '2', '4', '6', '8', '0', '1',
                                   '3',  '5',  '7',  '9',  '2',  '4',  '6',  '8',  '0',  '1',  '3', '5', '7', '0', 0x05, 0x00};
 
+/* The longest list, whose identifier has one octet. */
+#define LIST_LONGEST 706
+
 static uint8_t component[SCONCETOAD_COMPONENT];
 
 static uint8_t *head_to(uint8_t *at, uint8_t tag, size_t count)
@@ -56,8 +59,8 @@ static void set_prefixes(struct occasion *o, size_t count, const char *digits)
     }
 }
 
-/* The widest profile and the fullest table, every number and subaddress as long as can be, and the longest component. */
-static void dearest(struct occasion *o)
+/* At the widest profile, every number and subaddress as long as can be, and as many prefixes. */
+static void lengthen(struct occasion *o)
 {
     for (int i = 0; i < 4; i++) {
         uint8_t *number = o->access + ACCESS_NUMBERS + NUMBER_SIZE * i;
@@ -65,24 +68,30 @@ static void dearest(struct occasion *o)
         number[22] = (uint8_t)('1' + i);
     }
     set_prefixes(o, PREFIXES, "24680135792468013579");
-    for (int i = 0; i < SCONCETOAD_INSTANCES; i++) {
+    for (int i = 0; i < o->table.run.count; i++) {
         struct sconcetoad_address *to = &o->table.run.run[i].address;
         memcpy(&to->number, "\1\2\24" "24680135792468013579", NUMBER_SIZE);
         to->subcount = 20;
         memset(to->sub, 0xF7, sizeof to->sub);
     }
-    fill_component(o, 7, longest, sizeof longest, SCONCETOAD_COMPONENT);
 }
 
 int scale_named(const char *name, struct occasion *o)
 {
     const char *digits = strpbrk(name, "0123456789");
     size_t many = digits ? (size_t)atoi(digits) : 0;
-    if (strcmp(name, "arrive-dearest") == 0 && occasion_named("arrive-activation-full", o)) {
-        dearest(o);
+    if (strcmp(name, "arrive-dearest") == 0 && occasion_named("arrive-interrogation-full", o)) {
+        lengthen(o);
+        fill_component(o, 11, asked, sizeof asked, SCONCETOAD_COMPONENT);
+        o->reply = LIST_LONGEST;
         return 1;
     }
-    if (strncmp(name, "scale-instances-", 16) == 0 && many <= SCONCETOAD_INSTANCES && occasion_named("arrive-activation-full", o)) {
+    if (strcmp(name, "arrive-dearest-activation") == 0 && occasion_named("arrive-activation-twenty", o)) {
+        lengthen(o);
+        fill_component(o, 7, longest, sizeof longest, SCONCETOAD_COMPONENT);
+        return 1;
+    }
+    if (strncmp(name, "scale-instances-", 16) == 0 && occasion_named("arrive-activation-twenty", o) && many <= o->table.run.count) {
         o->table.run.count = (uint8_t)many;
         return 1;
     }
