@@ -27,7 +27,7 @@ use Rattle.instances.specs.declared.run.Run.{Run}
 use Rattle.rules.specs.Judge.{applied}
 use Rattle.end.specs.End.{knownMark, doubtMark, markAt, usedMost, closed, endGood}
 use Rattle.end.specs.Sending.{marksSent, sent, Sends, notSent, sends}
-use Rattle.end.specs.Listed.{instancesFrom, listGood, replaced}
+use Rattle.end.specs.Listed.{instancesListed, listGood, replaced}
 use Rattle.end.specs.Taking.{learnedBy, learned, gaveUp, Moves, moved, takes, givesUp}
 use Rattle.end.specs.declared.end.End.{End}
 use Rattle.end.proofs.Ends.{used-most}
@@ -58,7 +58,7 @@ module _ (access : List ℕ) (e : End) where
       (λ _ _ _. inr (closed-one (e .before) (e .picture) e))
       (λ _ _ _. inr (closed-one (e .before) (applied (ours access) (e .operation) (e .request) (e .picture)) e))
       (λ _ _ _ es _ _ _ _.
-      inr (closed-one knownMark (packed (replaced (e .request .procedure) (instancesFrom (ours access) es) (instancesOf (e .picture)))) e)))
+      inr (closed-one knownMark (packed (replaced (e .request .procedure) (instancesListed (ours access) es) (instancesOf (e .picture)))) e)))
 
   module _ (ok : accessRead access .ok ≡ true) (good : endGood instancesMost (ours access) e ≡ true) where
     -- giving up leaves nothing outstanding
@@ -83,18 +83,18 @@ module _ (access : List ℕ) (e : End) where
           (λ _ _ _. closed-one (e .before) (e .picture) e .free)
           (λ _ _ _. closed-one (e .before) (applied p (e .operation) (e .request) (e .picture)) e .free)
           (λ _ _ _ es _ _ _ _.
-          closed-one knownMark (packed (replaced (e .request .procedure) (instancesFrom p es) (instancesOf (e .picture)))) e .free))
+          closed-one knownMark (packed (replaced (e .request .procedure) (instancesListed p es) (instancesOf (e .picture)))) e .free))
 
       -- a good list makes the procedure of the outstanding request known
       pub list-known :
           length (e .marks) ≡ 3 → (at end : ℕ) (es : List Entry) (next : ℕ) → replyTo e s ≡ Listed at end →
           entriesFrom instancesMost s at end ≡ got es next →
-          listGood instancesMost (ours access) (e .request .procedure) (instancesFrom (ours access) es) ≡ true →
+          listGood instancesMost (ours access) (e .request .procedure) (instancesListed (ours access) es) ≡ true →
           markAt (e .request .procedure) (takes access e s .end .marks) ≡ knownMark
       unfolding learned
       list-known long at end es next is read list =
           let p = ours access in
-          let new : Run = packed (replaced (e .request .procedure) (instancesFrom p es) (instancesOf (e .picture))) in
+          let new : Run = packed (replaced (e .request .procedure) (instancesListed p es) (instancesOf (e .picture))) in
           let took : takes access e s ≡ moved (closed knownMark new e) =
           takes-all access e s fair ok good
           ∙ ap moved (took-said p e s waits (Listed at end) is ∙ (ap (learnedBy p e) read ∙ rw list)) in

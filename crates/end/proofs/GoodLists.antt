@@ -14,7 +14,7 @@ use Rattle.instances.specs.declared.instance.Instance.{Instance}
 use Rattle.instances.proofs.Merged.{nil-merged, merged-nil, merge-higher}
 use Rattle.instances.proofs.Fits.{goods-of, goods-all}
 use Rattle.instances.proofs.Goods.{GoodList, good-list, list-good}
-use Rattle.end.specs.Listed.{instanceFor, sorted, instancesFrom, listGood}
+use Rattle.end.specs.Listed.{instanceFor, sorted, instancesListed, listGood}
 
 -- one that is below all others comes first
 first-merged : (x : Instance) (l : List Instance) → Up keyOf (keyOf x) l → merged (x ∷ []) l ≡ x ∷ l
@@ -28,8 +28,8 @@ sorted-same b [] u = refl
 sorted-same b (x ∷ l) u = ap (merged (x ∷ [])) (sorted-same (keyOf x) l (u .1)) ∙ first-merged x l (u .1)
 
 -- entries whose instances ascend are in order
-pub from-ascending : (p : Profile) (es : List Entry) → Up keyOf 0 (map (instanceFor p) es) → instancesFrom p es ≡ map (instanceFor p) es
-unfolding instancesFrom
+pub from-ascending : (p : Profile) (es : List Entry) → Up keyOf 0 (map (instanceFor p) es) → instancesListed p es ≡ map (instanceFor p) es
+unfolding instancesListed
 from-ascending p es u = sorted-same 0 (map (instanceFor p) es) u
 
 -- a good list: each instance is of the procedure, and together they obey the table's rules

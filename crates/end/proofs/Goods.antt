@@ -24,7 +24,7 @@ use Rattle.rules.specs.Judge.{changed, applied}
 use Rattle.rules.proofs.Changes.{applied-ind}
 use Rattle.end.specs.End.{knownMark, doubtMark, markAt, marked, freshEnd, closed, usedMost, marksGood, waitingGood, endGood}
 use Rattle.end.specs.Sending.{marksSent, sent, sends}
-use Rattle.end.specs.Listed.{instancesFrom, replaced}
+use Rattle.end.specs.Listed.{instancesListed, replaced}
 use Rattle.end.specs.Taking.{takes, givesUp}
 use Rattle.end.specs.declared.end.End.{End}
 use Rattle.end.proofs.Ends.{picture-good, rules-pass}
@@ -109,9 +109,9 @@ module _
         (λ waits _ passes.
         closed-good (e .before) (applied p (e .operation) (e .request) (e .picture)) (rules .fits waits .0) (applied-run waits passes))
         (λ waits _ _ es _ _ _ list.
-        let next = replaced (e .request .procedure) (instancesFrom p es) (instancesOf (e .picture)) in
+        let next = replaced (e .request .procedure) (instancesListed p es) (instancesOf (e .picture)) in
         closed-good knownMark (packed next) (omega arith)
-        (good-run p next (replaced-held access e ok good waits (instancesFrom p es) list))))
+        (good-run p next (replaced-held access e ok good waits (instancesListed p es) list))))
 
     -- nor does the one that gave up
     pub gives-good : endGood instancesMost p (givesUp access e .end) ≡ true
@@ -189,7 +189,7 @@ reached-marks access _ (taking e way s) =
     (λ _ _ _. closed-three (e .before) (e .picture) e long)
     (λ _ _ _. closed-three (e .before) (applied p (e .operation) (e .request) (e .picture)) e long)
     (λ _ _ _ es _ _ _ _.
-    closed-three knownMark (packed (replaced (e .request .procedure) (instancesFrom p es) (instancesOf (e .picture)))) e long))
+    closed-three knownMark (packed (replaced (e .request .procedure) (instancesListed p es) (instancesOf (e .picture)))) e long))
 reached-marks access _ (giving e way) =
     let long = reached-marks access e way in
     gives-ind access e (λ m. length (m .end .marks) ≡ 3) (λ _. long) (λ _. long) (λ _ _ _. closed-three doubtMark (e .picture) e long)

@@ -17,7 +17,7 @@ use Rattle.instances.specs.Run.{instancesOf, packed}
 use Rattle.instances.specs.declared.run.Run.{Run}
 use Rattle.instances.proofs.Runs.{packed-all}
 use Rattle.end.specs.End.{knownMark, closed}
-use Rattle.end.specs.Listed.{instanceFor, instancesFrom, listGood, replaced}
+use Rattle.end.specs.Listed.{instanceFor, instancesListed, listGood, replaced}
 use Rattle.end.specs.Taking.{doubted, learned, learnedBy}
 use Rattle.end.specs.declared.end.End.{End}
 use Rattle.end.proofs.Sorted.{sorted-length}
@@ -41,8 +41,8 @@ module _ (p : Profile) (e : End) where
   entered wrong read is ok = absurd (false≢true (sym (ap (λ (r : EntriesRead). r .ok) is) ∙ ok))
 
   module _ (es : List Entry) where
-    from-length : length (instancesFrom p es) ≡ length es
-    unfolding instancesFrom
+    from-length : length (instancesListed p es) ≡ length es
+    unfolding instancesListed
     from-length = sorted-length (map (instanceFor p) es) ∙ length-map es (instanceFor p)
 
     module _ (list : Entries) (is : list ≡ entriesOf es) (long : length (list .entries) ≡ instancesMost) where
@@ -53,13 +53,13 @@ module _ (p : Profile) (e : End) where
           let rest = replicate (instancesMost - length es) noEntry in
           omega (arith, whole, length-append es rest)
 
-      module _ (new : Run) (made : new ≡ packed (instancesFrom p (entriesIn list))) where
-        pub new-is : instancesOf new ≡ instancesFrom p es
+      module _ (new : Run) (made : new ≡ packed (instancesListed p (entriesIn list))) where
+        pub new-is : instancesOf new ≡ instancesListed p es
         new-is =
             let all : entriesIn list ≡ es =
             ap entriesIn is ∙ take-append-seam es (replicate (instancesMost - length es) noEntry) in
-            ap instancesOf (made ∙ ap (λ (l : List Entry). packed (instancesFrom p l)) all)
-            ∙ packed-all (instancesFrom p es) (omega (arith, from-length, few))
+            ap instancesOf (made ∙ ap (λ (l : List Entry). packed (instancesListed p l)) all)
+            ∙ packed-all (instancesListed p es) (omega (arith, from-length, few))
 
         pub learned-bad :
             listGood instancesMost p (e .request .procedure) (instancesOf new) ≡ false → doubted e ≡ learned p e es

@@ -36,7 +36,7 @@ use Rattle.instances.specs.declared.run.Run.{Run}
 use Rattle.rules.specs.Judge.{applied}
 use Rattle.end.specs.End.{knownMark, doubtMark, markAt, marked, closed, marksGood, waitingGood, endRules, endGood}
 use Rattle.end.specs.Sending.{marksSent, sent, sends}
-use Rattle.end.specs.Listed.{instancesFrom, listGood, replaced}
+use Rattle.end.specs.Listed.{instancesListed, listGood, replaced}
 use Rattle.end.specs.Taking.{doubted, appliedBy, learned, learnedBy, tookBy, took, Moves, moved, takes, givesUp}
 use Rattle.end.specs.declared.end.End.{End}
 use Rattle.end.proofs.Ends.{mark-past, marked-past}
@@ -200,8 +200,8 @@ pub data Why (p : Profile) (e : End) (s : List ℕ) (q : ℕ) (m : Moves) : Type
   learns :
       q ≡ e .request .procedure → e .outstanding ≡ 1 → (at end : ℕ) (es : List Entry) (next : ℕ) → replyTo e s ≡ Listed at end →
       entriesFrom instancesMost s at end ≡ got es next →
-      listGood instancesMost p (e .request .procedure) (instancesFrom p es) ≡ true →
-      m .end .picture ≡ packed (replaced (e .request .procedure) (instancesFrom p es) (instancesOf (e .picture))) →
+      listGood instancesMost p (e .request .procedure) (instancesListed p es) ≡ true →
+      m .end .picture ≡ packed (replaced (e .request .procedure) (instancesListed p es) (instancesOf (e .picture))) →
       Why p e s q m
 
 -- a mark that says known after one was put says so for the mark that was put, or for another procedure's
@@ -258,7 +258,7 @@ module _ (access : List ℕ) (e : End) (s : List ℕ) (q : ℕ) where
       let next : Run = applied p (e .operation) (e .request) (e .picture) in
       by-closed (e .before) next (λ own before. applies own waits before is passes (closed-picture (e .before) next e)))
       (λ waits at end es next is read good.
-      let new : Run = packed (replaced (e .request .procedure) (instancesFrom p es) (instancesOf (e .picture))) in
+      let new : Run = packed (replaced (e .request .procedure) (instancesListed p es) (instancesOf (e .picture))) in
       by-closed knownMark new (λ own _. learns own waits at end es next is read good (closed-picture knownMark new e))))
 
 -- sending makes no procedure known that was in doubt

@@ -39,7 +39,7 @@ use Rattle.rules.proofs.Selections.{selection-procedure}
 use Rattle.rules.proofs.Changes.{changed-ind, changed-good, applied-ind}
 use Rattle.end.specs.End.{knownMark, doubtMark, markAt, marked, closed, endGood}
 use Rattle.end.specs.Sending.{marksSent, sent, sends}
-use Rattle.end.specs.Listed.{instancesFrom, listGood, everyOf, replaced}
+use Rattle.end.specs.Listed.{instancesListed, listGood, everyOf, replaced}
 use Rattle.end.specs.Taking.{takes, givesUp}
 use Rattle.end.specs.declared.end.End.{End}
 use Rattle.end.proofs.Ends.{picture-good}
@@ -161,7 +161,7 @@ module _ (access : List ℕ) (e : End) (s : List ℕ) (q : ℕ) (other : q ≡ e
       (λ _ _. closed-others doubtMark (e .picture))
       (λ _ _ _. closed-others (e .before) (e .picture))
       (λ _ _ _. closed-others (e .before) (applied (ours access) (e .operation) (e .request) (e .picture)))
-      (λ _ _ _ es _ _ _ _. closed-others knownMark (packed (replaced (e .request .procedure) (instancesFrom (ours access) es) (instancesOf (e .picture))))))
+      (λ _ _ _ es _ _ _ _. closed-others knownMark (packed (replaced (e .request .procedure) (instancesListed (ours access) es) (instancesOf (e .picture))))))
 
   -- and their instances in the picture
   pub takes-others :
@@ -177,7 +177,7 @@ module _ (access : List ℕ) (e : End) (s : List ℕ) (q : ℕ) (other : q ≡ e
       ap ofQ (closed-picture (e .before) (applied (ours access) (e .operation) (e .request) (e .picture)) e)
       ∙ applied-others access e ok good waits q other passes)
       (λ waits _ _ es _ _ _ list.
-      let new = instancesFrom (ours access) es in
+      let new = instancesListed (ours access) es in
       ap ofQ (closed-picture knownMark (packed (replaced (e .request .procedure) new (instancesOf (e .picture)))) e)
       ∙ learned-others access e ok good waits q other new list))
     where

@@ -24,7 +24,7 @@ use Rattle.instances.proofs.Choices.{chosen-every}
 use Rattle.instances.proofs.Merged.{nil-merged, merged-nil, merge-lower, merge-higher, merged-length}
 use Rattle.instances.proofs.Fits.{all-pass, not-all}
 use Rattle.instances.proofs.Goods.{run-by}
-use Rattle.end.specs.Listed.{instanceFor, sorted, instancesFrom, listGood, everyOf}
+use Rattle.end.specs.Listed.{instanceFor, sorted, instancesListed, listGood, everyOf}
 
 -- ---- none is lost
 
@@ -153,8 +153,8 @@ module _ (p : Profile) (list : Entries) (n : ℕ)
   -- and at last they are all there
   pub array-done :
       (array : List Instance) → array ≡ arrayFrom p list n 0 →
-      _≡_ {A = Run} record { count = n; run = array } (packed (instancesFrom p (entriesIn list)))
-  unfolding instancesFrom
+      _≡_ {A = Run} record { count = n; run = array } (packed (instancesListed p (entriesIn list)))
+  unfolding instancesListed
   array-done array so =
       let many : n ≡ length (sortedFrom p list 0) = omega (arith, length-from 0) in
       packed-done (sortedFrom p list 0) n array (many, rw (← many) so, omega (arith, many, few))

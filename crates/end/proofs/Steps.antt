@@ -27,7 +27,7 @@ use Rattle.instances.specs.Run.{instancesOf, packed}
 use Rattle.rules.specs.Judge.{judge, applied}
 use Rattle.end.specs.End.{knownMark, usedMost, closed, endGood}
 use Rattle.end.specs.Sending.{Sends, notSent, sends}
-use Rattle.end.specs.Listed.{instancesFrom, listGood, replaced}
+use Rattle.end.specs.Listed.{instancesListed, listGood, replaced}
 use Rattle.end.specs.Taking.{doubted, appliedBy, learned, learnedBy, tookBy, took, gaveUp, Moves, moved, notMoved, takes, givesUp}
 use Rattle.end.specs.declared.end.End.{End}
 use Rattle.end.proofs.Sendings.{sendsOf}
@@ -57,14 +57,14 @@ pub data Doubts (p : Profile) (e : End) (s : List ℕ) : Type 0 where
   -- a list that is not good
   bad :
       (at end : ℕ) → replyTo e s ≡ Listed at end → (es : List Entry) (next : ℕ) → entriesFrom instancesMost s at end ≡ got es next →
-      listGood instancesMost p (e .request .procedure) (instancesFrom p es) ≡ false → Doubts p e s
+      listGood instancesMost p (e .request .procedure) (instancesListed p es) ≡ false → Doubts p e s
   -- a reply of the wrong shape
   shapeless : replyTo e s ≡ Wrong → Doubts p e s
 
 -- the picture after a good list
 abbrev pub learnedEnd : Profile → End → List Entry → End
 learnedEnd p e es =
-    closed knownMark (packed (replaced (e .request .procedure) (instancesFrom p es) (instancesOf (e .picture)))) e
+    closed knownMark (packed (replaced (e .request .procedure) (instancesListed p es) (instancesOf (e .picture)))) e
 
 -- the picture after a result
 abbrev pub appliedEnd : Profile → End → End
@@ -79,7 +79,7 @@ module _ (p : Profile) (e : End) (s : List ℕ) (P : End → Type 0) where
       (e .outstanding ≡ 1 → replyTo e s ≡ Done → verdict p e ≡ none → P (appliedEnd p e)) →
       (e .outstanding ≡ 1 → (at end : ℕ) (es : List Entry) (next : ℕ) → replyTo e s ≡ Listed at end →
       entriesFrom instancesMost s at end ≡ got es next →
-      listGood instancesMost p (e .request .procedure) (instancesFrom p es) ≡ true → P (learnedEnd p e es)) →
+      listGood instancesMost p (e .request .procedure) (instancesListed p es) ≡ true → P (learnedEnd p e es)) →
       P (took p e s)
   unfolding took learned
   took-ind nothing doubt restore apply learn =
@@ -95,7 +95,7 @@ module _ (p : Profile) (e : End) (s : List ℕ) (P : End → Type 0) where
           e .outstanding ≡ 1 → (at end : ℕ) → replyTo e s ≡ Listed at end → (g : Got (List Entry)) →
           entriesFrom instancesMost s at end ≡ g → P (learnedBy p e g)
       by-list w at end h (got es next) is =
-          pick-ind P (listGood instancesMost p (e .request .procedure) (instancesFrom p es))
+          pick-ind P (listGood instancesMost p (e .request .procedure) (instancesListed p es))
           (λ good. learn w at end es next h is good)
           (λ poor. doubt w (bad at end h es next is poor))
       by-list w at end h wrong is = doubt w (unread at end h is)

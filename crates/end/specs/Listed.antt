@@ -21,8 +21,8 @@ sorted [] = []
 sorted (x ∷ xs) = merged (x ∷ []) (sorted xs)
 
 -- the instances of a list, ascending
-unfoldable pub instancesFrom : Profile → List Entry → List Instance
-instancesFrom p es = sorted (map (instanceFor p) es)
+unfoldable pub instancesListed : Profile → List Entry → List Instance
+instancesListed p es = sorted (map (instanceFor p) es)
 
 -- a list is good if it has no "wrong procedure", and its instances obey the table's rules: at most 8, none repeated, numbers and services of
 -- the profile, addresses that a table holds

@@ -25,7 +25,7 @@ use Rattle.answers.specs.declared.reply.Reply.the-variants.{Dropped, Rejected, 
 use Rattle.instances.specs.Run.{instancesOf, packed}
 use Rattle.rules.specs.Judge.{judge, applied}
 use Rattle.end.specs.End.{knownMark, doubtMark, closed, endGood}
-use Rattle.end.specs.Listed.{instancesFrom, listGood, replaced}
+use Rattle.end.specs.Listed.{instancesListed, listGood, replaced}
 use Rattle.end.specs.declared.end.End.{End}
 use Rattle.end.specs.declared.take.Moved.{Moved}
 
@@ -42,8 +42,8 @@ appliedBy p e (some error) = doubted e
 -- "a good list replaces the picture and makes it known"
 unfoldable pub learned : Profile → End → List Entry → End
 learned p e es =
-    pick (listGood instancesMost p (e .request .procedure) (instancesFrom p es))
-    (closed knownMark (packed (replaced (e .request .procedure) (instancesFrom p es) (instancesOf (e .picture)))) e)
+    pick (listGood instancesMost p (e .request .procedure) (instancesListed p es))
+    (closed knownMark (packed (replaced (e .request .procedure) (instancesListed p es) (instancesOf (e .picture)))) e)
     (doubted e)
 
 abbrev pub learnedBy : Profile → End → Got (List Entry) → End

@@ -15,7 +15,7 @@ ghost use Prim.Native.Nat.{_≤_};
 ghost use Rattle.instances.specs.Places.{runMost};
 ghost use Rattle.lists.specs.Entries.{instancesMost, entriesIn};
 ghost use Rattle.instances.specs.Run.{instancesOf, packed};
-ghost use Rattle.end.specs.Listed.{instanceFor, instancesFrom, listGood, everyOf};
+ghost use Rattle.end.specs.Listed.{instanceFor, instancesListed, listGood, everyOf};
 
 // What stands for every number and for every service in a selection.
 const EVERYNUMBER: u8 = 255;
@@ -50,7 +50,7 @@ fn instance_for(p: Profile, x: Entry) -> Instance
 // The instances of a list, ascending. They are put in their places from the last entry to the first: a list that ascends already is
 // only copied.
 pub(crate) fn run_from(p: Profile, list: Entries) -> Run
-    ensures { λ r. ⌜ r ≡ packed (instancesFrom p (entriesIn list)) ⌝ }
+    ensures { λ r. ⌜ r ≡ packed (instancesListed p (entriesIn list)) ⌝ }
 {
     let mut next = fresh_run();
     let n = stored(list.count, INSTANCESMOST);

@@ -18,7 +18,7 @@ use Rattle.requests.specs.declared.request.Request.{Request}
 use Rattle.answers.specs.declared.answer.Problem.{Problem}
 use Rattle.answers.specs.declared.answer.Problem.the-variants.{Invoke}
 use Rattle.answers.specs.declared.answer.Whose.the-variants.{Own}
-use Rattle.exchange.specs.Question.{Question, asks, rejects, notAbove, duplicate, known, codeOf, argued, invoked, question}
+use Rattle.exchange.specs.Question.{Question, asks, rejects, notAbove, duplicate, knownOperation, codeOf, argued, invoked, question}
 use Rattle.exchange.proofs.Questions.{Known, activates, deactivates, interrogates}
 
 -- ---- either
@@ -28,11 +28,11 @@ pub data Asking (identifier : ℤ) (operation : Operation) (q : Question) : Type
   -- a duplicate, an operation that is not 7, 8 or 11, or an argument that cannot be read
   rejected : (problem : Problem) → q ≡ rejects (Own identifier) problem → Asking identifier operation q
   judged :
-      (r : Request) → known (operation .value) ≡ true → q ≡ asks identifier (codeOf (operation .value)) r →
+      (r : Request) → knownOperation (operation .value) ≡ true → q ≡ asks identifier (codeOf (operation .value)) r →
       Asking identifier operation q
 
 argued-asking :
-    (identifier : ℤ) (operation : Operation) (g : Got Request) → known (operation .value) ≡ true →
+    (identifier : ℤ) (operation : Operation) (g : Got Request) → knownOperation (operation .value) ≡ true →
     Asking identifier operation (argued identifier operation g)
 argued-asking identifier operation (got r place) is = judged r is refl
 argued-asking identifier operation wrong is = rejected (Invoke 2) refl
@@ -46,7 +46,7 @@ module _ (p : Profile) (last : ℕ) (s : List ℕ) where
       rw h
       (pick-ind (Asking identifier operation) (duplicate p last identifier)
       (λ _. rejected (Invoke 0) refl)
-      (λ _. pick-ind (Asking identifier operation) (known (operation .value))
+      (λ _. pick-ind (Asking identifier operation) (knownOperation (operation .value))
       (λ is. argued-asking identifier operation (argumentAt operation s at end) is)
       (λ _. rejected (Invoke 1) refl)))
 
@@ -57,8 +57,8 @@ above-new : (p : Profile) (last n : ℕ) → last < n → duplicate p last (pos 
 unfolding duplicate notAbove
 above-new p last n h = pick-ind (λ b. b ≡ false) (eqb (p .counted) 1) (λ _. lt-leb n last h) (λ _. refl)
 
-is-known : {operation : ℕ} → Known operation → known (pos operation) ≡ true
-unfolding known
+is-known : {operation : ℕ} → Known operation → knownOperation (pos operation) ≡ true
+unfolding knownOperation
 is-known (activates e) = rw e
 is-known (deactivates e) = rw e
 is-known (interrogates e) = rw e

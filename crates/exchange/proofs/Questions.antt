@@ -35,7 +35,7 @@ use Rattle.answers.specs.declared.answer.Problem.the-variants.{General, Invoke}
 use Rattle.answers.specs.declared.answer.Whose.{Whose}
 use Rattle.answers.specs.declared.answer.Whose.the-variants.{Null, Own}
 use Rattle.answers.proofs.Fits.{OwnFits, EntriesFit}
-use Rattle.exchange.specs.Question.{Question, says, asks, rejects, notAbove, duplicate, known, codeOf, argued, invoked, questionOf, question}
+use Rattle.exchange.specs.Question.{Question, says, asks, rejects, notAbove, duplicate, knownOperation, codeOf, argued, invoked, questionOf, question}
 use Rattle.exchange.specs.inner.Question.{questionRead}
 
 -- ---- the machine's tests
@@ -60,8 +60,8 @@ bits-are z fits n small e = sym (toZ-ofZ fits) ∙ ap (toZ w16) e ∙ toZ-pos w1
 
 last-known :
     (z : ℤ) → SFits w16 z → (ofZ w16 z ≡ activation → ⊥) → (ofZ w16 z ≡ deactivation → ⊥) →
-    eqb (ofZ w16 z) interrogation ≡ known z
-unfolding known
+    eqb (ofZ w16 z) interrogation ≡ knownOperation z
+unfolding knownOperation
 last-known (pos n) fits first second = rw (ne-eqb n activation first, ne-eqb n deactivation second)
 last-known (negsuc n) fits first second = ne-eqb (ofZ w16 (negsuc n)) interrogation (λ e. omega (arith, fits .sfits))
 
@@ -83,16 +83,16 @@ module _ (z : ℤ) (fits : SFits w16 z) where
   from-zero-fits e = rw (toZ-ofZ fits) (number-fits z fits (rw (toZ-ofZ fits) at e))
 
   -- "operation not 7, 8, 11"
-  pub activation-known : ofZ w16 z ≡ activation → true ≡ known z
-  unfolding known
+  pub activation-known : ofZ w16 z ≡ activation → true ≡ knownOperation z
+  unfolding knownOperation
   activation-known e = rw (bits-are z fits activation (omega arith) e)
 
-  pub deactivation-known : ofZ w16 z ≡ deactivation → true ≡ known z
-  unfolding known
+  pub deactivation-known : ofZ w16 z ≡ deactivation → true ≡ knownOperation z
+  unfolding knownOperation
   deactivation-known e = rw (bits-are z fits deactivation (omega arith) e)
 
   pub interrogation-known :
-      (ofZ w16 z ≡ activation → ⊥) → (ofZ w16 z ≡ deactivation → ⊥) → eqb (ofZ w16 z) interrogation ≡ known z
+      (ofZ w16 z ≡ activation → ⊥) → (ofZ w16 z ≡ deactivation → ⊥) → eqb (ofZ w16 z) interrogation ≡ knownOperation z
   interrogation-known = last-known z fits
 
 -- ---- operations
@@ -104,8 +104,8 @@ pub data Known (operation : ℕ) : Type 0 where
   interrogates : operation ≡ interrogation → Known operation
 
 -- an operation that is known is one of the three, and its own code
-pub known-code : (z : ℤ) → known z ≡ true → (z ≡ pos (codeOf z)) × Known (codeOf z)
-unfolding known
+pub known-code : (z : ℤ) → knownOperation z ≡ true → (z ≡ pos (codeOf z)) × Known (codeOf z)
+unfolding knownOperation
 known-code (pos n) =
     let P : Bool → Type 0 = λ t. t ≡ true → (pos n ≡ pos n) × Known n in
     pick-ind P (eqb n activation) (λ e _. (refl, activates (eqb-true n activation e)))
@@ -120,7 +120,7 @@ known-small (deactivates e) = omega arith
 known-small (interrogates e) = omega arith
 
 -- so that the machine can cast it
-module _ (z : ℤ) (fits : SFits w16 z) (e : known z ≡ true) where
+module _ (z : ℤ) (fits : SFits w16 z) (e : knownOperation z ≡ true) where
   machine-code : toZ w16 (ofZ w16 z) ≡ pos (codeOf z)
   machine-code = toZ-ofZ fits ∙ known-code z e .0
 
@@ -131,12 +131,12 @@ module _ (z : ℤ) (fits : SFits w16 z) (e : known z ≡ true) where
   pub code-cast : natAbs (toZ w16 (ofZ w16 z)) ≡ codeOf z
   code-cast = ap natAbs machine-code
 
-pub known-number : (n : ℕ) → known (pos n) ≡ any (eqb n activation ∷ eqb n deactivation ∷ eqb n interrogation ∷ [])
-unfolding known
+pub known-number : (n : ℕ) → knownOperation (pos n) ≡ any (eqb n activation ∷ eqb n deactivation ∷ eqb n interrogation ∷ [])
+unfolding knownOperation
 known-number n = rw (pick-last (eqb n interrogation))
 
-pub known-negative : (n : ℕ) → known (negsuc n) ≡ false
-unfolding known
+pub known-negative : (n : ℕ) → knownOperation (negsuc n) ≡ false
+unfolding knownOperation
 known-negative n = refl
 
 -- ---- what is asked, part by part
@@ -149,7 +149,7 @@ pub invoked-is :
     (p : Profile) (last : ℕ) (s : List ℕ) (identifier : ℤ) (operation : Operation) (at end : ℕ) →
     invoked p last s identifier operation at end
     ≡ pick (duplicate p last identifier) (rejects (Own identifier) (Invoke 0))
-    (pick (known (operation .value)) (argued identifier operation (argumentAt operation s at end))
+    (pick (knownOperation (operation .value)) (argued identifier operation (argumentAt operation s at end))
     (rejects (Own identifier) (Invoke 1)))
 unfolding invoked
 invoked-is p last s identifier operation at end = refl
@@ -219,7 +219,7 @@ rejected p last whose problem fits = record { once = reject whose problem refl; 
 
 argued-sound :
     (p : Profile) (last : ℕ) (identifier : ℤ) (operation : Operation) (s : List ℕ) (at end : ℕ) → mag identifier < 32768 →
-    duplicate p last identifier ≡ false → known (operation .value) ≡ true →
+    duplicate p last identifier ≡ false → knownOperation (operation .value) ≡ true →
     (g : Got Request) → argumentAt operation s at end ≡ g → Sound p last (argued identifier operation g)
 argued-sound p last identifier operation s at end range new is-known (got r next) read =
     let known = known-code (operation .value) is-known in
@@ -245,7 +245,7 @@ sound-of p last s (heard.NoOperation identifier) range = rejected p last (Own id
 sound-of p last s (heard.Asks identifier operation at end) range =
     pick-ind (Sound p last) (duplicate p last identifier)
     (λ _. rejected p last (Own identifier) (Invoke 0) range)
-    (λ new. pick-ind (Sound p last) (known (operation .value))
+    (λ new. pick-ind (Sound p last) (knownOperation (operation .value))
     (λ is-known.
     argued-sound p last identifier operation s at end range new is-known (argumentAt operation s at end) refl)
     (λ _. rejected p last (Own identifier) (Invoke 1) range))

@@ -40,9 +40,9 @@ unfoldable pub duplicate : Profile → ℕ → ℤ → Bool
 duplicate p last identifier = pick (eqb (p .counted) 1) (notAbove identifier last) false
 
 -- "operation not 7, 8, 11"
-unfoldable pub known : ℤ → Bool
-known (pos n) = pick (eqb n activation) true (pick (eqb n deactivation) true (eqb n interrogation))
-known (negsuc n) = false
+unfoldable pub knownOperation : ℤ → Bool
+knownOperation (pos n) = pick (eqb n activation) true (pick (eqb n deactivation) true (eqb n interrogation))
+knownOperation (negsuc n) = false
 
 abbrev pub codeOf : ℤ → ℕ
 codeOf (pos n) = n
@@ -55,7 +55,7 @@ argued identifier operation wrong = rejects (Own identifier) (Invoke 2)
 unfoldable pub invoked : Profile → ℕ → List ℕ → ℤ → Operation → ℕ → ℕ → Question
 invoked p last s identifier operation at end =
     pick (duplicate p last identifier) (rejects (Own identifier) (Invoke 0))
-    (pick (known (operation .value)) (argued identifier operation (argumentAt operation s at end))
+    (pick (knownOperation (operation .value)) (argued identifier operation (argumentAt operation s at end))
     (rejects (Own identifier) (Invoke 1)))
 
 abbrev pub questionOf : Profile → ℕ → List ℕ → Heard → Question

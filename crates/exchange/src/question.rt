@@ -15,7 +15,7 @@ use requests::hear;
 ghost use mathlib.Core.Path.{_≡_};
 ghost use Rattle.answers.specs.declared.answer.Problem.the-variants.{General};
 ghost use Rattle.answers.specs.declared.answer.Whose.the-variants.{Null};
-ghost use Rattle.exchange.specs.Question.{notAbove, duplicate, known, says, rejects, invoked, question};
+ghost use Rattle.exchange.specs.Question.{notAbove, duplicate, knownOperation, says, rejects, invoked, question};
 ghost use Rattle.exchange.specs.inner.Question.{questionRead};
 
 // The operations as the numbers that an identifier's reader hands on.
@@ -67,7 +67,7 @@ fn is_duplicate(p: Profile, last: u16, identifier: i16) -> bool
 }
 
 fn is_known(operation: i16) -> bool
-    ensures { λ r. ⌜ r ≡ known operation ⌝ }
+    ensures { λ r. ⌜ r ≡ knownOperation operation ⌝ }
 {
     if operation == ACTIVATIONVALUE {
         return true;

@@ -27,9 +27,9 @@ use Rattle.requests.specs.declared.heard.Heard.the-variants.{NotOne, Silent, Ot
 use Rattle.requests.specs.declared.heard.Operation.{Operation}
 use Rattle.requests.specs.declared.request.Request.{Request}
 use Rattle.requests.specs.declared.request.Served.{Served}
-use Rattle.listings.specs.Listing.{decimal, procedureName, kindText, hexText, marked}
+use Rattle.listings.specs.Listing.{decimal, procedureName, kindText, hexText, endedBy}
 use Rattle.listings.proofs.Words.{decimal-ten, hex-length, kind-unknown, kind-public, name-cfu, name-cfb, name-cfnr}
-use Rattle.explanations.specs.Text.{chars, signedText, held, numberText, servedText, octetsWord, subWord}
+use Rattle.explanations.specs.Text.{chars, signedText, countedPlaces, numberText, servedText, octetsWord, subWord}
 use Rattle.explanations.specs.Text.{toText, operationText, argumentText, requestLine}
 use Rattle.explanations.specs.Explained.{replyWord, valueWord, valueText, ownText, replyText, replyFound, replyOf, replyLine}
 use Rattle.explanations.specs.Explained.{rowFive, rowSeven, rowEight, rowLine, operationNo, isOperation, arguedText, askedText}
@@ -42,12 +42,12 @@ unfolding signedText
 signed-most (pos n) = omega (arith, decimal-ten n)
 signed-most (negsuc n) = omega (arith, decimal-ten (n + 1))
 
-held-most : (count : ℕ) (places : List ℕ) → length (held count places) ≤ most
+held-most : (count : ℕ) (places : List ℕ) → length (countedPlaces count places) ≤ most
 held-most count places = omega (arith, length-take (min count most) places)
 
-kind-most : (form kind : ℕ) → length (marked (kindText form kind) 32) ≤ 12
+kind-most : (form kind : ℕ) → length (endedBy (kindText form kind) 32) ≤ 12
 kind-most form kind =
-    by-bool (length (marked (kindText form kind) 32) ≤ 12) (eqb form 0)
+    by-bool (length (endedBy (kindText form kind) 32) ≤ 12) (eqb form 0)
     (λ e. omega (arith, ap length (kind-unknown form kind (eqb-true form 0 e))))
     (λ e.
     omega (
@@ -57,12 +57,12 @@ kind-most form kind =
       decimal-ten kind,
     ))
 
-name-most : (procedure : ℕ) → length (marked (procedureName procedure) 32) ≤ 5
+name-most : (procedure : ℕ) → length (endedBy (procedureName procedure) 32) ≤ 5
 name-most procedure =
-    by-bool (length (marked (procedureName procedure) 32) ≤ 5) (eqb procedure 0)
+    by-bool (length (endedBy (procedureName procedure) 32) ≤ 5) (eqb procedure 0)
     (λ e. omega (arith, ap length (name-cfu procedure (eqb-true procedure 0 e))))
     (λ e.
-    by-bool (length (marked (procedureName procedure) 32) ≤ 5) (eqb procedure 1)
+    by-bool (length (endedBy (procedureName procedure) 32) ≤ 5) (eqb procedure 1)
     (λ f. omega (arith, ap length (name-cfb procedure (eqb-false procedure 0 e) (eqb-true procedure 1 f))))
     (λ f. omega (arith, ap length (name-cfnr procedure (eqb-false procedure 0 e) (eqb-false procedure 1 f)))))
 
@@ -71,13 +71,13 @@ name-most procedure =
 number-most : (n : Number) → length (numberText n) ≤ 32
 unfolding numberText
 number-most n =
-    let kind : List ℕ = marked (kindText (n .form) (n .kind)) 32 in
-    pick-ind (λ ws. length ws ≤ 32) (eqb (n .form) other) {x = chars "a number of another kind"} {y = kind ++ held (n .count) (n .digits)}
+    let kind : List ℕ = endedBy (kindText (n .form) (n .kind)) 32 in
+    pick-ind (λ ws. length ws ≤ 32) (eqb (n .form) other) {x = chars "a number of another kind"} {y = kind ++ countedPlaces (n .count) (n .digits)}
     (λ _. omega arith)
     (λ _.
     omega (
       arith,
-      length-append kind (held (n .count) (n .digits)),
+      length-append kind (countedPlaces (n .count) (n .digits)),
       kind-most (n .form) (n .kind),
       held-most (n .count) (n .digits),
     ))
@@ -91,8 +91,8 @@ served-most v =
 octets-most : (count : ℕ) (octets : List ℕ) → length (octetsWord count octets) ≤ 40
 unfolding octetsWord
 octets-most count octets =
-    pick-ind (λ ws. length ws ≤ 40) (eqb count 0) {x = chars "-"} {y = hexText (held count octets)}
-    (λ _. omega arith) (λ _. omega (arith, hex-length (held count octets), held-most count octets))
+    pick-ind (λ ws. length ws ≤ 40) (eqb count 0) {x = chars "-"} {y = hexText (countedPlaces count octets)}
+    (λ _. omega arith) (λ _. omega (arith, hex-length (countedPlaces count octets), held-most count octets))
 
 sub-most : (to : Forwarded) → length (subWord to) ≤ 40
 unfolding subWord
@@ -127,7 +127,7 @@ operation-most operation =
 argument-most : (operation : ℕ) (r : Request) → length (argumentText operation r) ≤ 137
 unfolding argumentText
 argument-most operation r =
-    let name : List ℕ = marked (procedureName (r .procedure)) 32 in
+    let name : List ℕ = endedBy (procedureName (r .procedure)) 32 in
     let service : List ℕ = decimal (r .service) in
     let served : List ℕ = servedText (r .served) in
     omega (

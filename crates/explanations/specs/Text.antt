@@ -8,7 +8,7 @@ use lib.ListN.{take}
 use lib.Dec.{eqb}
 use Rattle.laws.specs.Pick.{pick}
 use Rattle.codes.specs.Codes.{activation, deactivation}
-use Rattle.listings.specs.Listing.{decimal, procedureName, kindText, hexText, marked}
+use Rattle.listings.specs.Listing.{decimal, procedureName, kindText, hexText, endedBy}
 use Rattle.numbers.specs.Number.{most, other}
 use Rattle.numbers.specs.declared.number.Number.{Number}
 use Rattle.numbers.specs.declared.address.Forwarded.{Forwarded}
@@ -28,21 +28,21 @@ signedText (negsuc n) = chars "-" ++ decimal (n + 1)
 -- ---- a request, with the words of a listing
 
 -- the first `count` of the places of a number's or a subaddress's record, which are at most 20
-abbrev pub held : ℕ → List ℕ → List ℕ
-held count places = take (min count most) places
+abbrev pub countedPlaces : ℕ → List ℕ → List ℕ
+countedPlaces count places = take (min count most) places
 
 -- "u 24680", "p1 24680"; "other kinds: whole, contents not read"
 unfoldable pub numberText : Number → List ℕ
 numberText n =
     pick (eqb (n .form) other) (chars "a number of another kind")
-    (marked (kindText (n .form) (n .kind)) 32 ++ held (n .count) (n .digits))
+    (endedBy (kindText (n .form) (n .kind)) 32 ++ countedPlaces (n .count) (n .digits))
 
 unfoldable pub servedText : Served → List ℕ
 servedText served = pick (eqb (served .all) 1) (chars "all numbers") (numberText (served .number))
 
 -- "an octet string (tag 04) of 1 to 20", in hexadecimal or -
 unfoldable pub octetsWord : ℕ → List ℕ → List ℕ
-octetsWord count octets = pick (eqb count 0) (chars "-") (hexText (held count octets))
+octetsWord count octets = pick (eqb count 0) (chars "-") (hexText (countedPlaces count octets))
 
 -- "or a user-specified one"
 unfoldable pub subWord : Forwarded → List ℕ
@@ -61,7 +61,7 @@ operationText operation =
 -- what is asked for: "cfb service 1 for all numbers to u 24680 -"
 unfoldable pub argumentText : ℕ → Request → List ℕ
 argumentText operation r =
-    marked (procedureName (r .procedure)) 32 ++ chars "service " ++ decimal (r .service) ++ chars " for "
+    endedBy (procedureName (r .procedure)) 32 ++ chars "service " ++ decimal (r .service) ++ chars " for "
     ++ servedText (r .served) ++ toText operation (r .to)
 
 unfoldable pub requestLine : ℤ → ℕ → Request → List ℕ

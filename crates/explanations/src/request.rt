@@ -12,7 +12,7 @@ use numbers::Number;
 use numbers::UNKNOWN;
 use requests::Request;
 use requests::Served;
-ghost use Rattle.listings.specs.Listing.{procedureName, kindText, marked};
+ghost use Rattle.listings.specs.Listing.{procedureName, kindText, endedBy};
 ghost use Rattle.explanations.specs.Text.{numberText, servedText, octetsWord, subWord, toText, operationText, argumentText, requestLine};
 ghost use Rattle.explanations.specs.inner.Pen.{Penned};
 
@@ -25,7 +25,7 @@ pub(crate) const ACTIVATIONNO: usize = ACTIVATION as usize;
 pub(crate) const DEACTIVATIONNO: usize = DEACTIVATION as usize;
 
 fn write_kind(out: &mut [u8], at: usize, form: u8, kind: u8) -> usize
-    ensures { λ r. ⌜ Penned (now (out .entry)) at (marked (kindText form kind) 32) r (now (out .exit)) ⌝ }
+    ensures { λ r. ⌜ Penned (now (out .entry)) at (endedBy (kindText form kind) 32) r (now (out .exit)) ⌝ }
 {
     if form == UNKNOWN {
         return write_text(out, at, b"u ");
@@ -105,7 +105,7 @@ fn write_operation(out: &mut [u8], at: usize, operation: usize) -> usize
 }
 
 fn write_procedure(out: &mut [u8], at: usize, procedure: u8) -> usize
-    ensures { λ r. ⌜ Penned (now (out .entry)) at (marked (procedureName procedure) 32) r (now (out .exit)) ⌝ }
+    ensures { λ r. ⌜ Penned (now (out .entry)) at (endedBy (procedureName procedure) 32) r (now (out .exit)) ⌝ }
 {
     if procedure == 0 {
         return write_text(out, at, b"cfu ");

@@ -12,7 +12,7 @@ use Rattle.laws.specs.Pick.{pick}
 use Rattle.laws.specs.Stands.{Stands}
 use Rattle.laws.proofs.Picks.{pick-ind}
 use Rattle.laws.proofs.Stands.{stands-first, stands-right, stands-nil, stands-cons}
-use Rattle.groups.specs.Groups.{Found, found, nothing, infront, groupsIn, told, groupsAt, groupsWith, groups}
+use Rattle.groups.specs.Groups.{Found, found, nothing, infront, groupsIn, groupsTold, groupsAt, groupsWith, groups}
 use Rattle.groups.specs.declared.groups.Groups.{Groups}
 use Rattle.groups.specs.declared.groups.Groups.the-variants.{Is, Large, Bad}
 
@@ -252,7 +252,7 @@ nextOr d (Is v next) = next
 nextOr d (Large next) = d
 nextOr d Bad = d
 
-told-found : (x : Found) (v next : ℕ) → told x ≡ Is v next → x ≡ found v next
+told-found : (x : Found) (v next : ℕ) → groupsTold x ≡ Is v next → x ≡ found v next
 told-found (found w p) v next =
     pick-ind (λ y. y ≡ Is v next → found w p ≡ found v next) (ltb w (2 ^ 32))
     (λ _ e. rw (ap (valueOr w) e, ap (nextOr p) e))

@@ -10,7 +10,7 @@ use native.Mathlib.Omega.{arith}
 use lib.ListN.{length, getD, set}
 use borrow.Author.Tests.{lt-ltb, le-ltb, ne-eqb}
 use Rattle.laws.specs.Over.{over, Wrote}
-use Rattle.groups.specs.Groups.{Found, found, nothing, groupsIn, told, groupsAt, groups}
+use Rattle.groups.specs.Groups.{Found, found, nothing, groupsIn, groupsTold, groupsAt, groups}
 use Rattle.groups.specs.inner.Groups.{LastAt, groupsMost, groupsValue}
 use Rattle.groups.specs.declared.groups.Groups.the-variants.{Is, Large, Bad}
 use Rattle.groups.proofs.GroupLaws.{groups-last, groups-infront, groups-shortest, groups-one, groups-more}
@@ -154,7 +154,7 @@ groups-ends (suc j) (suc k) s at end last e f l lt some =
 
 -- ---- the ways out of `groups_at`
 module _ (s : List ℕ) (at end : ℕ) (in-s : end ≤ length s) where
-  groups-at-told : {x : Found} → groupsIn (end - at) s at ≡ x → groupsAt s at end ≡ told x
+  groups-at-told : {x : Found} → groupsIn (end - at) s at ≡ x → groupsAt s at end ≡ groupsTold x
   unfolding groupsAt
   groups-at-told e = rw (le-ltb (length s) end in-s, e)
 
@@ -195,7 +195,7 @@ module _ (s : List ℕ) (at end : ℕ) (in-s : end ≤ length s) where
     -- any other number
     pub groups-at-ends :
         last < end → (getD s last 0 ≡ 0 → ⊥) →
-        groupsAt s at end ≡ told (found (groupsValue (last + 1 - at) s at) (last + 1))
+        groupsAt s at end ≡ groupsTold (found (groupsValue (last + 1 - at) s at) (last + 1))
     groups-at-ends h some = groups-at-told (groups-at-found h some)
 
     -- more groups than a number below 2 ^ 32 has

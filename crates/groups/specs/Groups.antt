@@ -27,13 +27,13 @@ groupsIn (suc k) s at =
     pick (ltb (getD s at 0) 128) (found (getD s at 0) (at + 1)) (infront (getD s at 0 % 128) (groupsIn k s (at + 1)))
 
 -- a number below 2 ^ 32 is told; a larger one is only said to be one
-abbrev pub told : Found → Groups
-told (found v next) = pick (ltb v (2 ^ 32)) (Is v next) (Large next)
-told nothing = Bad
+abbrev pub groupsTold : Found → Groups
+groupsTold (found v next) = pick (ltb v (2 ^ 32)) (Is v next) (Large next)
+groupsTold nothing = Bad
 
 -- the number at `at`, of the octets of s before `end`
 unfoldable pub groupsAt : List ℕ → ℕ → ℕ → Groups
-groupsAt s at end = pick (ltb (length s) end) Bad (told (groupsIn (end - at) s at))
+groupsAt s at end = pick (ltb (length s) end) Bad (groupsTold (groupsIn (end - at) s at))
 
 -- n in at most k groups and one
 unfoldable pub groupsWith : ℕ → ℕ → List ℕ

@@ -14,26 +14,26 @@ use Rattle.instances.specs.declared.instance.Instance.{Instance}
 use Rattle.forms.specs.Form.{form1}
 use Rattle.forms.proofs.Readers.{service-few}
 use Rattle.forms.proofs.Fits.{FieldsFit, Small, held-small}
-use Rattle.listings.specs.Listing.{decimal, procedureName, kindText, hexText, subText, marked, lineOf, headerLine, headerMost, instanceLine, lineMost}
+use Rattle.listings.specs.Listing.{decimal, procedureName, kindText, hexText, subText, endedBy, lineOf, headerLine, headerMost, instanceLine, lineMost}
 use Rattle.listings.proofs.Words.{decimal-one, decimal-most, hex-length}
 
 -- ---- words, one after the other
 
-line-last : (w : List ℕ) → lineOf (w ∷ []) ≡ marked w 10
+line-last : (w : List ℕ) → lineOf (w ∷ []) ≡ endedBy w 10
 unfolding lineOf
 line-last w = refl
 
-line-more : (w v : List ℕ) (ws : List (List ℕ)) → lineOf (w ∷ v ∷ ws) ≡ marked w 32 ++ lineOf (v ∷ ws)
+line-more : (w v : List ℕ) (ws : List (List ℕ)) → lineOf (w ∷ v ∷ ws) ≡ endedBy w 32 ++ lineOf (v ∷ ws)
 unfolding lineOf
 line-more w v ws = refl
 
 module _ (xs : List ℕ) (at : ℕ) (w v : List ℕ) (ws : List (List ℕ)) (fits : at + length (lineOf (w ∷ v ∷ ws)) ≤ length xs) where
   -- there is room for the first word
-  line-first : at + length (marked w 32) ≤ length xs
-  line-first = omega (arith, ap length (line-more w v ws), length-append (marked w 32) (lineOf (v ∷ ws)))
+  line-first : at + length (endedBy w 32) ≤ length xs
+  line-first = omega (arith, ap length (line-more w v ws), length-append (endedBy w 32) (lineOf (v ∷ ws)))
 
   -- it was written: there is room for the others, and with them all are written
-  module _ {p : ℕ} {ys : List ℕ} (word : Wrote xs at (marked w 32) p ys) where
+  module _ {p : ℕ} {ys : List ℕ} (word : Wrote xs at (endedBy w 32) p ys) where
     line-room : p + length (lineOf (v ∷ ws)) ≤ length ys
     line-room = room-then (lineOf (v ∷ ws)) (rw (line-more w v ws) at fits) word
 
@@ -72,42 +72,42 @@ module _ (i : Instance) where
     whole : at + length (lineOf (name ∷ number ∷ service ∷ kind ∷ digits ∷ sub ∷ [])) ≤ length xs
     whole = rw line-words at fits
 
-    pub name-room : at + length (marked name 32) ≤ length xs
+    pub name-room : at + length (endedBy name 32) ≤ length xs
     name-room = line-first xs at name number (service ∷ kind ∷ digits ∷ sub ∷ []) whole
 
-    module _ {p : ℕ} {ys : List ℕ} (w1 : Wrote xs at (marked name 32) p ys) where
+    module _ {p : ℕ} {ys : List ℕ} (w1 : Wrote xs at (endedBy name 32) p ys) where
       after-name : p + length (lineOf (number ∷ service ∷ kind ∷ digits ∷ sub ∷ [])) ≤ length ys
       after-name = line-room xs at name number (service ∷ kind ∷ digits ∷ sub ∷ []) whole w1
 
-      pub number-room : p + length (marked number 32) ≤ length ys
+      pub number-room : p + length (endedBy number 32) ≤ length ys
       number-room = line-first ys p number service (kind ∷ digits ∷ sub ∷ []) after-name
 
-      module _ {q : ℕ} {zs : List ℕ} (w2 : Wrote ys p (marked number 32) q zs) where
+      module _ {q : ℕ} {zs : List ℕ} (w2 : Wrote ys p (endedBy number 32) q zs) where
         after-number : q + length (lineOf (service ∷ kind ∷ digits ∷ sub ∷ [])) ≤ length zs
         after-number = line-room ys p number service (kind ∷ digits ∷ sub ∷ []) after-name w2
 
-        pub service-room : q + length (marked service 32) ≤ length zs
+        pub service-room : q + length (endedBy service 32) ≤ length zs
         service-room = line-first zs q service kind (digits ∷ sub ∷ []) after-number
 
-        module _ {k : ℕ} {us : List ℕ} (w3 : Wrote zs q (marked service 32) k us) where
+        module _ {k : ℕ} {us : List ℕ} (w3 : Wrote zs q (endedBy service 32) k us) where
           after-service : k + length (lineOf (kind ∷ digits ∷ sub ∷ [])) ≤ length us
           after-service = line-room zs q service kind (digits ∷ sub ∷ []) after-number w3
 
-          pub kind-room : k + length (marked kind 32) ≤ length us
+          pub kind-room : k + length (endedBy kind 32) ≤ length us
           kind-room = line-first us k kind digits (sub ∷ []) after-service
 
-          module _ {m : ℕ} {vs : List ℕ} (w4 : Wrote us k (marked kind 32) m vs) where
+          module _ {m : ℕ} {vs : List ℕ} (w4 : Wrote us k (endedBy kind 32) m vs) where
             after-kind : m + length (lineOf (digits ∷ sub ∷ [])) ≤ length vs
             after-kind = line-room us k kind digits (sub ∷ []) after-service w4
 
-            pub digits-room : m + length (marked digits 32) ≤ length vs
+            pub digits-room : m + length (endedBy digits 32) ≤ length vs
             digits-room = line-first vs m digits sub [] after-kind
 
-            module _ {t : ℕ} {ws : List ℕ} (w5 : Wrote vs m (marked digits 32) t ws) where
-              pub sub-room : t + length (marked sub 10) ≤ length ws
+            module _ {t : ℕ} {ws : List ℕ} (w5 : Wrote vs m (endedBy digits 32) t ws) where
+              pub sub-room : t + length (endedBy sub 10) ≤ length ws
               sub-room = rw (line-last sub) at (line-room vs m digits sub [] after-kind w5)
 
-              pub instance-wrote : {n : ℕ} {rs : List ℕ} → Wrote ws t (marked sub 10) n rs → Wrote xs at (instanceLine i) n rs
+              pub instance-wrote : {n : ℕ} {rs : List ℕ} → Wrote ws t (endedBy sub 10) n rs → Wrote xs at (instanceLine i) n rs
               instance-wrote w6 =
                   rw line-words
                   (line-wrote xs at name number (service ∷ kind ∷ digits ∷ sub ∷ []) whole w1
@@ -143,19 +143,19 @@ module _ (i : Instance) where
           arith,
           ap length line-words,
           ap length (line-more name number (service ∷ kind ∷ digits ∷ sub ∷ [])),
-          length-append (marked name 32) (lineOf (number ∷ service ∷ kind ∷ digits ∷ sub ∷ [])),
+          length-append (endedBy name 32) (lineOf (number ∷ service ∷ kind ∷ digits ∷ sub ∷ [])),
           length-append name (32 ∷ []),
           ap length (line-more number service (kind ∷ digits ∷ sub ∷ [])),
-          length-append (marked number 32) (lineOf (service ∷ kind ∷ digits ∷ sub ∷ [])),
+          length-append (endedBy number 32) (lineOf (service ∷ kind ∷ digits ∷ sub ∷ [])),
           length-append number (32 ∷ []),
           ap length (line-more service kind (digits ∷ sub ∷ [])),
-          length-append (marked service 32) (lineOf (kind ∷ digits ∷ sub ∷ [])),
+          length-append (endedBy service 32) (lineOf (kind ∷ digits ∷ sub ∷ [])),
           length-append service (32 ∷ []),
           ap length (line-more kind digits (sub ∷ [])),
-          length-append (marked kind 32) (lineOf (digits ∷ sub ∷ [])),
+          length-append (endedBy kind 32) (lineOf (digits ∷ sub ∷ [])),
           length-append kind (32 ∷ []),
           ap length (line-more digits sub []),
-          length-append (marked digits 32) (lineOf (sub ∷ [])),
+          length-append (endedBy digits 32) (lineOf (sub ∷ [])),
           length-append digits (32 ∷ []),
           ap length (line-last sub),
           length-append sub (10 ∷ []),
@@ -178,10 +178,10 @@ countText = 99 ∷ 111 ∷ 117 ∷ 110 ∷ 116 ∷ 32 ∷ []
 
 module _ (last count : ℕ) where
   abbrev lastPart : List ℕ
-  lastPart = marked (decimal last) 32
+  lastPart = endedBy (decimal last) 32
 
   abbrev countPart : List ℕ
-  countPart = marked (decimal count) 10
+  countPart = endedBy (decimal count) 10
 
   header-text : headerLine 1 last count ≡ formText ++ (lastPart ++ (countText ++ countPart))
   unfolding headerLine lineOf

@@ -12,7 +12,7 @@ use borrow.Author.Tests.{lt-ltb, le-ltb, eq-eqb, ne-eqb}
 use Rattle.laws.specs.Over.{Wrote, Puts}
 use Rattle.laws.proofs.Over.{over-one, wrote-length, then, wrote, wrote-none, room-then}
 use Rattle.laws.proofs.Picks.{pick-ind}
-use Rattle.listings.specs.Listing.{decimalIn, decimal, procedureName, kindText, hexOf, hexText, subText, marked}
+use Rattle.listings.specs.Listing.{decimalIn, decimal, procedureName, kindText, hexOf, hexText, subText, endedBy}
 
 -- ---- a character
 
@@ -20,15 +20,15 @@ pub wrote-one : (xs : List ℕ) (at w : ℕ) → Wrote xs at (w ∷ []) (at + 1)
 wrote-one xs at w = record { moved = refl; holds = sym (over-one xs at w) }
 
 -- room for a word and a character is room for the word
-pub word-room : (ws : List ℕ) (mark at size : ℕ) → at + length (marked ws mark) ≤ size → at + length ws ≤ size
+pub word-room : (ws : List ℕ) (mark at size : ℕ) → at + length (endedBy ws mark) ≤ size → at + length ws ≤ size
 word-room ws mark at size fits = omega (arith, length-append ws (mark ∷ []))
 
 -- a word was written: there is room for the character after it, and with it both are written
 module _ {xs : List ℕ} {at : ℕ} {ws : List ℕ} {p : ℕ} {ys : List ℕ} (mark : ℕ) where
-  pub mark-room : at + length (marked ws mark) ≤ length xs → Wrote xs at ws p ys → p < length ys
+  pub mark-room : at + length (endedBy ws mark) ≤ length xs → Wrote xs at ws p ys → p < length ys
   mark-room fits w = omega (arith, room-then (mark ∷ []) fits w)
 
-  pub mark-wrote : Wrote xs at ws p ys → Wrote xs at (marked ws mark) (p + 1) (set ys p mark)
+  pub mark-wrote : Wrote xs at ws p ys → Wrote xs at (endedBy ws mark) (p + 1) (set ys p mark)
   mark-wrote w = then w (wrote-one ys p mark)
 
 -- ---- numbers
@@ -48,7 +48,7 @@ first : (k n : ℕ) → 10 ≤ n → decimalIn (suc k) n ≡ decimalIn k (n / 10
 unfolding decimalIn
 first k n ten = rw (le-ltb n 10 ten)
 
-pub decimal-more : (n : ℕ) → 10 ≤ n → n < 2 ^ 32 → decimal n ≡ marked (decimal (n / 10)) (48 + n % 10)
+pub decimal-more : (n : ℕ) → 10 ≤ n → n < 2 ^ 32 → decimal n ≡ endedBy (decimal (n / 10)) (48 + n % 10)
 unfolding decimal
 decimal-more n ten small =
     first 9 n ten ∙ ap (λ (ws : List ℕ). ws ++ ((48 + n % 10) ∷ [])) (sym (enough 8 (n / 10) (omega arith)))
@@ -110,23 +110,23 @@ pub text-wrote :
 text-wrote text e fits put = rw e (wrote (rw e at fits) put)
 
 module _ (procedure : ℕ) where
-  pub name-cfu : procedure ≡ 0 → marked (procedureName procedure) 32 ≡ 99 ∷ 102 ∷ 117 ∷ 32 ∷ []
+  pub name-cfu : procedure ≡ 0 → endedBy (procedureName procedure) 32 ≡ 99 ∷ 102 ∷ 117 ∷ 32 ∷ []
   unfolding procedureName
   name-cfu zero-is = rw (eq-eqb procedure 0 zero-is)
 
   pub name-cfb :
-      (procedure ≡ 0 → ⊥) → procedure ≡ 1 → marked (procedureName procedure) 32 ≡ 99 ∷ 102 ∷ 98 ∷ 32 ∷ []
+      (procedure ≡ 0 → ⊥) → procedure ≡ 1 → endedBy (procedureName procedure) 32 ≡ 99 ∷ 102 ∷ 98 ∷ 32 ∷ []
   unfolding procedureName
   name-cfb some one = rw (ne-eqb procedure 0 some, eq-eqb procedure 1 one)
 
   pub name-cfnr :
       (procedure ≡ 0 → ⊥) → (procedure ≡ 1 → ⊥) →
-      marked (procedureName procedure) 32 ≡ 99 ∷ 102 ∷ 110 ∷ 114 ∷ 32 ∷ []
+      endedBy (procedureName procedure) 32 ≡ 99 ∷ 102 ∷ 110 ∷ 114 ∷ 32 ∷ []
   unfolding procedureName
   name-cfnr some more = rw (ne-eqb procedure 0 some, ne-eqb procedure 1 more)
 
 module _ (form kind : ℕ) where
-  pub kind-unknown : form ≡ 0 → marked (kindText form kind) 32 ≡ 117 ∷ 32 ∷ []
+  pub kind-unknown : form ≡ 0 → endedBy (kindText form kind) 32 ≡ 117 ∷ 32 ∷ []
   unfolding kindText
   kind-unknown none = rw (eq-eqb form 0 none)
 
@@ -136,18 +136,18 @@ module _ (form kind : ℕ) where
     kind-public = rw (ne-eqb form 0 some)
 
     -- the p was written: there is room for the type, and with it both are written
-    pub kind-first : (at size : ℕ) → at + length (marked (kindText form kind) 32) ≤ size → at < size
+    pub kind-first : (at size : ℕ) → at + length (endedBy (kindText form kind) 32) ≤ size → at < size
     kind-first at size fits =
         omega (arith, length-append (kindText form kind) (32 ∷ []), ap length kind-public)
 
     pub kind-room :
-        (xs : List ℕ) (at : ℕ) → at + length (marked (kindText form kind) 32) ≤ length xs →
-        at + 1 + length (marked (decimal kind) 32) ≤ length (set xs at 112)
-    kind-room xs at fits = room-then (marked (decimal kind) 32) (rw kind-public at fits) (wrote-one xs at 112)
+        (xs : List ℕ) (at : ℕ) → at + length (endedBy (kindText form kind) 32) ≤ length xs →
+        at + 1 + length (endedBy (decimal kind) 32) ≤ length (set xs at 112)
+    kind-room xs at fits = room-then (endedBy (decimal kind) 32) (rw kind-public at fits) (wrote-one xs at 112)
 
     pub kind-wrote :
-        {xs : List ℕ} {at q : ℕ} {zs : List ℕ} → Wrote (set xs at 112) (at + 1) (marked (decimal kind) 32) q zs →
-        Wrote xs at (marked (kindText form kind) 32) q zs
+        {xs : List ℕ} {at q : ℕ} {zs : List ℕ} → Wrote (set xs at 112) (at + 1) (endedBy (decimal kind) 32) q zs →
+        Wrote xs at (endedBy (kindText form kind) 32) q zs
     kind-wrote {xs} {at} w = rw kind-public (then (wrote-one xs at 112) w)
 
 -- ---- octets in hexadecimal
@@ -212,7 +212,7 @@ module _ (octets xs : List ℕ) (at : ℕ) where
 -- ---- a subaddress
 
 module _ (count : ℕ) (sub : List ℕ) where
-  pub sub-none : count ≡ 0 → marked (subText count sub) 10 ≡ 45 ∷ 10 ∷ []
+  pub sub-none : count ≡ 0 → endedBy (subText count sub) 10 ≡ 45 ∷ 10 ∷ []
   unfolding subText
   sub-none none = rw (eq-eqb count 0 none)
 

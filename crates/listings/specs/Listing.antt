@@ -61,14 +61,14 @@ subText count sub = pick (eqb count 0) (45 ∷ []) (hexText (take count sub))
 -- ---- lines
 
 -- a word and the character after it
-abbrev pub marked : List ℕ → ℕ → List ℕ
-marked word mark = word ++ (mark ∷ [])
+abbrev pub endedBy : List ℕ → ℕ → List ℕ
+endedBy word mark = word ++ (mark ∷ [])
 
 -- words with a space between each two, and a newline at the end
 unfoldable pub lineOf : List (List ℕ) → List ℕ
 lineOf [] = 10 ∷ []
-lineOf (word ∷ []) = marked word 10
-lineOf (word ∷ next ∷ words) = marked word 32 ++ lineOf (next ∷ words)
+lineOf (word ∷ []) = endedBy word 10
+lineOf (word ∷ next ∷ words) = endedBy word 32 ++ lineOf (next ∷ words)
 
 -- "form", "last" and "count"
 abbrev pub formWord : List ℕ

@@ -6,7 +6,7 @@ ghost use Prim.Native.Nat.{_+_, _/_, _≤_};
 ghost use lib.ListN.{length, take};
 ghost use Rattle.laws.specs.Over.{Wrote};
 ghost use Rattle.numbers.specs.Number.{most};
-ghost use Rattle.listings.specs.Listing.{decimal, procedureName, kindText, hexOf, hexText, subText, marked, HexOf};
+ghost use Rattle.listings.specs.Listing.{decimal, procedureName, kindText, hexOf, hexText, subText, endedBy, HexOf};
 
 // `n` in decimal digits.
 fn write_decimal(out: &mut [u8], at: usize, n: u32) -> usize
@@ -24,8 +24,8 @@ fn write_decimal(out: &mut [u8], at: usize, n: u32) -> usize
 
 // `n` in decimal digits, and a character.
 pub(crate) fn write_number(out: &mut [u8], at: usize, n: u32, mark: u8) -> usize
-    requires { ⌜ at + length (marked (decimal n) mark) ≤ length (now out) ⌝ }
-    ensures { λ r. ⌜ Wrote (now (out .entry)) at (marked (decimal n) mark) r (now (out .exit)) ⌝ }
+    requires { ⌜ at + length (endedBy (decimal n) mark) ≤ length (now out) ⌝ }
+    ensures { λ r. ⌜ Wrote (now (out .entry)) at (endedBy (decimal n) mark) r (now (out .exit)) ⌝ }
 {
     let p = write_decimal(out, at, n);
     out[p] = mark;
@@ -33,8 +33,8 @@ pub(crate) fn write_number(out: &mut [u8], at: usize, n: u32, mark: u8) -> usize
 }
 
 pub(crate) fn write_name(out: &mut [u8], at: usize, procedure: u8) -> usize
-    requires { ⌜ at + length (marked (procedureName procedure) 32) ≤ length (now out) ⌝ }
-    ensures { λ r. ⌜ Wrote (now (out .entry)) at (marked (procedureName procedure) 32) r (now (out .exit)) ⌝ }
+    requires { ⌜ at + length (endedBy (procedureName procedure) 32) ≤ length (now out) ⌝ }
+    ensures { λ r. ⌜ Wrote (now (out .entry)) at (endedBy (procedureName procedure) 32) r (now (out .exit)) ⌝ }
 {
     if procedure == 0 {
         return put_all(out, at, b"cfu ");
@@ -46,8 +46,8 @@ pub(crate) fn write_name(out: &mut [u8], at: usize, procedure: u8) -> usize
 }
 
 pub(crate) fn write_kind(out: &mut [u8], at: usize, form: u8, kind: u8) -> usize
-    requires { ⌜ at + length (marked (kindText form kind) 32) ≤ length (now out) ⌝ }
-    ensures { λ r. ⌜ Wrote (now (out .entry)) at (marked (kindText form kind) 32) r (now (out .exit)) ⌝ }
+    requires { ⌜ at + length (endedBy (kindText form kind) 32) ≤ length (now out) ⌝ }
+    ensures { λ r. ⌜ Wrote (now (out .entry)) at (endedBy (kindText form kind) 32) r (now (out .exit)) ⌝ }
 {
     if form == 0 {
         return put_all(out, at, b"u ");
@@ -58,8 +58,8 @@ pub(crate) fn write_kind(out: &mut [u8], at: usize, form: u8, kind: u8) -> usize
 
 // The first `count` of a number's digits, which are stored as characters.
 pub(crate) fn write_digits(out: &mut [u8], at: usize, digits: [u8; MOST], count: usize) -> usize
-    requires { ⌜ (count ≤ most) × (at + length (marked (take count digits) 32) ≤ length (now out)) ⌝ }
-    ensures { λ r. ⌜ Wrote (now (out .entry)) at (marked (take count digits) 32) r (now (out .exit)) ⌝ }
+    requires { ⌜ (count ≤ most) × (at + length (endedBy (take count digits) 32) ≤ length (now out)) ⌝ }
+    ensures { λ r. ⌜ Wrote (now (out .entry)) at (endedBy (take count digits) 32) r (now (out .exit)) ⌝ }
 {
     let p = put_all(out, at, &digits[..count]);
     out[p] = b' ';
@@ -99,8 +99,8 @@ fn write_hex(out: &mut [u8], at: usize, octets: [u8; MOST], count: usize) -> usi
 
 // A subaddress, and the end of the line.
 pub(crate) fn write_sub(out: &mut [u8], at: usize, octets: [u8; MOST], count: usize) -> usize
-    requires { ⌜ (count ≤ most) × (at + length (marked (subText count octets) 10) ≤ length (now out)) ⌝ }
-    ensures { λ r. ⌜ Wrote (now (out .entry)) at (marked (subText count octets) 10) r (now (out .exit)) ⌝ }
+    requires { ⌜ (count ≤ most) × (at + length (endedBy (subText count octets) 10) ≤ length (now out)) ⌝ }
+    ensures { λ r. ⌜ Wrote (now (out .entry)) at (endedBy (subText count octets) 10) r (now (out .exit)) ⌝ }
 {
     if count == 0 {
         return put_all(out, at, b"-\n");

@@ -29,7 +29,7 @@ use Rattle.answers.specs.declared.answer.Problem.{Problem}
 use Rattle.answers.specs.declared.answer.Whose.the-variants.{Own}
 use Rattle.answers.proofs.Answers.{reject-back, error-back, result-back}
 use Rattle.answers.proofs.Lists.{listing-back}
-use Rattle.exchange.specs.Question.{known, codeOf, question}
+use Rattle.exchange.specs.Question.{knownOperation, codeOf, question}
 use Rattle.exchange.specs.Step.{Step, stays, handled, step}
 use Rattle.exchange.specs.Table.{tableGood}
 use Rattle.exchange.specs.Arrive.{Done, done}
@@ -87,7 +87,7 @@ module _ (identifier : ℤ) (operation : ℕ) where
 
 module _ (p : Profile) (t : Table) (s : List ℕ) (identifier : ℤ) (operation : Operation) (n : ℕ) where
   step-said :
-      (known (operation .value) ≡ true → operation .value ≡ pos n) → StepFits (step p t s) →
+      (knownOperation (operation .value) ≡ true → operation .value ≡ pos n) → StepFits (step p t s) →
       Asking identifier operation (question p (t .last) s) → Said identifier n (step p t s)
   step-said same fits (rejected problem e) =
       let is = step-says p t s (answer.Reject (Own identifier) problem) e in
@@ -107,7 +107,7 @@ module _ (p : Profile) (t : Table) (s : List ℕ) (identifier : ℤ) (operation 
 pub answer-back :
     (access : List ℕ) (t : Table) (s : List ℕ) (size : ℕ) (x : Answered) (identifier : ℤ) (operation : Operation) (at end n : ℕ) →
     heard s ≡ heard.Asks identifier operation at end → done access t s size .told ≡ tells x →
-    (known (operation .value) ≡ true → operation .value ≡ pos n) →
+    (knownOperation (operation .value) ≡ true → operation .value ≡ pos n) →
     SaysBack identifier n (done access t s size .octets)
     (step (accessRead access .profile) t s .answer)
     (step (accessRead access .profile) t s .entries)

@@ -24,7 +24,7 @@ use Rattle.instances.specs.Run.{instancesOf}
 use Rattle.instances.specs.declared.instance.Instance.{Instance}
 use Rattle.instances.specs.declared.run.Run.{Run}
 use Rattle.end.specs.End.{markAt}
-use Rattle.end.specs.Listed.{instancesFrom, listGood}
+use Rattle.end.specs.Listed.{instancesListed, listGood}
 use Rattle.end.specs.Sending.{Sends, sends}
 use Rattle.end.specs.Taking.{takes, givesUp}
 use Rattle.end.specs.declared.end.End.{End}
@@ -51,10 +51,10 @@ sizes-of r h =
     let t = both-hold (eqb (length (r .served .number .digits)) most) (eqb (length (r .to .address .number .digits)) most) h in
     (eqb-true _ most (t .0), eqb-true _ most (t .1))
 
-read-good : (p : Profile) (q : ℕ) (es : List Entry) (T : List Instance) → readOn p q es ≡ some T → listGood instancesMost p q (instancesFrom p es) ≡ true
+read-good : (p : Profile) (q : ℕ) (es : List Entry) (T : List Instance) → readOn p q es ≡ some T → listGood instancesMost p q (instancesListed p es) ≡ true
 unfolding readOn
 read-good p q es T h =
-    let b : Bool = listGood instancesMost p q (instancesFrom p es) in
+    let b : Bool = listGood instancesMost p q (instancesListed p es) in
     by-bool (b ≡ true) b (λ e. e) (λ e. absurd (clash {x = none} {y = some T} (λ z. cc) (sym (rw e) ∙ h)))
 
 module _ (access : List ℕ) (ok : accessRead access .ok ≡ true) where

@@ -37,7 +37,7 @@ use Rattle.instances.proofs.Choices.{spared-other}
 use Rattle.instances.proofs.Merged.{merged-nil}
 use Rattle.instances.proofs.Fits.{fits-of, fits-is}
 use Rattle.instances.proofs.Goods.{GoodList}
-use Rattle.end.specs.Listed.{instanceFor, instancesFrom, listGood, everyOf, replaced}
+use Rattle.end.specs.Listed.{instanceFor, instancesListed, listGood, everyOf, replaced}
 use Rattle.end.proofs.GoodLists.{from-ascending, is-list, list-is}
 use Rattle.forms.proofs.Fits.{tidyInstance, tidy-twice}
 use Rattle.promise.proofs.DemandLists as L
@@ -48,7 +48,7 @@ use Rattle.instances.proofs.Listeds.{served-own}
 -- what is read of a procedure's list: its instances, where it is good
 unfoldable pub readOn : Profile → ℕ → List Entry → Option (List Instance)
 readOn p procedure es =
-    pick (listGood instancesMost p procedure (instancesFrom p es)) (some (map tidyInstance (instancesFrom p es))) none
+    pick (listGood instancesMost p procedure (instancesListed p es)) (some (map tidyInstance (instancesListed p es))) none
 
 -- ---- a good list replaces what is held of its procedure
 
@@ -153,7 +153,7 @@ module _ (access : List ℕ) (ok : accessRead access .ok ≡ true) where
         is-list instancesMost p q (map tidyInstance own)
         (each-map (λ x. isOf q x ≡ true) tidyInstance own (each-so _ _ (λ x h. h .1) own own-each)) own-good
 
-    from-back : instancesFrom p (tidyEntries (map entryOn own)) ≡ map tidyInstance own
+    from-back : instancesListed p (tidyEntries (map entryOn own)) ≡ map tidyInstance own
     from-back =
         let back = instances-back own (each-so _ _ (λ x h. h .0) own own-each) in
         from-ascending p (tidyEntries (map entryOn own)) (rw back own-up) ∙ back

@@ -33,7 +33,7 @@ use Rattle.answers.specs.declared.reply.Reply.{Reply}
 use Rattle.answers.specs.declared.reply.Reply.the-variants.{Dropped, Rejected, Failed, Done, Listed, Wrong}
 use Rattle.answers.proofs.Dropped.{no-element, no-identifier, other-identifier}
 use Rattle.end.specs.End.{knownMark, markAt, endGood}
-use Rattle.end.specs.Listed.{instancesFrom, listGood, replaced}
+use Rattle.end.specs.Listed.{instancesListed, listGood, replaced}
 use Rattle.end.specs.Taking.{takes}
 use Rattle.end.specs.declared.end.End.{End}
 use Rattle.end.proofs.Ends.{picture-good}
@@ -209,12 +209,12 @@ module _ (access : List ℕ) (ok : accessRead access .ok ≡ true) where
 
       -- a list: it is what is held
       learned-pic :
-          (es : List Entry) → listGood instancesMost p (e .request .procedure) (instancesFrom p es) ≡ true →
-          now .picture ≡ packed (replaced (e .request .procedure) (instancesFrom p es) held) →
+          (es : List Entry) → listGood instancesMost p (e .request .procedure) (instancesListed p es) ≡ true →
+          now .picture ≡ packed (replaced (e .request .procedure) (instancesListed p es) held) →
           readOn p (e .request .procedure) es ≡ some (heldOf (e .request .procedure) (instancesOf (now .picture)))
       unfolding readOn
       learned-pic es list is =
-          let new = instancesFrom p es in
+          let new = instancesListed p es in
           let next = replaced (e .request .procedure) new held in
           let whole : instancesOf (now .picture) ≡ next =
           ap instancesOf is ∙ packed-all next (good-short p next (replaced-held access e ok good waits new list)) in

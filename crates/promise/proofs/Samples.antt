@@ -36,7 +36,7 @@ use Rattle.rules.specs.Prefix.{begins, beginsAny}
 use Rattle.rules.specs.Judge.{isSubscribed, hasAllNumbers, servedInvalid, notProvided, otherKind, selectedSame, fits, afterwards, judge, changed, applied}
 use Rattle.rules.specs.Selection.{numberAsked, selectionOf}
 use Rattle.exchange.specs.Table.{tableGood}
-use Rattle.exchange.specs.Question.{notAbove, duplicate, known, invoked, question}
+use Rattle.exchange.specs.Question.{notAbove, duplicate, knownOperation, invoked, question}
 use Rattle.exchange.specs.Step.{lastAfter, resultOf, handled, step}
 use Rattle.exchange.specs.Arrive.{done}
 use Rattle.calls.specs.Onward.{reasonOf, optionsOf, optionAfter, preferenceAfter, originalShown}
@@ -57,8 +57,7 @@ use Rattle.end.specs.declared.end.End.{End}
 use Rattle.instances.specs.Run.{packed}
 use Rattle.instances.specs.declared.run.Run.{Run}
 use Rattle.end.specs.End.{markAt, marked, closed, marksGood, waitingGood, endGood}
-use Rattle.end.specs.Listed as end
-use Rattle.end.specs.Listed.{sorted, listGood}
+use Rattle.end.specs.Listed.{sorted, instancesListed, listGood}
 use Rattle.end.specs.Sending.{marksSent, sent, sends}
 use Rattle.end.specs.Taking.{learned, took, gaveUp, takes, givesUp}
 use Rattle.end.specs.Shown.{seenKnown, shown, entriesOut}
@@ -78,13 +77,13 @@ unfolding fewestFrom wordAt wordOctets spanOf lengthAt headAt lengthHolds length
     sameNumber same placeIn numbersGood rising servicesGood prefixGood prefixesGood subscriptionsGood usesGood diversionGood
     profileGood those key named selected concerns chosen isAt among instanceFits placesFrom placesOf servedNumber forwardedTo merged
     ascending eachGood fewOfEach runGood isSubscribed hasAllNumbers servedInvalid notProvided otherKind begins beginsAny selectedSame
-    fits afterwards judge changed applied numberAsked selectionOf tableGood notAbove duplicate known invoked question lastAfter
+    fits afterwards judge changed applied numberAsked selectionOf tableGood notAbove duplicate knownOperation invoked question lastAfter
     resultOf handled step done reasonOf optionsOf optionAfter preferenceAfter originalShown callFrom namesGood valuesGood originalGood
     callGood applying servedOf noticed onward noOnward comes allGroups instanceOctets fieldAt fieldsAt addressFrom instanceFrom
     instancesOctets sheetOctets instancesFrom inOrder sheetIn decimalIn decimal procedureName kindText hexOf hexText subText lineOf
     headerLine instanceLine instanceLines listing listedSheet refusedLine printedSheet wroteSheet saidAt markAt marked closed
     marksGood waitingGood endGood servedGood toGood partsGood sendable marksSent sent sends learned took takes shown
-    sorted end.instancesFrom listGood entryOctets blanks contentsText elementLine siblings elementLines linesIn signedText numberText servedText
+    sorted instancesListed listGood entryOctets blanks contentsText elementLine siblings elementLines linesIn signedText numberText servedText
     octetsWord subWord toText operationText argumentText requestLine replyWord valueText replyText replyOf operationNo isOperation
     askedText said explained
 each-sample =
@@ -218,8 +217,8 @@ unfolding fewestFrom wordAt wordOctets spanOf lengthAt headAt lengthHolds length
     prefixGood prefixesGood subscriptionsGood usesGood diversionGood profileGood those key named selected concerns chosen isAt among
     instanceFits placesFrom placesOf servedNumber forwardedTo merged ascending eachGood fewOfEach runGood isSubscribed hasAllNumbers
     servedInvalid notProvided otherKind begins beginsAny selectedSame fits afterwards judge changed applied numberAsked selectionOf
-    tableGood notAbove duplicate known invoked question lastAfter resultOf handled step done saidAt sendable partsGood toGood servedGood
-    sized markAt marked closed marksGood waitingGood endGood sorted end.instancesFrom listGood marksSent sent sends learned took gaveUp
+    tableGood notAbove duplicate knownOperation invoked question lastAfter resultOf handled step done saidAt sendable partsGood toGood servedGood
+    sized markAt marked closed marksGood waitingGood endGood sorted instancesListed listGood marksSent sent sends learned took gaveUp
     takes givesUp shown entryOctets entryAt fieldsIn codesIn lastField kept
     machine.sending machine.replying machine.ending machine.after machine.start
 follows =

@@ -18,7 +18,7 @@ use Rattle.requests.specs.declared.heard.Operation.{Operation}
 use Rattle.requests.specs.declared.request.Request.{Request}
 use Rattle.answers.specs.declared.answer.Problem.the-variants.{Invoke}
 use Rattle.answers.specs.declared.answer.Whose.the-variants.{Own}
-use Rattle.exchange.specs.Question.{Question, rejects, duplicate, known, codeOf, argued, invoked, questionOf, question}
+use Rattle.exchange.specs.Question.{Question, rejects, duplicate, knownOperation, codeOf, argued, invoked, questionOf, question}
 use Rattle.exchange.proofs.Questions.{known-number, known-negative, question-heard, invoked-is}
 use Rattle.listings.proofs.Words.{decimal-one}
 use Rattle.explanations.specs.Text.{chars}
@@ -27,7 +27,7 @@ use Rattle.explanations.proofs.Rows.{operation-number, operation-negative, said
 use Rattle.promise.specs.Told.{Ends, Tells, RowSix}
 
 -- the exchange and the explanation know the same operations, by the same numbers
-same-operations : (z : ℤ) → isOperation (operationNo z) ≡ known z
+same-operations : (z : ℤ) → isOperation (operationNo z) ≡ knownOperation z
 same-operations (pos n) = operation-number n ∙ sym (known-number n)
 same-operations (negsuc n) = operation-negative n ∙ sym (known-negative n)
 
@@ -56,7 +56,7 @@ asked-told :
     Told (askedText s identifier operation at end) (invoked p last s identifier operation at end)
 asked-told p last s identifier operation at end =
     rw (asked-is s identifier operation at end, invoked-is p last s identifier operation at end, same-operations (operation .value))
-    (twice (duplicate p last identifier) (known (operation .value)))
+    (twice (duplicate p last identifier) (knownOperation (operation .value)))
   where
     twice :
         (again is : Bool) →

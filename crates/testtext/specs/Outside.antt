@@ -9,9 +9,9 @@ use Rattle.laws.specs.Pick.{pick}
 use Rattle.laws.specs.Places.{everyTo}
 
 -- whether x, at the place i, is `octet` or stands from `from` up to `to`
-unfoldable pub passes : ℕ → ℕ → ℕ → ℕ → ℕ → Bool
-passes i x from to octet = pick (ltb i from) (eqb x octet) (pick (ltb i to) true (eqb x octet))
+unfoldable pub octetPasses : ℕ → ℕ → ℕ → ℕ → ℕ → Bool
+octetPasses i x from to octet = pick (ltb i from) (eqb x octet) (pick (ltb i to) true (eqb x octet))
 
 -- what `all_outside` promises
 abbrev pub AllOutside : List ℕ → ℕ → ℕ → ℕ → Bool → Type 0
-AllOutside s from to octet r = r ≡ everyTo (λ i. passes i (getD s i 0) from to octet) (length s)
+AllOutside s from to octet r = r ≡ everyTo (λ i. octetPasses i (getD s i 0) from to octet) (length s)

@@ -1,10 +1,10 @@
 // Octets that must stay as they were.
 ghost use mathlib.Core.Path.{_≡_};
-ghost use Rattle.testtext.specs.Outside.{passes, AllOutside};
+ghost use Rattle.testtext.specs.Outside.{octetPasses, AllOutside};
 
 // Whether `x`, at the place `i`, is `octet` or stands from `from` up to `to`.
 fn octet_passes(i: usize, x: u8, from: usize, to: usize, octet: u8) -> bool
-    ensures { λ r. ⌜ r ≡ passes i x from to octet ⌝ }
+    ensures { λ r. ⌜ r ≡ octetPasses i x from to octet ⌝ }
 {
     if i < from {
         return x == octet;

@@ -1,6 +1,6 @@
 use Rattle.lists.specs.Entries.{instancesMost, entriesIn, entriesFrom}
 use Rattle.end.proofs.Learnings.{entered, learned-wrong, learned-bad, learned-good}
-use Rattle.end.specs.Listed.{instancesFrom}
+use Rattle.end.specs.Listed.{instancesListed}
 use Rattle.instances.specs.Places.{runMost}
 use Rattle.laws.proofs.Parts.{unmapped}
 use borrow.Author.Tests.{not-true, not-false}
@@ -23,7 +23,7 @@ run-from-requires c κs = search needs
 list-good-requires : tie.Need-list-good-requires
 list-good-requires c κs =
     rw (c .run-from .ensures)
-    (omega (arith, length-take runMost (instancesFrom (c .before .before .before .before .before .before .args .p) (entriesIn (c .before .before .before .before .entries-at .result .list)))))
+    (omega (arith, length-take runMost (instancesListed (c .before .before .before .before .before .before .args .p) (entriesIn (c .before .before .before .before .entries-at .result .list)))))
 
 doubted-requires-2 : tie.Need-doubted-requires-2
 doubted-requires-2 c κs = search needs

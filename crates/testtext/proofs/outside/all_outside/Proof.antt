@@ -7,12 +7,12 @@ use native.Mathlib.Omega.{arith}
 use borrow.Author.Tests.{not-true, not-false}
 use Rattle.laws.specs.Places.{everyTo}
 use Rattle.laws.proofs.Walks.{every-none, every-fails, every-more}
-use Rattle.testtext.specs.Outside.{passes}
+use Rattle.testtext.specs.Outside.{octetPasses}
 use Rattle.testtext.proofs.outside.all_outside.Statement.{statement}
 use Rattle.testtext.proofs.outside.all_outside.Tie as tie
 
 abbrev Inv-loop : tie.InvT-loop
-Inv-loop s from to octet i₀ i = (i ≤ length s) × (everyTo (λ k. passes k (getD s k 0) from to octet) i ≡ true)
+Inv-loop s from to octet i₀ i = (i ≤ length s) × (everyTo (λ k. octetPasses k (getD s k 0) from to octet) i ≡ true)
 
 abbrev μ-loop : tie.MeasureT-loop
 μ-loop s from to octet i₀ i = length s - i

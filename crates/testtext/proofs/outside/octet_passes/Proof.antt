@@ -1,18 +1,18 @@
 use Rattle.laws.proofs.Cases.{cases}
-use Rattle.testtext.specs.Outside.{passes}
+use Rattle.testtext.specs.Outside.{octetPasses}
 use Rattle.testtext.proofs.outside.octet_passes.Statement.{statement}
 use Rattle.testtext.proofs.outside.octet_passes.Tie as tie
 
 returns : tie.Need-returns
-unfolding passes
+unfolding octetPasses
 returns c = search cases
 
 returns-2 : tie.Need-returns-2
-unfolding passes
+unfolding octetPasses
 returns-2 c = search cases
 
 returns-3 : tie.Need-returns-3
-unfolding passes
+unfolding octetPasses
 returns-3 c = search cases
 
 pub octet-passes-spec : {M : Type 1} → statement M
