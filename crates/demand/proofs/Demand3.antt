@@ -5,9 +5,9 @@ use mathlib.Core.Option.{Option, none, some}
 use mathlib.Core.Bool.{Bool, true, false}
 use mathlib.Core.Logic.{inl, inr}
 use native.Mathlib.Omega.{arith}
-use Rattle.demand.specs.Machine.{In, World, Event, sends, handles, hears, gives-up, goes-on, jolted, sending, replying, ending, after}
+use Rattle.demand.specs.Machine.{In, World, Happening, sends, handles, hears, gives-up, goes-on, jolted, sending, replying, ending, after}
 use Rattle.demand.specs.Machine.{start, Trace, still, more, Calm, Quiet}
-use Rattle.demand.specs.Rules.{Mark, known, asks, listed, Answered, Waiting, idle, busy, Topic, Says, Exchange, Customer, Hit}
+use Rattle.demand.specs.Rules.{Mark, known, asks, listed, WasHandled, Waiting, idle, busy, Topic, Saying, Exchange, Customer, Hit}
 use Rattle.demand.specs.Rules.{ExchangeLaws, CustomerLaws, Fresh, messages, numbered, answering}
 use Rattle.demand.proofs.Invariant as I
 use Rattle.demand.proofs.Serving as G
@@ -29,13 +29,13 @@ module _ (S : Topic) (X : Exchange S) (C : Customer S) (LX : ExchangeLaws S X) (
 
   handled-holds :
       (w : World (messages S X C)) (c : ℕ × S .Req) → In c (w .up) → Holds S X C w → (b : Bool) →
-      (let x = answering {D = ℕ × Says S} (λ y. (c .0, y)) b (w .table) (X .serve (w .table) (c .0) (c .1)) in
+      (let x = answering {D = ℕ × Saying S} (λ y. (c .0, y)) b (w .table) (X .serve (w .table) (c .0) (c .1)) in
       Holds S X C (replying (messages S X C) w (x .0) (x .1)))
   unfolding replying
   handled-holds w c i h true = G.serves S X C LX LC (w .table) (w .end) (w .up) (w .down) h c i
   handled-holds w c i h false = h
 
-  pub keeps : (w : World (messages S X C)) (v : Event (messages S X C) w) → Holds S X C w → Holds S X C (after (messages S X C) w v)
+  pub keeps : (w : World (messages S X C)) (v : Happening (messages S X C) w) → Holds S X C w → Holds S X C (after (messages S X C) w v)
   unfolding after replying ending
   keeps w (sends room r) h = sent-holds w room r h (C .send room (w .end) r) refl
   keeps w (handles room c i) h = handled-holds w c i h (X .enough room)
@@ -66,21 +66,21 @@ module _ (S : Topic) (X : Exchange S) (C : Customer S) (LX : ExchangeLaws S X) (
 
   -- What was replied stays under way.
   sent-keeps :
-      (w : World (messages S X C)) (s : Option (C .End × (ℕ × S .Req))) (c : ℕ × Says S) → In c (w .down) →
+      (w : World (messages S X C)) (s : Option (C .End × (ℕ × S .Req))) (c : ℕ × Saying S) → In c (w .down) →
       In c (sending (messages S X C) w s .down)
   unfolding sending
   sent-keeps w none c i = i
   sent-keeps w (some s) c i = i
 
   handled-keeps :
-      (w : World (messages S X C)) (t : X .Table) (x : Option (ℕ × Says S)) (c : ℕ × Says S) → In c (w .down) →
+      (w : World (messages S X C)) (t : X .Table) (x : Option (ℕ × Saying S)) (c : ℕ × Saying S) → In c (w .down) →
       In c (replying (messages S X C) w t x .down)
   unfolding replying
   handled-keeps w t none c i = i
   handled-keeps w t (some a) c i = inr i
 
   stays-under-way :
-      (w : World (messages S X C)) (v : Event (messages S X C) w) (c : ℕ × Says S) → In c (w .down) →
+      (w : World (messages S X C)) (v : Happening (messages S X C) w) (c : ℕ × Saying S) → In c (w .down) →
       In c (after (messages S X C) w v .down)
   unfolding after replying ending
   stays-under-way w (sends room r) c i = sent-keeps w (numbered r (C .send room (w .end) r)) c i
@@ -92,12 +92,12 @@ module _ (S : Topic) (X : Exchange S) (C : Customer S) (LX : ExchangeLaws S X) (
   stays-under-way w (goes-on o) c i = i
   stays-under-way w (jolted j) c i = i
 
-  stays-under-ways : {from to : World (messages S X C)} → Trace (messages S X C) from to → (c : ℕ × Says S) → In c (from .down) → In c (to .down)
+  stays-under-ways : {from to : World (messages S X C)} → Trace (messages S X C) from to → (c : ℕ × Saying S) → In c (from .down) → In c (to .down)
   stays-under-ways still c i = i
   stays-under-ways (more {w = w} q v) c i = stays-under-way w v c (stays-under-ways q c i)
 
   -- Through a calm stretch the request stays outstanding.
-  abbrev pub Matching : ℕ → ℕ × Says S → Type 0
+  abbrev pub Matching : ℕ → ℕ × Saying S → Type 0
   Matching n c = c .0 ≡ n
 
   sent-waits :
@@ -109,13 +109,13 @@ module _ (S : Topic) (X : Exchange S) (C : Customer S) (LX : ExchangeLaws S X) (
   sent-waits w room r x h f p (some s) q = absurd (f (sym p ∙ LC .sends room (w .end) r s (h .sound) q .free))
 
   handled-end :
-      (w : World (messages S X C)) (t : X .Table) (x : Option (ℕ × Says S)) → replying (messages S X C) w t x .end ≡ w .end
+      (w : World (messages S X C)) (t : X .Table) (x : Option (ℕ × Saying S)) → replying (messages S X C) w t x .end ≡ w .end
   unfolding replying
   handled-end w t none = refl
   handled-end w t (some a) = refl
 
   pub calm :
-      (w : World (messages S X C)) (v : Event (messages S X C) w) (n : ℕ) (r : S .Req) (m : Mark) → Holds S X C w →
+      (w : World (messages S X C)) (v : Happening (messages S X C) w) (n : ℕ) (r : S .Req) (m : Mark) → Holds S X C w →
       Calm (messages S X C) (Matching n) v → C .waiting (w .end) ≡ busy n r m → C .waiting (after (messages S X C) w v .end) ≡ busy n r m
   unfolding after replying ending
   calm w (sends room q) n r m h k p =
@@ -140,7 +140,7 @@ module _ (S : Topic) (X : Exchange S) (C : Customer S) (LX : ExchangeLaws S X) (
   pub told-known :
       (w : World (messages S X C)) → Holds S X C w → (n : ℕ) (r : S .Req) (m : Mark) (P : S .Proc) → C .waiting (w .end) ≡ busy n r m →
       S .about r ≡ asks P → S .Allows P →
-      (b : Says S) → In (n, b) (w .down) → Answered b → C .mark (C .hear (w .end) n b) P ≡ known
+      (b : Saying S) → In (n, b) (w .down) → WasHandled b → C .mark (C .hear (w .end) n b) P ≡ known
   told-known w h n r m P p a g b i y =
       let k = h .pending n r m p .asking P a in
       let z = k .said-allowed g b i y in

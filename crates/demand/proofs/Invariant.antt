@@ -7,17 +7,17 @@ use mathlib.Core.Logic.{_⊎_, inl, inr}
 use native.Mathlib.Omega.{arith}
 use native.Mathlib.Decide.{ℕ-discrete}
 use Rattle.demand.specs.Machine.{In}
-use Rattle.demand.specs.Rules.{Mark, known, changes, asks, done, listed, failed, Answered, Waiting, idle, busy, Topic, Says, Exchange}
+use Rattle.demand.specs.Rules.{Mark, known, changes, asks, done, listed, failed, WasHandled, Waiting, idle, busy, Topic, Saying, Exchange}
 use Rattle.demand.specs.Rules.{Customer, Shed, Why, kept, restored, applied, learned, Hit, ExchangeLaws, CustomerLaws, Fresh}
 
 abbrev pub Ups : Topic → Type 0
 Ups S = List (ℕ × S .Req)
 
 abbrev pub Downs : Topic → Type 0
-Downs S = List (ℕ × Says S)
+Downs S = List (ℕ × Saying S)
 
 -- a reply is to a request that was sent
-abbrev pub ProperTo : (S : Topic) → Ups S → ℕ × Says S → Type 0
+abbrev pub ProperTo : (S : Topic) → Ups S → ℕ × Saying S → Type 0
 ProperTo S up c = (r : S .Req) × In (c .0, r) up × S .Proper (c .0) r (c .1)
 
 module _ (S : Topic) (X : Exchange S) (C : Customer S) where
@@ -37,7 +37,7 @@ module _ (S : Topic) (X : Exchange S) (C : Customer S) where
   pub record Asking (t : X .Table) (e : C .End) (down : Downs S) (n : ℕ) (m : Mark) (P : S .Proc) : Type 0 where
     pub before : m ≡ known → C .mark e P ≡ known
     pub said-listed : (l : S .Listing) → In (n, listed l) down → S .read P l ≡ some (X .held t P)
-    pub said-allowed : S .Allows P → (b : Says S) → In (n, b) down → Answered b → (l : S .Listing) × (b ≡ listed l)
+    pub said-allowed : S .Allows P → (b : Saying S) → In (n, b) down → WasHandled b → (l : S .Listing) × (b ≡ listed l)
 
   pub record Pending (t : X .Table) (e : C .End) (up : Ups S) (down : Downs S) (n : ℕ) (r : S .Req) (m : Mark) : Type 0 where
     pub mine : In (n, r) up
@@ -50,10 +50,10 @@ module _ (S : Topic) (X : Exchange S) (C : Customer S) where
     pub good : X .Good t
     pub sound : C .Sound e
     pub fit : (c : ℕ × S .Req) → In c up → S .Fit (c .0) (c .1)
-    pub proper : (c : ℕ × Says S) → In c down → ProperTo S up c
+    pub proper : (c : ℕ × Saying S) → In c down → ProperTo S up c
     pub below : (c : ℕ × S .Req) → In c up → c .0 < C .next e
     pub last-below : X .last t < C .next e
-    pub handled : (c : ℕ × Says S) → In c down → Answered (c .1) → c .0 ≤ X .last t
+    pub handled : (c : ℕ × Saying S) → In c down → WasHandled (c .1) → c .0 ≤ X .last t
     pub right : (P : S .Proc) → C .mark e P ≡ known → (C .pic e P ≡ X .held t P) × Settled t up P
     pub pending : (n : ℕ) (r : S .Req) (m : Mark) → C .waiting e ≡ busy n r m → Pending t e up down n r m
 
@@ -127,25 +127,25 @@ module _ (S : Topic) (X : Exchange S) (C : Customer S) (LX : ExchangeLaws S X) (
   above t e up down v n r m w h P c i a = omega (arith, v .pending n r m w .top c i)
 
   why :
-      (t : X .Table) (e e′ : C .End) (up : Ups S) (down : Downs S) → Inv S X C t e up down → (c : ℕ × Says S) → In c down → (P : S .Proc) →
+      (t : X .Table) (e e′ : C .End) (up : Ups S) (down : Downs S) → Inv S X C t e up down → (c : ℕ × Saying S) → In c down → (P : S .Proc) →
       Why S C e (c .0) (c .1) e′ P → (C .pic e′ P ≡ X .held t P) × Settled S X C t up P
   why t e e′ up down v c i P (kept k s) = (s ∙ v .right P k .0, v .right P k .1)
   why t e e′ up down v c i P (restored r x w (inl a) f s) = (
     s ∙ v .pending (c .0) r known w .changing P a refl .said-failed x (subst (λ b. In (c .0, b) down) f i),
-    above t e up down v (c .0) r known w (v .handled c i (subst Answered (sym f) tt)) P,
+    above t e up down v (c .0) r known w (v .handled c i (subst WasHandled (sym f) tt)) P,
   )
   why t e e′ up down v c i P (restored r x w (inr a) f s) =
       let k = v .pending (c .0) r known w .asking P a .before refl in (s ∙ v .right P k .0, v .right P k .1)
   why t e e′ up down v c i P (applied r w a d f) = (
     v .pending (c .0) r known w .changing P a refl .said-done (subst (λ b. In (c .0, b) down) d i) (C .pic e′ P) f,
-    above t e up down v (c .0) r known w (v .handled c i (subst Answered (sym d) tt)) P,
+    above t e up down v (c .0) r known w (v .handled c i (subst WasHandled (sym d) tt)) P,
   )
   why t e e′ up down v c i P (learned r m l w a d f) =
       let q = v .pending (c .0) r m w .asking P a .said-listed l (subst (λ b. In (c .0, b) down) d i) in
-      (cc, above t e up down v (c .0) r m w (v .handled c i (subst Answered (sym d) tt)) P)
+      (cc, above t e up down v (c .0) r m w (v .handled c i (subst WasHandled (sym d) tt)) P)
 
   pub hears :
-      (t : X .Table) (e : C .End) (up : Ups S) (down : Downs S) → Inv S X C t e up down → (c : ℕ × Says S) → In c down →
+      (t : X .Table) (e : C .End) (up : Ups S) (down : Downs S) → Inv S X C t e up down → (c : ℕ × Saying S) → In c down →
       Inv S X C t (C .hear e (c .0) (c .1)) up down
   hears t e up down v c i = go (C .waiting e) refl
     where

@@ -6,9 +6,9 @@ use mathlib.Core.List.{List, [], _∷_, map}
 use mathlib.Core.Option.{Option, none, some}
 use mathlib.Core.Logic.{inl, inr}
 use native.Mathlib.Omega.{arith}
-use Rattle.demand.specs.Machine.{In, Machine, World, Event, sends, handles, hears, gives-up, goes-on, jolted, sending, replying, ending, after, start}
+use Rattle.demand.specs.Machine.{In, Machine, World, Happening, sends, handles, hears, gives-up, goes-on, jolted, sending, replying, ending, after, start}
 use Rattle.demand.specs.Machine.{Trace, still, more, Calm, Quiet}
-use Rattle.demand.specs.Rules.{Mark, known, asks, busy, Topic, Says, Exchange, Customer, ExchangeLaws, CustomerLaws, Fresh, messages, numbered, answering}
+use Rattle.demand.specs.Rules.{Mark, known, asks, busy, Topic, Saying, Exchange, Customer, ExchangeLaws, CustomerLaws, Fresh, messages, numbered, answering}
 use Rattle.demand.specs.Codec.{Octets, Wire, octets, written, Wired}
 use Rattle.demand.proofs.Demand3 as D
 use Rattle.demand.proofs.Demand3.{Holds}
@@ -51,9 +51,9 @@ module _
     sent-spelt w r (some s) = refl
 
     handled-spelt :
-        (w : World (messages S X C)) (n : ℕ) (b : Bool) (x : X .Table × Says S) →
+        (w : World (messages S X C)) (n : ℕ) (b : Bool) (x : X .Table × Saying S) →
         (let y = answering {D = Octets} (W .reply n) b (w .table) x in
-        let z = answering {D = ℕ × Says S} (λ s. (n, s)) b (w .table) x in
+        let z = answering {D = ℕ × Saying S} (λ s. (n, s)) b (w .table) x in
         replying (octets S X C W) (spelt S X C W w) (y .0) (y .1) ≡ spelt S X C W (replying (messages S X C) w (z .0) (z .1)))
     unfolding replying spelt
     handled-spelt w n true x = refl
@@ -66,16 +66,16 @@ module _
     went w t = refl
 
     -- each event over octets is an event over messages, and a calm one a calm one where a request is outstanding
-    abbrev Calms : (w : World (messages S X C)) (y : World (octets S X C W)) → Event (octets S X C W) y → Event (messages S X C) w → Type 0
+    abbrev Calms : (w : World (messages S X C)) (y : World (octets S X C W)) → Happening (octets S X C W) y → Happening (messages S X C) w → Type 0
     Calms w y v u =
         (n : ℕ) (r : S .Req) (m : Mark) → C .waiting (w .end) ≡ busy n r m → Calm (octets S X C W) (W .Matching n r) v →
         Calm (messages S X C) (D.Matching S X C LX LC n) u
 
-    abbrev Follows : (w : World (messages S X C)) (y : World (octets S X C W)) → Event (octets S X C W) y → Type 0
+    abbrev Follows : (w : World (messages S X C)) (y : World (octets S X C W)) → Happening (octets S X C W) y → Type 0
     Follows w y v =
-        (u : Event (messages S X C) w) × (after (octets S X C W) y v ≡ spelt S X C W (after (messages S X C) w u)) × Calms w y v u
+        (u : Happening (messages S X C) w) × (after (octets S X C W) y v ≡ spelt S X C W (after (messages S X C) w u)) × Calms w y v u
 
-    follows : (w : World (messages S X C)) → Holds S X C w → (v : Event (octets S X C W) (spelt S X C W w)) → Follows w (spelt S X C W w) v
+    follows : (w : World (messages S X C)) → Holds S X C w → (v : Happening (octets S X C W) (spelt S X C W w)) → Follows w (spelt S X C W w) v
     unfolding after ending spelt
     follows w h (sends room r) = (
       sends room r,
@@ -107,8 +107,8 @@ module _
 
     follows-at :
         (w : World (messages S X C)) → Holds S X C w → (y : World (octets S X C W)) → y ≡ spelt S X C W w →
-        (v : Event (octets S X C W) y) → Follows w y v
-    follows-at w h y q = subst (λ x. (v : Event (octets S X C W) x) → Follows w x v) (sym q) (follows w h)
+        (v : Happening (octets S X C W) y) → Follows w y v
+    follows-at w h y q = subst (λ x. (v : Happening (octets S X C W) x) → Follows w x v) (sym q) (follows w h)
 
     -- so each run is
     abbrev Traced : (w : World (messages S X C)) {from to : World (octets S X C W)} → Trace (octets S X C W) from to → Type 0
@@ -176,7 +176,7 @@ module _
         (j : In a (w₂ .down)) × (C .mark (after (octets S X C W) w₂ (hears a j) .end) P ≡ known)
 
     handled-says :
-        (t : X .Table) (n : ℕ) (b : Bool) (x : X .Table × Says S) (a : Octets) → b ≡ true →
+        (t : X .Table) (n : ℕ) (b : Bool) (x : X .Table × Saying S) (a : Octets) → b ≡ true →
         answering (W .reply n) b t x .1 ≡ some a → a ≡ W .reply n (x .1)
     handled-says t n true x a e h = cc
     handled-says t n false x a e h = let z : _≡_ {A = ℕ} 0 1 = cc in absurd (omega arith)
@@ -185,7 +185,7 @@ module _
     unfolding spelt after ending
     second x h n r m P ab al p i l room y w₂ q k a is =
         let c = h .pending n r m p .mine in
-        let b : Says S = X .serve (x .table) n r .1 in
+        let b : Saying S = X .serve (x .table) n r .1 in
         let e = K .handles room (x .table) n r (h .good) (h .fit (n, r) c) in
         let h₁ : Holds S X C (after (messages S X C) x (handles room (n, r) c)) = D.keeps S X C LX LC x (handles room (n, r) c) h in
         let z = traced-at (after (messages S X C) x (handles room (n, r) c)) h₁

@@ -6,7 +6,7 @@ use mathlib.Core.Logic.{_⊎_, inl, inr}
 use native.Mathlib.Omega.{arith}
 use native.Mathlib.Decide.{ℕ-discrete, decLt}
 use Rattle.demand.specs.Machine.{In}
-use Rattle.demand.specs.Rules.{Mark, known, changes, asks, done, listed, failed, rejected, Answered, busy, Topic, Says, Exchange}
+use Rattle.demand.specs.Rules.{Mark, known, changes, asks, done, listed, failed, rejected, WasHandled, busy, Topic, Saying, Exchange}
 use Rattle.demand.specs.Rules.{Customer, Served, Sent, ExchangeLaws, CustomerLaws}
 use Rattle.demand.proofs.Invariant.{Ups, Downs, ProperTo, Settled, Changing, Asking, Pending, Inv}
 
@@ -41,18 +41,18 @@ module _ (S : Topic) (X : Exchange S) (C : Customer S) (LX : ExchangeLaws S X) (
     };
   }
     where
-      older : (c : ℕ × Says S) → Answered (c .1) → In c ((k, rejected y) ∷ down) → In c down
-      older c a (inl q) = absurd (subst (λ x. Answered (x .1)) q a)
+      older : (c : ℕ × Saying S) → WasHandled (c .1) → In c ((k, rejected y) ∷ down) → In c down
+      older c a (inl q) = absurd (subst (λ x. WasHandled (x .1)) q a)
       older c a (inr i) = i
 
-      proper′ : (c : ℕ × Says S) → In c ((k, rejected y) ∷ down) → ProperTo S up c
+      proper′ : (c : ℕ × Saying S) → In c ((k, rejected y) ∷ down) → ProperTo S up c
       proper′ c (inl q) = subst (ProperTo S up) (sym q) g
       proper′ c (inr i) = v .proper c i
 
   -- a request is handled
   module _ (t : X .Table) (e : C .End) (up : Ups S) (down : Downs S) (v : Inv S X C t e up down) (c : ℕ × S .Req) (i : In c up) (h : X .last t < c .0)
-      (t′ : X .Table) (b : Says S) (s : Served S X t (c .0) (c .1) t′ b) where
-    late : (d : ℕ × Says S) → Answered (d .1) → In d ((c .0, b) ∷ down) → c .0 ≤ d .0 → (d .0 ≡ c .0) × (d .1 ≡ b)
+      (t′ : X .Table) (b : Saying S) (s : Served S X t (c .0) (c .1) t′ b) where
+    late : (d : ℕ × Saying S) → WasHandled (d .1) → In d ((c .0, b) ∷ down) → c .0 ≤ d .0 → (d .0 ≡ c .0) × (d .1 ≡ b)
     late d a (inl q) l = (ap (λ x. x .0) q, ap (λ x. x .1) q)
     late d a (inr j) l = absurd (omega (arith, v .handled d j a))
 
@@ -136,11 +136,11 @@ module _ (S : Topic) (X : Exchange S) (C : Customer S) (LX : ExchangeLaws S X) (
       };
     }
       where
-        proper′ : (d : ℕ × Says S) → In d ((c .0, b) ∷ down) → ProperTo S up d
+        proper′ : (d : ℕ × Saying S) → In d ((c .0, b) ∷ down) → ProperTo S up d
         proper′ d (inl q) = subst (ProperTo S up) (sym q) (c .1, i, f)
         proper′ d (inr j) = v .proper d j
 
-        handled′ : (d : ℕ × Says S) → In d ((c .0, b) ∷ down) → Answered (d .1) → d .0 ≤ X .last t′
+        handled′ : (d : ℕ × Saying S) → In d ((c .0, b) ∷ down) → WasHandled (d .1) → d .0 ≤ X .last t′
         handled′ d (inl q) a = omega (arith, s .moves, ap (λ x. x .0) q)
         handled′ d (inr j) a = omega (arith, s .moves, v .handled d j a)
 
@@ -187,7 +187,7 @@ module _ (S : Topic) (X : Exchange S) (C : Customer S) (LX : ExchangeLaws S X) (
       settled P k c (inr i) a = v .right P (s .stays P k .0) .1 c i a
 
       -- nothing was said of n yet
-      silent : (b : Says S) → Answered b → In (n, b) down → ⊥
+      silent : (b : Saying S) → WasHandled b → In (n, b) down → ⊥
       silent b a i = omega (arith, v .handled (n, b) i a, v .last-below, s .new)
 
       waits′ :

@@ -4,7 +4,7 @@ use mathlib.Core.Path.{_≡_}
 use mathlib.Core.List.{List}
 use mathlib.Core.Option.{Option, none, some}
 use Rattle.demand.specs.Machine.{Machine}
-use Rattle.demand.specs.Rules.{Topic, Says, Exchange, Customer, answering}
+use Rattle.demand.specs.Rules.{Topic, Saying, Exchange, Customer, answering}
 
 abbrev pub Octets : Type 0
 Octets = List ℕ
@@ -16,7 +16,7 @@ pub record Wire (S : Topic) (X : Exchange S) (C : Customer S) : Type 1 where
   pub receive : C .End → Octets → C .End
   -- how a request and a reply are written
   pub request : ℕ → S .Req → Octets
-  pub reply : ℕ → Says S → Octets
+  pub reply : ℕ → Saying S → Octets
   -- what is a reply to the request under the identifier n
   pub Matching : ℕ → S .Req → Octets → Type 0
 
@@ -48,5 +48,5 @@ pub record Wired (S : Topic) (X : Exchange S) (C : Customer S) (W : Wire S X C) 
       W .handle room t (W .request n r) ≡ answering (W .reply n) (X .enough room) t (X .serve t n r)
   pub sends : (room : S .Room) (e : C .End) (r : S .Req) → C .Sound e → W .send room e r ≡ written (W .request) r (C .send room e r)
   pub receives :
-      (e : C .End) (n : ℕ) (b : Says S) (r : S .Req) → C .Sound e → S .Proper n r b → W .receive e (W .reply n b) ≡ C .hear e n b
-  pub matches : (n : ℕ) (r : S .Req) (b : Says S) → S .Proper n r b → W .Matching n r (W .reply n b)
+      (e : C .End) (n : ℕ) (b : Saying S) (r : S .Req) → C .Sound e → S .Proper n r b → W .receive e (W .reply n b) ≡ C .hear e n b
+  pub matches : (n : ℕ) (r : S .Req) (b : Saying S) → S .Proper n r b → W .Matching n r (W .reply n b)

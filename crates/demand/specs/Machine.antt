@@ -37,13 +37,13 @@ pub record World (M : Machine) : Type 0 where
   pub up : List (M .Up)
   pub down : List (M .Down)
 
-pub data Event (M : Machine) (w : World M) : Type 0 where
-  sends : M .Room → M .Req → Event M w
-  handles : M .Room → (c : M .Up) → In c (w .up) → Event M w
-  hears : (c : M .Down) → In c (w .down) → Event M w
-  gives-up : Event M w
-  goes-on : M .Elsewhere → Event M w
-  jolted : M .Jolt → Event M w
+pub data Happening (M : Machine) (w : World M) : Type 0 where
+  sends : M .Room → M .Req → Happening M w
+  handles : M .Room → (c : M .Up) → In c (w .up) → Happening M w
+  hears : (c : M .Down) → In c (w .down) → Happening M w
+  gives-up : Happening M w
+  goes-on : M .Elsewhere → Happening M w
+  jolted : M .Jolt → Happening M w
 
 unfoldable pub sending : (M : Machine) → World M → Option (M .End × M .Up) → World M
 sending M w none = w
@@ -57,7 +57,7 @@ unfoldable pub ending : (M : Machine) → World M → M .End → World M
 ending M w e = record { table = w .table; end = e; up = w .up; down = w .down }
 
 -- the moment after an event
-unfoldable pub after : (M : Machine) (w : World M) → Event M w → World M
+unfoldable pub after : (M : Machine) (w : World M) → Happening M w → World M
 after M w (sends room r) = sending M w (M .send room (w .end) r)
 after M w (handles room c i) = replying M w (M .handle room (w .table) c .0) (M .handle room (w .table) c .1)
 after M w (hears c i) = ending M w (M .receive (w .end) c)
@@ -71,10 +71,10 @@ start M t e = record { table = t; end = e; up = []; down = [] }
 -- a run from one moment to another
 pub data Trace (M : Machine) (from : World M) : World M → Type 0 where
   still : Trace M from from
-  more : {w : World M} → Trace M from w → (v : Event M w) → Trace M from (after M w v)
+  more : {w : World M} → Trace M from w → (v : Happening M w) → Trace M from (after M w v)
 
 -- an event in which the end hears nothing that matches and neither gives up nor is jolted
-abbrev pub Calm : (M : Machine) → (M .Down → Type 0) → {w : World M} → Event M w → Type 0
+abbrev pub Calm : (M : Machine) → (M .Down → Type 0) → {w : World M} → Happening M w → Type 0
 Calm M Matching (sends room r) = Unit {0}
 Calm M Matching (handles room c i) = Unit {0}
 Calm M Matching (hears c i) = ¬ Matching c

@@ -25,12 +25,12 @@ pub data Body (Listing Problem : Type 0) : Type 0 where
   garbled : Body Listing Problem
 
 -- a result or an error: the request was handled
-abbrev pub Answered : {L P : Type 0} → Body L P → Type 0
-Answered done = Unit {0}
-Answered (listed l) = Unit {0}
-Answered (failed x) = Unit {0}
-Answered (rejected x) = ⊥
-Answered garbled = ⊥
+abbrev pub WasHandled : {L P : Type 0} → Body L P → Type 0
+WasHandled done = Unit {0}
+WasHandled (listed l) = Unit {0}
+WasHandled (failed x) = Unit {0}
+WasHandled (rejected x) = ⊥
+WasHandled garbled = ⊥
 
 -- the end's outstanding request: its identifier, itself, and its procedure's mark from before it was sent
 pub data Waiting (Req : Type 0) : Type 0 where
@@ -53,8 +53,8 @@ pub record Topic : Type 1 where
   pub Fit : ℕ → Req → Type 0
   pub Proper : ℕ → Req → Body Listing Problem → Type 0
 
-abbrev pub Says : Topic → Type 0
-Says S = Body (S .Listing) (S .Problem)
+abbrev pub Saying : Topic → Type 0
+Saying S = Body (S .Listing) (S .Problem)
 
 pub record Exchange (S : Topic) : Type 1 where
   pub Table : Type 0
@@ -63,7 +63,7 @@ pub record Exchange (S : Topic) : Type 1 where
   pub held : Table → S .Proc → S .Pic
   -- whether the lent output is enough: with less nothing happens
   pub enough : S .Room → Bool
-  pub serve : Table → ℕ → S .Req → Table × Says S
+  pub serve : Table → ℕ → S .Req → Table × Saying S
   pub elsewhere : Table → Elsewhere → Table
   pub Good : Table → Type 0
 
@@ -75,13 +75,13 @@ pub record Customer (S : Topic) : Type 1 where
   pub waiting : End → Waiting (S .Req)
   pub next : End → ℕ
   pub send : S .Room → End → S .Req → Option (End × ℕ)
-  pub hear : End → ℕ → Says S → End
+  pub hear : End → ℕ → Saying S → End
   pub giveUp : End → End
   pub jolt : End → Jolt → End
   pub Sound : End → Type 0
 
 -- the exchange handles a request whose identifier is above the last handled one
-pub record Served (S : Topic) (X : Exchange S) (t : X .Table) (n : ℕ) (r : S .Req) (t′ : X .Table) (b : Says S) : Type 0 where
+pub record Served (S : Topic) (X : Exchange S) (t : X .Table) (n : ℕ) (r : S .Req) (t′ : X .Table) (b : Saying S) : Type 0 where
   pub moves : X .last t′ ≡ n
   pub others : (P : S .Proc) → ¬ (S .about r ≡ changes P) → X .held t′ P ≡ X .held t P
   pub on-failed : (x : ℕ) → b ≡ failed x → (P : S .Proc) → X .held t′ P ≡ X .held t P
@@ -110,7 +110,7 @@ pub record Shed (S : Topic) (C : Customer S) (e e′ : C .End) : Type 0 where
   pub stays : (P : S .Proc) → C .mark e′ P ≡ known → (C .mark e P ≡ known) × (C .pic e′ P ≡ C .pic e P)
 
 -- why a procedure is known after the reply (n, b)
-pub data Why (S : Topic) (C : Customer S) (e : C .End) (n : ℕ) (b : Says S) (e′ : C .End) (P : S .Proc) : Type 0 where
+pub data Why (S : Topic) (C : Customer S) (e : C .End) (n : ℕ) (b : Saying S) (e′ : C .End) (P : S .Proc) : Type 0 where
   kept : C .mark e P ≡ known → C .pic e′ P ≡ C .pic e P → Why S C e n b e′ P
   restored :
       (r : S .Req) (x : ℕ) → C .waiting e ≡ busy n r known → (S .about r ≡ changes P) ⊎ (S .about r ≡ asks P) → b ≡ failed x →
@@ -136,7 +136,7 @@ pub record ExchangeLaws (S : Topic) (X : Exchange S) : Type 0 where
   pub else-held : (t : X .Table) (o : X .Elsewhere) (P : S .Proc) → X .held (X .elsewhere t o) P ≡ X .held t P
 
 -- a reply to the request that is outstanding, and one to any other
-module _ (S : Topic) (C : Customer S) (e : C .End) (n : ℕ) (b : Says S) where
+module _ (S : Topic) (C : Customer S) (e : C .End) (n : ℕ) (b : Saying S) where
   pub record Hit (r : S .Req) (m : Mark) : Type 0 where
     pub sound : C .Sound e
     pub waits : C .waiting e ≡ busy n r m
@@ -154,15 +154,15 @@ pub record CustomerLaws (S : Topic) (C : Customer S) : Type 0 where
   pub send-sound :
       (room : S .Room) (e : C .End) (r : S .Req) (s : C .End × ℕ) → C .Sound e → C .send room e r ≡ some s → C .Sound (s .0)
   pub hear-why :
-      (e : C .End) (n : ℕ) (b : Says S) (r : S .Req) (m : Mark) → Hit S C e n b r m →
+      (e : C .End) (n : ℕ) (b : Saying S) (r : S .Req) (m : Mark) → Hit S C e n b r m →
       (P : S .Proc) → C .mark (C .hear e n b) P ≡ known → Why S C e n b (C .hear e n b) P
-  pub hear-grows : (e : C .End) (n : ℕ) (b : Says S) → C .next e ≤ C .next (C .hear e n b)
-  pub hear-closes : (e : C .End) (n : ℕ) (b : Says S) (r : S .Req) (m : Mark) → Hit S C e n b r m → C .waiting (C .hear e n b) ≡ idle
-  pub hear-drops : (e : C .End) (n : ℕ) (b : Says S) (r : S .Req) → Miss S C e n b r → C .hear e n b ≡ e
+  pub hear-grows : (e : C .End) (n : ℕ) (b : Saying S) → C .next e ≤ C .next (C .hear e n b)
+  pub hear-closes : (e : C .End) (n : ℕ) (b : Saying S) (r : S .Req) (m : Mark) → Hit S C e n b r m → C .waiting (C .hear e n b) ≡ idle
+  pub hear-drops : (e : C .End) (n : ℕ) (b : Saying S) (r : S .Req) → Miss S C e n b r → C .hear e n b ≡ e
   pub hear-learns :
       (e : C .End) (n : ℕ) (l : S .Listing) (r : S .Req) (m : Mark) → Hit S C e n (listed l) r m →
       (P : S .Proc) (T : S .Pic) → S .about r ≡ asks P → S .read P l ≡ some T → C .mark (C .hear e n (listed l)) P ≡ known
-  pub hear-sound : (e : C .End) (n : ℕ) (b : Says S) → C .Sound e → C .Sound (C .hear e n b)
+  pub hear-sound : (e : C .End) (n : ℕ) (b : Saying S) → C .Sound e → C .Sound (C .hear e n b)
   pub give-up : (e : C .End) → C .Sound e → Shed S C e (C .giveUp e)
   pub give-up-sound : (e : C .End) → C .Sound e → C .Sound (C .giveUp e)
   pub jolts : (e : C .End) (j : C .Jolt) → C .Sound e → Shed S C e (C .jolt e j)
@@ -193,7 +193,7 @@ messages S X C = record {
   End = C .End;
   Req = S .Req;
   Up = ℕ × S .Req;
-  Down = ℕ × Says S;
+  Down = ℕ × Saying S;
   Room = S .Room;
   Elsewhere = X .Elsewhere;
   Jolt = C .Jolt;

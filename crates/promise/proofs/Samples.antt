@@ -232,7 +232,7 @@ follows =
     } in
     (refl, refl, refl, refl, refl, refl, refl, refl, refl, refl, refl, handled)
 
-to : {u v : World M} (x : machine.Event M u) → machine.after M u x ≡ v → Trace M (begin sampleAccess) u → Trace M (begin sampleAccess) v
+to : {u v : World M} (x : machine.Happening M u) → machine.after M u x ≡ v → Trace M (begin sampleAccess) u → Trace M (begin sampleAccess) v
 to x is run = subst (Trace M (begin sampleAccess)) is (more run x)
 
 -- an activation is sent and lost, another is handled and its result lost, and an interrogation is sent

@@ -38,11 +38,11 @@ use Rattle.demand.proofs.Stays.{heard-end}
 use Rattle.promise.specs.Samples.{arrives, Says, sampleAccess, accessWith, callWith, activatedTable}
 use Rattle.promise.specs.Samples.{activationOctets, activatedOctets, duplicateOctets, freshOctets, activationOfCfb}
 use Rattle.promise.specs.Samples.{endAt, interrogatingEnd, activatingEnd, activatedInstances}
-use Rattle.promise.specs.Wrong.{Exchange, ArrivesBy, refusesAll, oneReply, tableUntouched}
+use Rattle.promise.specs.Wrong.{ExchangeStep, ArrivesBy, refusesAll, oneReply, tableUntouched}
 use Rattle.promise.specs.Wrong.{Diverter, DivertsBy, inventedCounter, fixedCounter}
-use Rattle.promise.specs.Demand.{machine, askedBy}
+use Rattle.promise.specs.Demand.{machine, askedBy, entriesHeld}
 use Rattle.promise.specs.Wrong.{Taker, TakesBy, Keeps, allMarked, doubtsAll, FirstReplyBy, resultFor, pretends}
-use Rattle.promise.specs.Wrong.{firstSent, firstAnswer, firstHeard, secondSent, secondHeard, cfb, entriesHeld, KnownWrong}
+use Rattle.promise.specs.Wrong.{firstSent, firstAnswer, firstHeard, secondSent, secondHeard, cfb, KnownWrong}
 use Rattle.promise.proofs.Samples.{row, sample-handled}
 use Rattle.promise.proofs.Demands.{demand-3}
 
@@ -118,7 +118,7 @@ shut-out-one-fixed-reply octets answers xs room a b =
 
 -- "leaving the table untouched": after the activation sample the last handled identifier is 2
 pub shut-out-table-untouched :
-    (x : Exchange) (xs : List ℕ) → outputLeast ≤ length xs →
+    (x : ExchangeStep) (xs : List ℕ) → outputLeast ≤ length xs →
     ArrivesBy (tableUntouched x) sampleAccess freshTable activationOctets xs → ⊥
 shut-out-table-untouched x xs room k =
     let z : _≡_ {A = ℕ} 0 2 =
@@ -195,10 +195,10 @@ first-table =
     ap (λ (s : List ℕ). done sampleAccess freshTable s outputLeast .table) (row 39 .0 .0)
     ∙ row 26 .0 .1
 
-none-held : 0 ≡ length (entriesHeld (accessRead sampleAccess .profile) (firstAnswer .table) cfb)
+none-held : 0 ≡ length (entriesHeld sampleAccess (firstAnswer .table) cfb)
 none-held =
     known-by sampleAccess (endAt 1 []) cfb 0 (row 41 .0) .entries
-    ∙ ap (λ (t : Table). length (entriesHeld (accessRead sampleAccess .profile) t cfb)) (sym first-table)
+    ∙ ap (λ (t : Table). length (entriesHeld sampleAccess t cfb)) (sym first-table)
 
 module _ (x : Taker) (keeps : Keeps x) where
   -- it tracks its first request
@@ -234,7 +234,7 @@ module _ (x : Taker) (keeps : Keeps x) where
 
   second-differs :
       entriesShown (accessRead sampleAccess .profile) (secondHeard (pretends x) .end) cfb
-      ≡ entriesHeld (accessRead sampleAccess .profile) (firstAnswer .table) cfb → ⊥
+      ≡ entriesHeld sampleAccess (firstAnswer .table) cfb → ⊥
   second-differs same =
       omega (arith, known-by sampleAccess (secondHeard (pretends x) .end) cfb 1 second-shown .entries, ap length same, none-held)
 

@@ -3,7 +3,7 @@
 -- wrong, the program is made of any other, which does the rest as it likes, rightly too.
 use Prim.Native.Nat.{ℕ}
 use mathlib.Core.Path.{_≡_}
-use mathlib.Core.List.{List, [], _∷_, map}
+use mathlib.Core.List.{List, [], _∷_}
 use lib.IntN.{pos}
 use lib.Dec.{leb}
 use Rattle.laws.specs.Pick.{pick}
@@ -13,9 +13,6 @@ use Rattle.refusals.specs.declared.refusal.Refusal.{Refusal}
 use Rattle.refusals.specs.declared.handling.Handling.the-variants as handling
 use Rattle.codes.specs.Codes.{activation, interrogation}
 use Rattle.profile.specs.Access.{accessRead}
-use Rattle.profile.specs.declared.profile.Profile.{Profile}
-use Rattle.lists.specs.declared.entry.Entry.{Entry}
-use Rattle.instances.specs.Run.{instancesOf, listed, entryFor}
 use Rattle.answers.specs.Answer.{answerOctets}
 use Rattle.answers.specs.declared.answer.Answer.the-variants as answer
 use Rattle.exchange.specs.Table.{freshTable}
@@ -27,14 +24,13 @@ use Rattle.calls.specs.Divert.{DivertsTo}
 use Rattle.calls.specs.declared.diverting.Diversion.{Diversion}
 use Rattle.end.specs.End.{knownMark, doubtMark, freshEnd}
 use Rattle.end.specs.Sending.{Sends, sends}
-use Rattle.end.specs.Listed.{everyOf}
 use Rattle.end.specs.Taking.{Takes}
 use Rattle.end.specs.Shown.{seenKnown, entriesShown, shown}
 use Rattle.end.specs.declared.end.End.{End}
 use Rattle.end.specs.declared.take.Moved.{Moved}
 use Rattle.demand.specs.Machine.{World, handles, after, Trace, Quiet}
 use Rattle.promise.specs.Samples.{sampleAccess, interrogationOfCfb, activationOfCfb}
-use Rattle.promise.specs.Demand.{machine, begin, Replies, askedBy, Handled}
+use Rattle.promise.specs.Demand.{machine, begin, Replies, askedBy, entriesHeld, Handled}
 
 -- ---- the exchange
 
@@ -43,26 +39,26 @@ pub record Out : Type 0 where
   pub answer : Arrived
   pub lent : List ℕ
 
-abbrev pub Exchange : Type 0
-Exchange = List ℕ → Table → List ℕ → List ℕ → Out
+abbrev pub ExchangeStep : Type 0
+ExchangeStep = List ℕ → Table → List ℕ → List ℕ → Out
 
 -- whether it keeps the promise of `arrive` there
-abbrev pub ArrivesBy : Exchange → List ℕ → Table → List ℕ → List ℕ → Type 0
+abbrev pub ArrivesBy : ExchangeStep → List ℕ → Table → List ℕ → List ℕ → Type 0
 ArrivesBy x access t s xs = Arrives access t s xs (x access t s xs .answer) (x access t s xs .lent)
 
 -- "refusing everything": the table is handed back, nothing is written, and the refusal is told
-abbrev pub refusesAll : Refusal → Exchange
+abbrev pub refusesAll : Refusal → ExchangeStep
 refusesAll refusal access t s xs = record {
   answer = record { table = t; outcome = arriving.Refuses refusal; count = 0 };
   lent = xs;
 }
 
 -- "one fixed reply": always the same octets, whatever is answered beside them
-abbrev pub oneReply : List ℕ → (List ℕ → Table → List ℕ → List ℕ → Arrived) → Exchange
+abbrev pub oneReply : List ℕ → (List ℕ → Table → List ℕ → List ℕ → Arrived) → ExchangeStep
 oneReply octets answers access t s xs = record { answer = answers access t s xs; lent = over xs 0 octets }
 
 -- "leaving the table untouched": what another exchange answers and writes, the right one too, but for the table
-abbrev pub tableUntouched : Exchange → Exchange
+abbrev pub tableUntouched : ExchangeStep → ExchangeStep
 tableUntouched x access t s xs = record {
   answer = record {
     table = t;
@@ -172,16 +168,13 @@ secondSent x = sends sampleAccess activation activationOfCfb (firstHeard x .end)
 abbrev pub secondHeard : Taker → Moved
 secondHeard x = x sampleAccess (secondSent x .end) (firstAnswer .octets)
 
--- the procedure that is asked for, and its entries in a table, as an interrogation's result would have them
+-- the procedure that is asked for
 abbrev pub cfb : ℕ
 cfb = 1
-
-abbrev pub entriesHeld : Profile → Table → ℕ → List Entry
-entriesHeld p t procedure = map (entryFor (p .numbers)) (listed (everyOf procedure) (instancesOf (t .run)))
 
 -- what is shown as known is not what the table has
 pub record KnownWrong (e : End) (t : Table) : Type 0 where
   pub count : ℕ
   pub known : shown sampleAccess e cfb ≡ tells (seenKnown count)
   pub differs :
-      entriesShown (accessRead sampleAccess .profile) e cfb ≡ entriesHeld (accessRead sampleAccess .profile) t cfb → ⊥
+      entriesShown (accessRead sampleAccess .profile) e cfb ≡ entriesHeld sampleAccess t cfb → ⊥
