@@ -13,7 +13,7 @@ use Rattle.sconcetoad.specs.declared.said.Said.{Said}
 pub asked-found :
     (identifier operation : ℤ) (g : Got Request) (r : RequestRead) → r ≡ requestRead g → r .ok ≡ true →
     _≡_ {A = Said} record { row = 6; asks = 1; identifier = identifier; operation = operation; request = r .request }
-    (asked identifier operation g)
+    (asked 6 identifier operation g)
 asked-found identifier operation (got request next) r e h = rw e
 asked-found identifier operation wrong r e h =
     absurd (false≢true (sym (ap (λ (x : RequestRead). x .ok) e) ∙ h))
@@ -21,7 +21,7 @@ asked-found identifier operation wrong r e h =
 -- an argument that is wrong is not
 pub asked-none :
     (identifier operation : ℤ) (g : Got Request) (r : RequestRead) → r ≡ requestRead g → r .ok ≡ false →
-    nothingAsked 6 identifier operation ≡ asked identifier operation g
+    nothingAsked 6 identifier operation ≡ asked 6 identifier operation g
 asked-none identifier operation (got request next) r e h =
     absurd (false≢true (sym h ∙ ap (λ (x : RequestRead). x .ok) e))
 asked-none identifier operation wrong r e h = refl

@@ -4,7 +4,7 @@ use mathlib.Core.Path.{_≡_}
 use mathlib.Core.List.{List}
 use lib.IntN.{ℤ, pos}
 use Rattle.laws.specs.Got.{Got, got, wrong}
-use Rattle.requests.specs.Heard.{heard}
+use Rattle.requests.specs.Heard.{heard, heardNo}
 use Rattle.requests.specs.Request.{noRequest, argumentAt}
 use Rattle.requests.specs.declared.heard.Heard.{Heard}
 use Rattle.requests.specs.declared.heard.Heard.the-variants.{NotOne, Silent, OtherTag, NoIdentifier, NoOperation, Asks}
@@ -15,18 +15,22 @@ use Rattle.sconcetoad.specs.declared.said.Said.{Said}
 abbrev pub nothingAsked : ℕ → ℤ → ℤ → Said
 nothingAsked row identifier operation = record { row = row; asks = 0; identifier = identifier; operation = operation; request = noRequest }
 
-abbrev pub asked : ℤ → ℤ → Got Request → Said
-asked identifier operation (got request next) =
-    record { row = 6; asks = 1; identifier = identifier; operation = operation; request = request }
-asked identifier operation wrong = nothingAsked 6 identifier operation
+abbrev pub asked : ℕ → ℤ → ℤ → Got Request → Said
+asked row identifier operation (got request next) =
+    record { row = row; asks = 1; identifier = identifier; operation = operation; request = request }
+asked row identifier operation wrong = nothingAsked row identifier operation
 
+abbrev pub saidBy : ℕ → List ℕ → Heard → Said
+saidBy row s NotOne = nothingAsked row (pos 0) (pos 0)
+saidBy row s Silent = nothingAsked row (pos 0) (pos 0)
+saidBy row s OtherTag = nothingAsked row (pos 0) (pos 0)
+saidBy row s NoIdentifier = nothingAsked row (pos 0) (pos 0)
+saidBy row s (NoOperation identifier) = nothingAsked row identifier (pos 0)
+saidBy row s (Asks identifier operation at end) = asked row identifier (operation .value) (argumentAt operation s at end)
+
+-- the row is the number of what was heard
 abbrev pub saidOf : List ℕ → Heard → Said
-saidOf s NotOne = nothingAsked 1 (pos 0) (pos 0)
-saidOf s Silent = nothingAsked 2 (pos 0) (pos 0)
-saidOf s OtherTag = nothingAsked 3 (pos 0) (pos 0)
-saidOf s NoIdentifier = nothingAsked 4 (pos 0) (pos 0)
-saidOf s (NoOperation identifier) = nothingAsked 5 identifier (pos 0)
-saidOf s (Asks identifier operation at end) = asked identifier (operation .value) (argumentAt operation s at end)
+saidOf s h = saidBy (heardNo h) s h
 
 -- what `sconcetoad_said` promises
 abbrev pub SaidBy : List ℕ → Said → Type 0
