@@ -5,9 +5,10 @@ use mathlib.Core.Option.{Option, none, some}
 use mathlib.Core.Bool.{Bool, true, false}
 use mathlib.Core.Logic.{inl, inr}
 use native.Mathlib.Omega.{arith}
+use Rattle.laws.specs.Mark.{Mark, known}
 use Rattle.demand.specs.Machine.{In, World, Happening, sends, handles, hears, gives-up, goes-on, jolted, sending, replying, ending, after}
 use Rattle.demand.specs.Machine.{start, Trace, still, more, Calm, Quiet}
-use Rattle.demand.specs.Rules.{Mark, known, asks, listed, WasHandled, Waiting, idle, busy, Topic, Saying, Exchange, Customer, Hit}
+use Rattle.demand.specs.Rules.{asks, listed, WasHandled, Waiting, idle, busy, Topic, Saying, Exchange, Customer, Hit}
 use Rattle.demand.specs.Rules.{ExchangeLaws, CustomerLaws, Fresh, messages, numbered, answering}
 use Rattle.demand.proofs.Invariant as I
 use Rattle.demand.proofs.Serving as G

@@ -6,8 +6,9 @@ use mathlib.Core.Option.{some}
 use mathlib.Core.Logic.{_⊎_, inl, inr}
 use native.Mathlib.Omega.{arith}
 use native.Mathlib.Decide.{ℕ-discrete}
+use Rattle.laws.specs.Mark.{Mark, known}
 use Rattle.demand.specs.Machine.{In}
-use Rattle.demand.specs.Rules.{Mark, known, changes, asks, done, listed, failed, WasHandled, Waiting, idle, busy, Topic, Saying, Exchange}
+use Rattle.demand.specs.Rules.{changes, asks, done, listed, failed, WasHandled, Waiting, idle, busy, Topic, Saying, Exchange}
 use Rattle.demand.specs.Rules.{Customer, Shed, Why, kept, restored, applied, learned, Hit, ExchangeLaws, CustomerLaws, Fresh}
 
 abbrev pub Ups : Topic → Type 0

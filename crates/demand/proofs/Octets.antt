@@ -6,9 +6,10 @@ use mathlib.Core.List.{List, [], _∷_, map}
 use mathlib.Core.Option.{Option, none, some}
 use mathlib.Core.Logic.{inl, inr}
 use native.Mathlib.Omega.{arith}
+use Rattle.laws.specs.Mark.{Mark, known}
 use Rattle.demand.specs.Machine.{In, Machine, World, Happening, sends, handles, hears, gives-up, goes-on, jolted, sending, replying, ending, after, start}
 use Rattle.demand.specs.Machine.{Trace, still, more, Calm, Quiet}
-use Rattle.demand.specs.Rules.{Mark, known, asks, busy, Topic, Saying, Exchange, Customer, ExchangeLaws, CustomerLaws, Fresh, messages, numbered, answering}
+use Rattle.demand.specs.Rules.{asks, busy, Topic, Saying, Exchange, Customer, ExchangeLaws, CustomerLaws, Fresh, messages, numbered, answering}
 use Rattle.demand.specs.Codec.{Octets, Wire, octets, written, Wired}
 use Rattle.demand.proofs.Demand3 as D
 use Rattle.demand.proofs.Demand3.{Holds}

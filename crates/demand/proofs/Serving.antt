@@ -5,8 +5,9 @@ use mathlib.Core.List.{_∷_}
 use mathlib.Core.Logic.{_⊎_, inl, inr}
 use native.Mathlib.Omega.{arith}
 use native.Mathlib.Decide.{ℕ-discrete, decLt}
+use Rattle.laws.specs.Mark.{Mark, known}
 use Rattle.demand.specs.Machine.{In}
-use Rattle.demand.specs.Rules.{Mark, known, changes, asks, done, listed, failed, rejected, WasHandled, busy, Topic, Saying, Exchange}
+use Rattle.demand.specs.Rules.{changes, asks, done, listed, failed, rejected, WasHandled, busy, Topic, Saying, Exchange}
 use Rattle.demand.specs.Rules.{Customer, Served, Sent, ExchangeLaws, CustomerLaws}
 use Rattle.demand.proofs.Invariant.{Ups, Downs, ProperTo, Settled, Changing, Asking, Pending, Inv}
 

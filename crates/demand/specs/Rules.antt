@@ -4,10 +4,8 @@ use mathlib.Core.Path.{_≡_}
 use mathlib.Core.Bool.{Bool, true, false}
 use mathlib.Core.Option.{Option, none, some}
 use mathlib.Core.Logic.{_⊎_}
+use Rattle.laws.specs.Mark.{Mark, known}
 use Rattle.demand.specs.Machine.{Machine}
-
-pub data Mark : Type 0 where
-  known doubt : Mark
 
 -- what a request is about: it changes a procedure (activation, deactivation), asks for one (interrogation), or neither
 pub data About (Proc : Type 0) : Type 0 where

@@ -10,6 +10,7 @@ use lib.ListN.{length}
 use lib.Dec.{ltb, eqb}
 use borrow.Author.Tests.{eq-eqb, eqb-false, not-false}
 use Rattle.laws.specs.Got.{got}
+use Rattle.laws.specs.Mark.{known, doubt, markNo}
 use Rattle.laws.proofs.Picks.{pick-ind}
 use Rattle.refusals.specs.Refusal.{tells, outputLeast, componentMost}
 use Rattle.refusals.specs.declared.refusal.Refusal.{Refusal}
@@ -25,7 +26,7 @@ use Rattle.answers.specs.declared.reply.Reply.the-variants.{Dropped, Listed}
 use Rattle.instances.specs.Run.{instancesOf, packed}
 use Rattle.instances.specs.declared.run.Run.{Run}
 use Rattle.rules.specs.Judge.{applied}
-use Rattle.end.specs.End.{knownMark, doubtMark, markAt, usedMost, closed, endGood}
+use Rattle.end.specs.End.{markAt, usedMost, closed, endGood}
 use Rattle.end.specs.Sending.{marksSent, sent, Sends, notSent, sends}
 use Rattle.end.specs.Listed.{instancesListed, listGood, replaced}
 use Rattle.end.specs.Taking.{learnedBy, learned, gaveUp, Moves, moved, takes, givesUp}
@@ -54,11 +55,11 @@ module _ (access : List ℕ) (e : End) where
       takes-ind access e s (λ m. P (m .end)) (λ _. inl refl) (λ _ _ _.
       took-ind (ours access) e s P
       (λ _. inl refl)
-      (λ _ _. inr (closed-one doubtMark (e .picture) e))
+      (λ _ _. inr (closed-one (markNo doubt) (e .picture) e))
       (λ _ _ _. inr (closed-one (e .before) (e .picture) e))
       (λ _ _ _. inr (closed-one (e .before) (applied (ours access) (e .operation) (e .request) (e .picture)) e))
       (λ _ _ _ es _ _ _ _.
-      inr (closed-one knownMark (packed (replaced (e .request .procedure) (instancesListed (ours access) es) (instancesOf (e .picture)))) e)))
+      inr (closed-one (markNo known) (packed (replaced (e .request .procedure) (instancesListed (ours access) es) (instancesOf (e .picture)))) e)))
 
   module _ (ok : accessRead access .ok ≡ true) (good : endGood instancesMost (ours access) e ≡ true) where
     -- giving up leaves nothing outstanding
@@ -79,29 +80,29 @@ module _ (access : List ℕ) (e : End) where
           rw (takes-all access e s fair ok good)
           (took-ind p e s (λ n. n .outstanding ≡ 0)
           (λ why. ⊎-elim (λ free. absurd (free waits)) (λ drop. absurd (own drop)) why)
-          (λ _ _. closed-one doubtMark (e .picture) e .free)
+          (λ _ _. closed-one (markNo doubt) (e .picture) e .free)
           (λ _ _ _. closed-one (e .before) (e .picture) e .free)
           (λ _ _ _. closed-one (e .before) (applied p (e .operation) (e .request) (e .picture)) e .free)
           (λ _ _ _ es _ _ _ _.
-          closed-one knownMark (packed (replaced (e .request .procedure) (instancesListed p es) (instancesOf (e .picture)))) e .free))
+          closed-one (markNo known) (packed (replaced (e .request .procedure) (instancesListed p es) (instancesOf (e .picture)))) e .free))
 
       -- a good list makes the procedure of the outstanding request known
       pub list-known :
           length (e .marks) ≡ 3 → (at end : ℕ) (es : List Entry) (next : ℕ) → replyTo e s ≡ Listed at end →
           entriesFrom instancesMost s at end ≡ got es next →
           listGood instancesMost (ours access) (e .request .procedure) (instancesListed (ours access) es) ≡ true →
-          markAt (e .request .procedure) (takes access e s .end .marks) ≡ knownMark
+          markAt (e .request .procedure) (takes access e s .end .marks) ≡ markNo known
       unfolding learned
       list-known long at end es next is read list =
           let p = ours access in
           let new : Run = packed (replaced (e .request .procedure) (instancesListed p es) (instancesOf (e .picture))) in
-          let took : takes access e s ≡ moved (closed knownMark new e) =
+          let took : takes access e s ≡ moved (closed (markNo known) new e) =
           takes-all access e s fair ok good
           ∙ ap moved (took-said p e s waits (Listed at end) is ∙ (ap (learnedBy p e) read ∙ rw list)) in
           let three = sent-three (e .operation) (e .request) (good-rules instancesMost p e good .fits waits .1) in
           ap (λ (m : Moves). markAt (e .request .procedure) (m .end .marks)) took
-          ∙ (ap (markAt (e .request .procedure)) (closed-marks knownMark new e)
-          ∙ mark-put (e .request .procedure) knownMark (e .marks) (omega (arith, long, three)))
+          ∙ (ap (markAt (e .request .procedure)) (closed-marks (markNo known) new e)
+          ∙ mark-put (e .request .procedure) (markNo known) (e .marks) (omega (arith, long, three)))
 
 -- ---- a request that is sent
 

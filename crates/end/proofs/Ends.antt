@@ -9,11 +9,12 @@ use lib.Dec.{leb}
 use borrow.Author.Tests.{lt-ltb, le-ltb, le-leb, lt-leb, leb-true, eq-eqb, ne-eqb}
 use Rattle.laws.specs.Pick.{pick}
 use Rattle.laws.specs.Tests.{all}
+use Rattle.laws.specs.Mark.{doubt, markNo}
 use Rattle.laws.proofs.Picks.{pick-last, pick-then}
 use Rattle.profile.specs.declared.profile.Profile.{Profile}
 use Rattle.requests.specs.Sent.{sendable}
 use Rattle.instances.specs.Run.{runGood}
-use Rattle.end.specs.End.{doubtMark, markAt, marked, usedMost, waitingGood, endRules, endGood}
+use Rattle.end.specs.End.{markAt, marked, usedMost, waitingGood, endRules, endGood}
 use Rattle.end.specs.declared.end.End.{End}
 
 set-past : (l : List ℕ) (i a : ℕ) → length l ≤ i → set l i a ≡ l
@@ -27,12 +28,12 @@ get-past (x ∷ xs) zero d h = absurd (omega (arith, h))
 get-past (x ∷ xs) (suc i) d h = get-past xs i d (omega (arith, h))
 
 -- a procedure that has no mark is in doubt, and none is put there
-pub mark-past : (procedure : ℕ) (marks : List ℕ) → length marks ≤ procedure → markAt procedure marks ≡ doubtMark
+pub mark-past : (procedure : ℕ) (marks : List ℕ) → length marks ≤ procedure → markAt procedure marks ≡ markNo doubt
 unfolding markAt
-mark-past procedure marks h = get-past marks procedure doubtMark h
+mark-past procedure marks h = get-past marks procedure (markNo doubt) h
 
 -- where all are in doubt, each is
-pub mark-doubt : (procedure : ℕ) → markAt procedure (doubtMark ∷ doubtMark ∷ doubtMark ∷ []) ≡ doubtMark
+pub mark-doubt : (procedure : ℕ) → markAt procedure (markNo doubt ∷ markNo doubt ∷ markNo doubt ∷ []) ≡ markNo doubt
 unfolding markAt
 mark-doubt zero = refl
 mark-doubt (suc zero) = refl

@@ -9,6 +9,7 @@ use native.Mathlib.Omega.{arith}
 use lib.ListN.{length, getD, set, length-set}
 use lib.Dec.{eqb}
 use borrow.Author.Tests.{le-leb, leb-true, lt-ltb}
+use Rattle.laws.specs.Mark.{known, doubt, markNo}
 use Rattle.laws.proofs.Picks.{pick-ind}
 use Rattle.laws.proofs.Tests.{all-at}
 use Rattle.codes.specs.Codes.{interrogation}
@@ -22,7 +23,7 @@ use Rattle.instances.specs.declared.run.Run.{Run}
 use Rattle.instances.proofs.Goods.{good-run, empty-good}
 use Rattle.rules.specs.Judge.{changed, applied}
 use Rattle.rules.proofs.Changes.{applied-ind}
-use Rattle.end.specs.End.{knownMark, doubtMark, markAt, marked, freshEnd, closed, usedMost, marksGood, waitingGood, endGood}
+use Rattle.end.specs.End.{markAt, marked, freshEnd, closed, usedMost, marksGood, waitingGood, endGood}
 use Rattle.end.specs.Sending.{marksSent, sent, sends}
 use Rattle.end.specs.Listed.{instancesListed, replaced}
 use Rattle.end.specs.Taking.{takes, givesUp}
@@ -104,20 +105,20 @@ module _
         takes-ind access e s (λ m. endGood instancesMost p (m .end) ≡ true) (λ _. good) (λ _ _ _.
         took-ind p e s (λ n. endGood instancesMost p n ≡ true)
         (λ _. good)
-        (λ _ _. closed-good doubtMark (e .picture) (omega arith) held)
+        (λ _ _. closed-good (markNo doubt) (e .picture) (omega arith) held)
         (λ waits _ _. closed-good (e .before) (e .picture) (rules .fits waits .0) held)
         (λ waits _ passes.
         closed-good (e .before) (applied p (e .operation) (e .request) (e .picture)) (rules .fits waits .0) (applied-run waits passes))
         (λ waits _ _ es _ _ _ list.
         let next = replaced (e .request .procedure) (instancesListed p es) (instancesOf (e .picture)) in
-        closed-good knownMark (packed next) (omega arith)
+        closed-good (markNo known) (packed next) (omega arith)
         (good-run p next (replaced-held access e ok good waits (instancesListed p es) list))))
 
     -- nor does the one that gave up
     pub gives-good : endGood instancesMost p (givesUp access e .end) ≡ true
     gives-good =
         gives-ind access e (λ m. endGood instancesMost p (m .end) ≡ true) (λ _. good) (λ _. good) (λ _ _ _.
-        closed-good doubtMark (e .picture) (omega arith) held)
+        closed-good (markNo doubt) (e .picture) (omega arith) held)
 
     -- nor the one that has sent
     pub sends-good : (operation : ℕ) (r : Request) (size : ℕ) → endGood instancesMost p (sends access operation r e size .end) ≡ true
@@ -128,9 +129,9 @@ module _
         end-good p (sent operation r e) (omega (arith, rules .used, more)) (omega arith)
         (pick-ind (λ l. marksGood l ≡ true) (eqb operation interrogation)
         {x = e .marks}
-        {y = marked (r .procedure) doubtMark (e .marks)}
+        {y = marked (r .procedure) (markNo doubt) (e .marks)}
         (λ _. rules .flags)
-        (λ _. marked-good (r .procedure) doubtMark (e .marks) (omega arith) (rules .flags)))
+        (λ _. marked-good (r .procedure) (markNo doubt) (e .marks) (omega arith) (rules .flags)))
         (rw (lt-ltb 0 (suc (e .used)) (omega arith), le-leb (markAt (r .procedure) (e .marks)) 1 low, fit))
         held)
 
@@ -169,9 +170,9 @@ closed-three mark picture e long = length-set (e .marks) (e .request .procedure)
 sent-long : (operation : ℕ) (r : Request) (e : End) → length (e .marks) ≡ 3 → length (sent operation r e .marks) ≡ 3
 unfolding sent marksSent marked
 sent-long operation r e long =
-    pick-ind (λ l. length l ≡ 3) (eqb operation interrogation) {x = e .marks} {y = set (e .marks) (r .procedure) doubtMark}
+    pick-ind (λ l. length l ≡ 3) (eqb operation interrogation) {x = e .marks} {y = set (e .marks) (r .procedure) (markNo doubt)}
     (λ _. long)
-    (λ _. length-set (e .marks) (r .procedure) doubtMark ∙ long)
+    (λ _. length-set (e .marks) (r .procedure) (markNo doubt) ∙ long)
 
 -- every end that is reached has a mark for each of the three procedures
 pub reached-marks : (access : List ℕ) (e : End) → Reached access e → length (e .marks) ≡ 3
@@ -185,11 +186,11 @@ reached-marks access _ (taking e way s) =
     takes-ind access e s (λ m. length (m .end .marks) ≡ 3) (λ _. long) (λ _ _ _.
     took-ind p e s (λ n. length (n .marks) ≡ 3)
     (λ _. long)
-    (λ _ _. closed-three doubtMark (e .picture) e long)
+    (λ _ _. closed-three (markNo doubt) (e .picture) e long)
     (λ _ _ _. closed-three (e .before) (e .picture) e long)
     (λ _ _ _. closed-three (e .before) (applied p (e .operation) (e .request) (e .picture)) e long)
     (λ _ _ _ es _ _ _ _.
-    closed-three knownMark (packed (replaced (e .request .procedure) (instancesListed p es) (instancesOf (e .picture)))) e long))
+    closed-three (markNo known) (packed (replaced (e .request .procedure) (instancesListed p es) (instancesOf (e .picture)))) e long))
 reached-marks access _ (giving e way) =
     let long = reached-marks access e way in
-    gives-ind access e (λ m. length (m .end .marks) ≡ 3) (λ _. long) (λ _. long) (λ _ _ _. closed-three doubtMark (e .picture) e long)
+    gives-ind access e (λ m. length (m .end .marks) ≡ 3) (λ _. long) (λ _. long) (λ _ _ _. closed-three (markNo doubt) (e .picture) e long)

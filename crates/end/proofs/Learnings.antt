@@ -7,6 +7,7 @@ use native.Mathlib.Omega.{arith}
 use lib.ListN.{length, length-append, length-map, length-replicate, replicate}
 use lib.Seq.{take-append-seam}
 use Rattle.laws.specs.Got.{Got, got, wrong}
+use Rattle.laws.specs.Mark.{known, markNo}
 use Rattle.profile.specs.declared.profile.Profile.{Profile}
 use Rattle.lists.specs.Entry.{noEntry}
 use Rattle.lists.specs.Entries.{instancesMost, entriesIn, entriesOf, entriesRead}
@@ -16,7 +17,7 @@ use Rattle.lists.specs.declared.entries.EntriesRead.{EntriesRead}
 use Rattle.instances.specs.Run.{instancesOf, packed}
 use Rattle.instances.specs.declared.run.Run.{Run}
 use Rattle.instances.proofs.Runs.{packed-all}
-use Rattle.end.specs.End.{knownMark, closed}
+use Rattle.end.specs.End.{closed}
 use Rattle.end.specs.Listed.{instanceFor, instancesListed, listGood, replaced}
 use Rattle.end.specs.Taking.{doubted, learned, learnedBy}
 use Rattle.end.specs.declared.end.End.{End}
@@ -69,6 +70,6 @@ module _ (p : Profile) (e : End) where
         pub learned-good :
             listGood instancesMost p (e .request .procedure) (instancesOf new) ≡ true →
             (next : Run) → next ≡ packed (replaced (e .request .procedure) (instancesOf new) (instancesOf (e .picture))) →
-            closed knownMark next e ≡ learned p e es
+            closed (markNo known) next e ≡ learned p e es
         unfolding learned
         learned-good good next is-next = rw (sym new-is, good, is-next)

@@ -14,6 +14,7 @@ use lib.Dec.{ltb, eqb}
 use borrow.Author.Tests.{eq-eqb, ne-eqb, eqb-true, eqb-false, ltb-true, ltb-false, leb-true}
 use Rattle.laws.specs.Tests.{all}
 use Rattle.laws.specs.Got.{got}
+use Rattle.laws.specs.Mark.{known, doubt, markNo}
 use Rattle.laws.proofs.Picks.{pick-ind, pick-then, by-bool}
 use Rattle.laws.proofs.Tests.{all-at}
 use Rattle.refusals.specs.Refusal.{refusalNo, refuses, tells, componentMost}
@@ -34,7 +35,7 @@ use Rattle.answers.specs.declared.reply.Reply.the-variants.{Dropped, Rejected, 
 use Rattle.instances.specs.Run.{instancesOf, packed}
 use Rattle.instances.specs.declared.run.Run.{Run}
 use Rattle.rules.specs.Judge.{applied}
-use Rattle.end.specs.End.{knownMark, doubtMark, markAt, marked, closed, marksGood, waitingGood, endRules, endGood}
+use Rattle.end.specs.End.{markAt, marked, closed, marksGood, waitingGood, endRules, endGood}
 use Rattle.end.specs.Sending.{marksSent, sent, sends}
 use Rattle.end.specs.Listed.{instancesListed, listGood, replaced}
 use Rattle.end.specs.Taking.{doubted, appliedBy, learned, learnedBy, tookBy, took, Moves, moved, takes, givesUp}
@@ -49,21 +50,21 @@ module _ (procedure mark : ℕ) (marks : List ℕ) where
   -- the mark that was put
   pub mark-put : procedure < length marks → markAt procedure (marked procedure mark marks) ≡ mark
   unfolding markAt marked
-  mark-put h = getD-set-same marks procedure mark doubtMark h
+  mark-put h = getD-set-same marks procedure mark (markNo doubt) h
 
   -- every other mark stays
   pub mark-other : (q : ℕ) → (q ≡ procedure → ⊥) → markAt q (marked procedure mark marks) ≡ markAt q marks
   unfolding markAt marked
-  mark-other q other = getD-set-other marks procedure q mark doubtMark other
+  mark-other q other = getD-set-other marks procedure q mark (markNo doubt) other
 
 -- doubt can be put anywhere
-pub doubt-put : (procedure : ℕ) (marks : List ℕ) → markAt procedure (marked procedure doubtMark marks) ≡ doubtMark
+pub doubt-put : (procedure : ℕ) (marks : List ℕ) → markAt procedure (marked procedure (markNo doubt) marks) ≡ markNo doubt
 doubt-put procedure marks =
-    by-bool (markAt procedure (marked procedure doubtMark marks) ≡ doubtMark) (ltb procedure (length marks))
-    (λ h. mark-put procedure doubtMark marks (ltb-true procedure (length marks) h))
+    by-bool (markAt procedure (marked procedure (markNo doubt) marks) ≡ markNo doubt) (ltb procedure (length marks))
+    (λ h. mark-put procedure (markNo doubt) marks (ltb-true procedure (length marks) h))
     (λ h.
     let past = ltb-false procedure (length marks) h in
-    ap (markAt procedure) (marked-past procedure doubtMark marks past) ∙ mark-past procedure marks past)
+    ap (markAt procedure) (marked-past procedure (markNo doubt) marks past) ∙ mark-past procedure marks past)
 
 -- closing a request puts the mark of its procedure
 pub closed-marks : (mark : ℕ) (picture : Run) (e : End) → closed mark picture e .marks ≡ marked (e .request .procedure) mark (e .marks)
@@ -129,12 +130,12 @@ module _
     (access : List ℕ) (e : End) (ok : accessRead access .ok ≡ true) (good : endGood instancesMost (ours access) e ≡ true)
     (waits : e .outstanding ≡ 1)
   where
-    doubted-mark : markAt (e .request .procedure) (doubted e .marks) ≡ doubtMark
+    doubted-mark : markAt (e .request .procedure) (doubted e .marks) ≡ markNo doubt
     doubted-mark =
-        ap (markAt (e .request .procedure)) (closed-marks doubtMark (e .picture) e) ∙ doubt-put (e .request .procedure) (e .marks)
+        ap (markAt (e .request .procedure)) (closed-marks (markNo doubt) (e .picture) e) ∙ doubt-put (e .request .procedure) (e .marks)
 
     -- giving up leaves the procedure of the outstanding request in doubt
-    pub gave-up-doubt : markAt (e .request .procedure) (givesUp access e .end .marks) ≡ doubtMark
+    pub gave-up-doubt : markAt (e .request .procedure) (givesUp access e .end .marks) ≡ markNo doubt
     gave-up-doubt =
         ap (λ (m : Moves). markAt (e .request .procedure) (m .end .marks)) (gives-all access e ok good ∙ ap moved (gave-doubt e waits))
         ∙ doubted-mark
@@ -143,23 +144,23 @@ module _
       -- whatever reply gives doubt leaves the procedure of the outstanding request in doubt, and the picture as it was
       pub reply-doubt :
           Doubts (ours access) e s →
-          (markAt (e .request .procedure) (takes access e s .end .marks) ≡ doubtMark) × (takes access e s .end .picture ≡ e .picture)
+          (markAt (e .request .procedure) (takes access e s .end .marks) ≡ markNo doubt) × (takes access e s .end .picture ≡ e .picture)
       reply-doubt why =
           let is : takes access e s ≡ moved (doubted e) = takes-all access e s fair ok good ∙ ap moved (took-doubt (ours access) e s waits why) in (
             ap (λ (m : Moves). markAt (e .request .procedure) (m .end .marks)) is ∙ doubted-mark,
-            ap (λ (m : Moves). m .end .picture) is ∙ closed-picture doubtMark (e .picture) e,
+            ap (λ (m : Moves). m .end .picture) is ∙ closed-picture (markNo doubt) (e .picture) e,
           )
 
       -- a reject leaves the procedure of the outstanding request in doubt
       pub reject-doubt :
           reply (pos (e .used)) (e .operation) s ≡ Rejected →
-          markAt (e .request .procedure) (takes access e s .end .marks) ≡ doubtMark
+          markAt (e .request .procedure) (takes access e s .end .marks) ≡ markNo doubt
       reject-doubt is = reply-doubt (rejects is) .0
 
       -- so does a reply of the wrong shape
       pub wrong-doubt :
           reply (pos (e .used)) (e .operation) s ≡ Wrong →
-          markAt (e .request .procedure) (takes access e s .end .marks) ≡ doubtMark
+          markAt (e .request .procedure) (takes access e s .end .marks) ≡ markNo doubt
       wrong-doubt is = reply-doubt (shapeless is) .0
 
       -- an error restores the mark from before sending, and leaves the picture as it was
@@ -181,20 +182,20 @@ module _
 -- why the procedure q is known after a component has arrived, m being what it has done
 pub data Why (p : Profile) (e : End) (s : List ℕ) (q : ℕ) (m : Moves) : Type 0 where
   -- it was known before, and the component was refused
-  refused : markAt q (e .marks) ≡ knownMark → (number : ℕ) → m .told ≡ refuses number → m .end ≡ e → Why p e s q m
+  refused : markAt q (e .marks) ≡ markNo known → (number : ℕ) → m .told ≡ refuses number → m .end ≡ e → Why p e s q m
   -- it was known before, and nothing was outstanding
-  idle : markAt q (e .marks) ≡ knownMark → (e .outstanding ≡ 1 → ⊥) → m .end ≡ e → Why p e s q m
+  idle : markAt q (e .marks) ≡ markNo known → (e .outstanding ≡ 1 → ⊥) → m .end ≡ e → Why p e s q m
   -- it was known before, and the component was dropped
-  dropped : markAt q (e .marks) ≡ knownMark → replyTo e s ≡ Dropped → m .end ≡ e → Why p e s q m
+  dropped : markAt q (e .marks) ≡ markNo known → replyTo e s ≡ Dropped → m .end ≡ e → Why p e s q m
   -- it was known before, and the outstanding request is of another procedure
-  other : markAt q (e .marks) ≡ knownMark → (q ≡ e .request .procedure → ⊥) → Why p e s q m
+  other : markAt q (e .marks) ≡ markNo known → (q ≡ e .request .procedure → ⊥) → Why p e s q m
   -- it was known when the outstanding request was sent, which an error answers: the picture is as it was
   restored :
-      q ≡ e .request .procedure → e .outstanding ≡ 1 → e .before ≡ knownMark → (value : ℤ) → replyTo e s ≡ Failed value →
+      q ≡ e .request .procedure → e .outstanding ≡ 1 → e .before ≡ markNo known → (value : ℤ) → replyTo e s ≡ Failed value →
       m .end .picture ≡ e .picture → Why p e s q m
   -- it was known when the outstanding request was sent, which a result answers and which the rules apply to the picture
   applies :
-      q ≡ e .request .procedure → e .outstanding ≡ 1 → e .before ≡ knownMark → replyTo e s ≡ Done → verdict p e ≡ none →
+      q ≡ e .request .procedure → e .outstanding ≡ 1 → e .before ≡ markNo known → replyTo e s ≡ Done → verdict p e ≡ none →
       m .end .picture ≡ applied p (e .operation) (e .request) (e .picture) → Why p e s q m
   -- a good list of its instances answers the outstanding request, and they are the picture's
   learns :
@@ -206,51 +207,51 @@ pub data Why (p : Profile) (e : End) (s : List ℕ) (q : ℕ) (m : Moves) : Type
 
 -- a mark that says known after one was put says so for the mark that was put, or for another procedure's
 known-put :
-    (procedure mark q : ℕ) (marks : List ℕ) → markAt q (marked procedure mark marks) ≡ knownMark →
-    ((q ≡ procedure) × (mark ≡ knownMark)) ⊎ ((q ≡ procedure → ⊥) × (markAt q marks ≡ knownMark))
-known-put procedure mark q marks known =
+    (procedure mark q : ℕ) (marks : List ℕ) → markAt q (marked procedure mark marks) ≡ markNo known →
+    ((q ≡ procedure) × (mark ≡ markNo known)) ⊎ ((q ≡ procedure → ⊥) × (markAt q marks ≡ markNo known))
+known-put procedure mark q marks says =
     by-bool _ (eqb q procedure)
     (λ h.
     let same = eqb-true q procedure h in
     inl (same, own same))
     (λ h.
     let not = eqb-false q procedure h in
-    inr (not, sym (mark-other procedure mark marks q not) ∙ known))
+    inr (not, sym (mark-other procedure mark marks q not) ∙ says))
   where
-    own : q ≡ procedure → mark ≡ knownMark
+    own : q ≡ procedure → mark ≡ markNo known
     own same =
-        by-bool (mark ≡ knownMark) (ltb procedure (length marks))
+        by-bool (mark ≡ markNo known) (ltb procedure (length marks))
         (λ h.
         sym (mark-put procedure mark marks (ltb-true procedure (length marks) h))
-        ∙ (ap (λ k. markAt k (marked procedure mark marks)) (sym same) ∙ known))
+        ∙ (ap (λ k. markAt k (marked procedure mark marks)) (sym same) ∙ says))
         (λ h.
         let past = ltb-false procedure (length marks) h in
-        let none : markAt q (marked procedure mark marks) ≡ doubtMark =
+        let none : markAt q (marked procedure mark marks) ≡ markNo doubt =
         ap (markAt q) (marked-past procedure mark marks past) ∙ (ap (λ k. markAt k marks) same ∙ mark-past procedure marks past) in
-        absurd (omega (arith, none, known)))
+        absurd (omega (arith, none, says)))
 
 module _ (access : List ℕ) (e : End) (s : List ℕ) (q : ℕ) where
   abbrev Known : Moves → Type 0
-  Known m = markAt q (m .end .marks) ≡ knownMark → Why (ours access) e s q m
+  Known m = markAt q (m .end .marks) ≡ markNo known → Why (ours access) e s q m
 
   -- after a request is closed: by the mark that its procedure gets, or as before
   by-closed :
-      (mark : ℕ) (picture : Run) → ((q ≡ e .request .procedure) → mark ≡ knownMark → Why (ours access) e s q (moved (closed mark picture e))) →
+      (mark : ℕ) (picture : Run) → ((q ≡ e .request .procedure) → mark ≡ markNo known → Why (ours access) e s q (moved (closed mark picture e))) →
       Known (moved (closed mark picture e))
-  by-closed mark picture own known =
+  by-closed mark picture own says =
       ⊎-elim
       (λ same. own (same .0) (same .1))
       (λ not. other (not .1) (not .0))
-      (known-put (e .request .procedure) mark q (e .marks) (sym (ap (markAt q) (closed-marks mark picture e)) ∙ known))
+      (known-put (e .request .procedure) mark q (e .marks) (sym (ap (markAt q) (closed-marks mark picture e)) ∙ says))
 
   -- a procedure that is known after a component has arrived is so for one of these reasons
-  pub known-from : markAt q (takes access e s .end .marks) ≡ knownMark → Why (ours access) e s q (takes access e s)
+  pub known-from : markAt q (takes access e s .end .marks) ≡ markNo known → Why (ours access) e s q (takes access e s)
   known-from =
       let p = ours access in
-      takes-ind access e s Known (λ refusal known. refused known (refusalNo refusal) refl refl) (λ _ _ _.
+      takes-ind access e s Known (λ refusal says. refused says (refusalNo refusal) refl refl) (λ _ _ _.
       took-ind p e s (λ n. Known (moved n))
-      (λ why known. ⊎-elim (λ free. idle known free refl) (λ drop. dropped known drop refl) why)
-      (λ _ _. by-closed doubtMark (e .picture) (λ _ never. absurd (omega (arith, never))))
+      (λ why says. ⊎-elim (λ free. idle says free refl) (λ drop. dropped says drop refl) why)
+      (λ _ _. by-closed (markNo doubt) (e .picture) (λ _ never. absurd (omega (arith, never))))
       (λ waits value is.
       by-closed (e .before) (e .picture) (λ own before.
       restored own waits before value is (closed-picture (e .before) (e .picture) e)))
@@ -259,40 +260,40 @@ module _ (access : List ℕ) (e : End) (s : List ℕ) (q : ℕ) where
       by-closed (e .before) next (λ own before. applies own waits before is passes (closed-picture (e .before) next e)))
       (λ waits at end es next is read good.
       let new : Run = packed (replaced (e .request .procedure) (instancesListed p es) (instancesOf (e .picture))) in
-      by-closed knownMark new (λ own _. learns own waits at end es next is read good (closed-picture knownMark new e))))
+      by-closed (markNo known) new (λ own _. learns own waits at end es next is read good (closed-picture (markNo known) new e))))
 
 -- sending makes no procedure known that was in doubt
 pub sends-known :
     (access : List ℕ) (operation : ℕ) (r : Request) (e : End) (size q : ℕ) →
-    markAt q (sends access operation r e size .end .marks) ≡ knownMark → markAt q (e .marks) ≡ knownMark
+    markAt q (sends access operation r e size .end .marks) ≡ markNo known → markAt q (e .marks) ≡ markNo known
 unfolding sent marksSent
 sends-known access operation r e size q =
-    sends-ind access e operation r size (λ d. markAt q (d .end .marks) ≡ knownMark → markAt q (e .marks) ≡ knownMark) (λ _ known. known)
+    sends-ind access e operation r size (λ d. markAt q (d .end .marks) ≡ markNo known → markAt q (e .marks) ≡ markNo known) (λ _ says. says)
     (λ _ _ _ _.
-    pick-ind (λ l. markAt q l ≡ knownMark → markAt q (e .marks) ≡ knownMark) (eqb operation interrogation)
+    pick-ind (λ l. markAt q l ≡ markNo known → markAt q (e .marks) ≡ markNo known) (eqb operation interrogation)
     {x = e .marks}
-    {y = marked (r .procedure) doubtMark (e .marks)}
-    (λ _ known. known)
-    (λ _ known.
-    ⊎-elim (λ own. absurd (omega (arith, own .1))) (λ not. not .1) (known-put (r .procedure) doubtMark q (e .marks) known)))
+    {y = marked (r .procedure) (markNo doubt) (e .marks)}
+    (λ _ says. says)
+    (λ _ says.
+    ⊎-elim (λ own. absurd (omega (arith, own .1))) (λ not. not .1) (known-put (r .procedure) (markNo doubt) q (e .marks) says)))
 
 -- nor does giving up
 pub gives-known :
     (access : List ℕ) (e : End) (q : ℕ) →
-    markAt q (givesUp access e .end .marks) ≡ knownMark → markAt q (e .marks) ≡ knownMark
+    markAt q (givesUp access e .end .marks) ≡ markNo known → markAt q (e .marks) ≡ markNo known
 gives-known access e q =
-    gives-ind access e (λ m. markAt q (m .end .marks) ≡ knownMark → markAt q (e .marks) ≡ knownMark) (λ _ known. known) (λ _ known. known)
-    (λ _ _ _ known.
-    let put = sym (ap (markAt q) (closed-marks doubtMark (e .picture) e)) ∙ known in
-    ⊎-elim (λ own. absurd (omega (arith, own .1))) (λ not. not .1) (known-put (e .request .procedure) doubtMark q (e .marks) put))
+    gives-ind access e (λ m. markAt q (m .end .marks) ≡ markNo known → markAt q (e .marks) ≡ markNo known) (λ _ says. says) (λ _ says. says)
+    (λ _ _ _ says.
+    let put = sym (ap (markAt q) (closed-marks (markNo doubt) (e .picture) e)) ∙ says in
+    ⊎-elim (λ own. absurd (omega (arith, own .1))) (λ not. not .1) (known-put (e .request .procedure) (markNo doubt) q (e .marks) put))
 
 -- an activation or a deactivation that is sent leaves its procedure in doubt
 pub sends-doubt :
     (access : List ℕ) (operation : ℕ) (r : Request) (e : End) (size : ℕ) → (operation ≡ interrogation → ⊥) →
     sends access operation r e size .told ≡ tells tt →
-    markAt (r .procedure) (sends access operation r e size .end .marks) ≡ doubtMark
+    markAt (r .procedure) (sends access operation r e size .end .marks) ≡ markNo doubt
 unfolding sent marksSent
 sends-doubt access operation r e size changes =
-    sends-ind access e operation r size (λ d. d .told ≡ tells tt → markAt (r .procedure) (d .end .marks) ≡ doubtMark)
+    sends-ind access e operation r size (λ d. d .told ≡ tells tt → markAt (r .procedure) (d .end .marks) ≡ markNo doubt)
     (λ _ h. absurd (refuses-not _ _ h))
     (λ _ _ _ _ _. rw (ne-eqb operation interrogation changes) (doubt-put (r .procedure) (e .marks)))

@@ -8,6 +8,7 @@ use mathlib.Core.Option.{none}
 use lib.Dec.{eqb}
 use borrow.Author.Tests.{ne-eqb, eqb-true}
 use Rattle.laws.specs.Those.{those}
+use Rattle.laws.specs.Mark.{known, doubt, markNo}
 use Rattle.laws.proofs.Picks.{pick-ind, by-bool}
 use Rattle.laws.proofs.Tests.{both-hold}
 use Rattle.laws.proofs.Thoses.{those-sub}
@@ -37,7 +38,7 @@ use Rattle.rules.specs.Judge.{changed, applied}
 use Rattle.rules.specs.Selection.{selectionOf}
 use Rattle.rules.proofs.Selections.{selection-procedure}
 use Rattle.rules.proofs.Changes.{changed-ind, changed-good, applied-ind}
-use Rattle.end.specs.End.{knownMark, doubtMark, markAt, marked, closed, endGood}
+use Rattle.end.specs.End.{markAt, marked, closed, endGood}
 use Rattle.end.specs.Sending.{marksSent, sent, sends}
 use Rattle.end.specs.Listed.{instancesListed, listGood, everyOf, replaced}
 use Rattle.end.specs.Taking.{takes, givesUp}
@@ -158,10 +159,10 @@ module _ (access : List ℕ) (e : End) (s : List ℕ) (q : ℕ) (other : q ≡ e
       takes-ind access e s (λ m. markAt q (m .end .marks) ≡ markAt q (e .marks)) (λ _. refl) (λ _ _ _.
       took-ind (ours access) e s (λ n. markAt q (n .marks) ≡ markAt q (e .marks))
       (λ _. refl)
-      (λ _ _. closed-others doubtMark (e .picture))
+      (λ _ _. closed-others (markNo doubt) (e .picture))
       (λ _ _ _. closed-others (e .before) (e .picture))
       (λ _ _ _. closed-others (e .before) (applied (ours access) (e .operation) (e .request) (e .picture)))
-      (λ _ _ _ es _ _ _ _. closed-others knownMark (packed (replaced (e .request .procedure) (instancesListed (ours access) es) (instancesOf (e .picture))))))
+      (λ _ _ _ es _ _ _ _. closed-others (markNo known) (packed (replaced (e .request .procedure) (instancesListed (ours access) es) (instancesOf (e .picture))))))
 
   -- and their instances in the picture
   pub takes-others :
@@ -171,14 +172,14 @@ module _ (access : List ℕ) (e : End) (s : List ℕ) (q : ℕ) (other : q ≡ e
       (λ _. refl) (λ _ ok good.
       took-ind (ours access) e s (λ n. those (isOf q) (instancesOf (n .picture)) ≡ those (isOf q) (instancesOf (e .picture)))
       (λ _. refl)
-      (λ _ _. same (closed-picture doubtMark (e .picture) e))
+      (λ _ _. same (closed-picture (markNo doubt) (e .picture) e))
       (λ _ _ _. same (closed-picture (e .before) (e .picture) e))
       (λ waits _ passes.
       ap ofQ (closed-picture (e .before) (applied (ours access) (e .operation) (e .request) (e .picture)) e)
       ∙ applied-others access e ok good waits q other passes)
       (λ waits _ _ es _ _ _ list.
       let new = instancesListed (ours access) es in
-      ap ofQ (closed-picture knownMark (packed (replaced (e .request .procedure) new (instancesOf (e .picture)))) e)
+      ap ofQ (closed-picture (markNo known) (packed (replaced (e .request .procedure) new (instancesOf (e .picture)))) e)
       ∙ learned-others access e ok good waits q other new list))
     where
       ofQ : Run → List Instance
@@ -192,7 +193,7 @@ module _ (access : List ℕ) (e : End) (s : List ℕ) (q : ℕ) (other : q ≡ e
 -- giving up leaves every instance as it was
 pub gives-picture : (access : List ℕ) (e : End) → givesUp access e .end .picture ≡ e .picture
 gives-picture access e =
-    gives-ind access e (λ m. m .end .picture ≡ e .picture) (λ _. refl) (λ _. refl) (λ _ _ _. closed-picture doubtMark (e .picture) e)
+    gives-ind access e (λ m. m .end .picture ≡ e .picture) (λ _. refl) (λ _. refl) (λ _ _ _. closed-picture (markNo doubt) (e .picture) e)
 
 -- and the mark of every procedure but the outstanding request's
 pub gives-marks :
@@ -200,7 +201,7 @@ pub gives-marks :
     markAt q (givesUp access e .end .marks) ≡ markAt q (e .marks)
 gives-marks access e q other =
     gives-ind access e (λ m. markAt q (m .end .marks) ≡ markAt q (e .marks)) (λ _. refl) (λ _. refl) (λ _ _ _.
-    ap (markAt q) (closed-marks doubtMark (e .picture) e) ∙ mark-other (e .request .procedure) doubtMark (e .marks) q other)
+    ap (markAt q) (closed-marks (markNo doubt) (e .picture) e) ∙ mark-other (e .request .procedure) (markNo doubt) (e .marks) q other)
 
 -- ---- sending
 
@@ -217,6 +218,6 @@ module _ (access : List ℕ) (operation : ℕ) (r : Request) (e : End) (size : �
       sends-ind access e operation r size (λ d. markAt q (d .end .marks) ≡ markAt q (e .marks)) (λ _. refl) (λ _ _ _ _.
       pick-ind (λ l. markAt q l ≡ markAt q (e .marks)) (eqb operation interrogation)
       {x = e .marks}
-      {y = marked (r .procedure) doubtMark (e .marks)}
+      {y = marked (r .procedure) (markNo doubt) (e .marks)}
       (λ _. refl)
-      (λ _. mark-other (r .procedure) doubtMark (e .marks) q other))
+      (λ _. mark-other (r .procedure) (markNo doubt) (e .marks) q other))

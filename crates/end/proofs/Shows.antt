@@ -8,6 +8,7 @@ use lib.ListN.{length, take, getD, replicate, length-map, List·getD-append, Lis
 use lib.Seq.{take-all}
 use lib.Dec.{ltb, eqb}
 use borrow.Author.Tests.{lt-ltb, le-ltb, ltb-true, ltb-false, eq-eqb, ne-eqb, eqb-true, eqb-false}
+use Rattle.laws.specs.Mark.{known, markNo}
 use Rattle.laws.proofs.Picks.{by-bool}
 use Rattle.refusals.specs.Refusal.{refusalNo, Told, refuses, tells}
 use Rattle.refusals.specs.declared.refusal.Refusal.the-variants.{BadProfile, BadTable, BadRequest}
@@ -22,9 +23,9 @@ use Rattle.lists.specs.declared.entries.Entries.{Entries}
 use Rattle.instances.specs.Run.{instancesOf, listed, entryFor}
 use Rattle.instances.proofs.Goods.{run-good}
 use Rattle.instances.proofs.Listeds.{listed-most}
-use Rattle.end.specs.End.{knownMark, markAt, endGood}
+use Rattle.end.specs.End.{markAt, endGood}
 use Rattle.end.specs.Listed.{everyOf}
-use Rattle.end.specs.Shown.{Seen, seenKnown, seenDoubt, shownTold, entriesShown, shown, handedOut, entriesOut, ShowsEntry}
+use Rattle.end.specs.Shown.{Seen, seenKnown, seenDoubt, shownNo, entriesShown, shown, handedOut, entriesOut, ShowsEntry}
 use Rattle.end.specs.declared.end.End.{End}
 use Rattle.end.specs.declared.show.Shown.{Shown}
 use Rattle.end.specs.declared.show.Shown.the-variants.{Known}
@@ -49,15 +50,15 @@ module _ (access : List ℕ) (e : End) (procedure : ℕ) where
       shown-none over = rw (ok, good, procedure-code procedure, le-ltb procedure 3 over)
 
       module _ (code : procedure < 3) where
-        pub shown-doubt : (markAt procedure (e .marks) ≡ knownMark → ⊥) → shown access e procedure ≡ tells seenDoubt
+        pub shown-doubt : (markAt procedure (e .marks) ≡ markNo known → ⊥) → shown access e procedure ≡ tells seenDoubt
         unfolding shown
-        shown-doubt not = rw (ok, good, procedure-code procedure, lt-ltb procedure 3 code, ne-eqb (markAt procedure (e .marks)) knownMark not)
+        shown-doubt not = rw (ok, good, procedure-code procedure, lt-ltb procedure 3 code, ne-eqb (markAt procedure (e .marks)) (markNo known) not)
 
         pub shown-known :
-            markAt procedure (e .marks) ≡ knownMark →
+            markAt procedure (e .marks) ≡ markNo known →
             shown access e procedure ≡ tells (seenKnown (length (entriesShown ours e procedure)))
         unfolding shown
-        shown-known is = rw (ok, good, procedure-code procedure, lt-ltb procedure 3 code, eq-eqb (markAt procedure (e .marks)) knownMark is)
+        shown-known is = rw (ok, good, procedure-code procedure, lt-ltb procedure 3 code, eq-eqb (markAt procedure (e .marks)) (markNo known) is)
 
   pub shown-count :
       length (listed (everyOf procedure) (instancesOf (e .picture))) ≡ length (entriesShown ours e procedure)
@@ -68,7 +69,7 @@ module _ (access : List ℕ) (e : End) (procedure : ℕ) where
     pub ok : accessRead access .ok ≡ true
     pub good : endGood instancesMost ours e ≡ true
     pub code : procedure < 3
-    pub mark : markAt procedure (e .marks) ≡ knownMark
+    pub mark : markAt procedure (e .marks) ≡ markNo known
     pub entries : count ≡ length (entriesShown ours e procedure)
 
   module _ (count : ℕ) (is : shown access e procedure ≡ tells (seenKnown count)) where
@@ -87,9 +88,9 @@ module _ (access : List ℕ) (e : End) (procedure : ℕ) where
         by-bool (KnownBy count) (ltb procedure 3)
         (λ below.
         let code = ltb-true procedure 3 below in
-        by-bool (KnownBy count) (eqb (markAt procedure (e .marks)) knownMark)
+        by-bool (KnownBy count) (eqb (markAt procedure (e .marks)) (markNo known))
         (λ m.
-        let mark = eqb-true (markAt procedure (e .marks)) knownMark m in
+        let mark = eqb-true (markAt procedure (e .marks)) (markNo known) m in
         record {
           ok = ok;
           good = good;
@@ -100,7 +101,7 @@ module _ (access : List ℕ) (e : End) (procedure : ℕ) where
         (λ m.
         absurd
         (omega
-        (arith, ap (λ (s : Seen). s .mark) (seen-same _ (shown-doubt ok good code (eqb-false (markAt procedure (e .marks)) knownMark m)))))))
+        (arith, ap (λ (s : Seen). s .mark) (seen-same _ (shown-doubt ok good code (eqb-false (markAt procedure (e .marks)) (markNo known) m)))))))
         (λ over. no-refusal _ (shown-none ok good (ltb-false procedure 3 over))))
         (λ bad. no-refusal _ (shown-end ok bad)))
         (λ bad. no-refusal _ (shown-profile bad))
@@ -115,7 +116,7 @@ get-any (x ∷ xs) (suc i) a b h = get-any xs i a b (omega (arith, h))
 
 -- where the first `i` are not enough there is none, and of what is not known there is none at all
 pub entry-none :
-    (access : List ℕ) (e : End) (procedure i : ℕ) (told : Shown) → shownTold told ≡ shown access e procedure →
+    (access : List ℕ) (e : End) (procedure i : ℕ) (told : Shown) → shownNo told ≡ shown access e procedure →
     length (entriesOut access e procedure) ≤ i →
     ShowsEntry access e procedure i (record { shown = told; present = false; entry = noEntry })
 entry-none access e procedure i told is past = record {

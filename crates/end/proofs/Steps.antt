@@ -10,6 +10,7 @@ use lib.ListN.{length}
 use lib.Dec.{ltb, eqb}
 use borrow.Author.Tests.{ltb-false, eqb-true, eqb-false, not-false}
 use Rattle.laws.specs.Got.{Got, got, wrong}
+use Rattle.laws.specs.Mark.{known, markNo}
 use Rattle.laws.proofs.Picks.{pick-ind}
 use Rattle.refusals.specs.Refusal.{outputLeast, componentMost}
 use Rattle.refusals.specs.declared.refusal.Refusal.{Refusal}
@@ -25,7 +26,7 @@ use Rattle.answers.specs.declared.reply.Reply.{Reply}
 use Rattle.answers.specs.declared.reply.Reply.the-variants.{Dropped, Rejected, Failed, Done, Listed, Wrong}
 use Rattle.instances.specs.Run.{instancesOf, packed}
 use Rattle.rules.specs.Judge.{judge, applied}
-use Rattle.end.specs.End.{knownMark, usedMost, closed, endGood}
+use Rattle.end.specs.End.{usedMost, closed, endGood}
 use Rattle.end.specs.Sending.{Sends, notSent, sends}
 use Rattle.end.specs.Listed.{instancesListed, listGood, replaced}
 use Rattle.end.specs.Taking.{doubted, appliedBy, learned, learnedBy, tookBy, took, gaveUp, Moves, moved, notMoved, takes, givesUp}
@@ -64,7 +65,7 @@ pub data Doubts (p : Profile) (e : End) (s : List ℕ) : Type 0 where
 -- the picture after a good list
 abbrev pub learnedEnd : Profile → End → List Entry → End
 learnedEnd p e es =
-    closed knownMark (packed (replaced (e .request .procedure) (instancesListed p es) (instancesOf (e .picture)))) e
+    closed (markNo known) (packed (replaced (e .request .procedure) (instancesListed p es) (instancesOf (e .picture)))) e
 
 -- the picture after a result
 abbrev pub appliedEnd : Profile → End → End

@@ -4,7 +4,7 @@ use mathlib.Core.Path.{_≡_, refl, sym, ap}
 use native.Mathlib.Omega.{arith}
 use lib.ListN.{getD}
 use Rattle.refusals.proofs.Refusals.{refusal-same, refuses-same, refuses-not, tells-same}
-use Rattle.end.specs.Shown.{Seen, seenKnown, seenDoubt, shownTold}
+use Rattle.end.specs.Shown.{Seen, seenKnown, seenDoubt, shownNo}
 use Rattle.end.specs.declared.show.Shown.{Shown}
 use Rattle.end.specs.declared.show.Shown.the-variants.{Refuses, Known, Doubt}
 
@@ -13,7 +13,7 @@ known-not : (count : ℕ) → seenKnown count ≡ seenDoubt → ⊥
 known-not count h = omega (arith, ap (λ (s : Seen). s .mark) h)
 
 -- two of which the same is told are the same
-pub shown-same : (a b : Shown) → shownTold a ≡ shownTold b → a ≡ b
+pub shown-same : (a b : Shown) → shownNo a ≡ shownNo b → a ≡ b
 shown-same (Refuses x) (Refuses y) h = ap Refuses (refusal-same x y (refuses-same _ _ h))
 shown-same (Refuses x) (Known n) h = absurd (refuses-not _ (seenKnown n) h)
 shown-same (Refuses x) Doubt h = absurd (refuses-not _ seenDoubt h)

@@ -6,6 +6,7 @@ use mathlib.Core.List.{List, [], _∷_}
 use lib.ListN.{getD, set}
 use lib.Dec.{ltb, leb, eqb}
 use Rattle.laws.specs.Tests.{all, any}
+use Rattle.laws.specs.Mark.{known, doubt, markNo}
 use Rattle.profile.specs.Profile.{flag}
 use Rattle.profile.specs.declared.profile.Profile.{Profile}
 use Rattle.requests.specs.Request.{noRequest}
@@ -15,16 +16,9 @@ use Rattle.instances.specs.Run.{packed, runGood}
 use Rattle.instances.specs.declared.run.Run.{Run}
 use Rattle.end.specs.declared.end.End.{End}
 
--- "Each procedure is known or in doubt"
-abbrev pub knownMark : ℕ
-knownMark = 1
-
-abbrev pub doubtMark : ℕ
-doubtMark = 0
-
 -- the mark of a procedure
 unfoldable pub markAt : ℕ → List ℕ → ℕ
-markAt procedure marks = getD marks procedure doubtMark
+markAt procedure marks = getD marks procedure (markNo doubt)
 
 -- the marks, with that of one procedure put there
 unfoldable pub marked : ℕ → ℕ → List ℕ → List ℕ
@@ -36,9 +30,9 @@ freshEnd = record {
   used = 0;
   outstanding = 0;
   operation = 0;
-  before = doubtMark;
+  before = markNo doubt;
   request = noRequest;
-  marks = knownMark ∷ knownMark ∷ knownMark ∷ [];
+  marks = markNo known ∷ markNo known ∷ markNo known ∷ [];
   picture = packed [];
 }
 
@@ -48,7 +42,7 @@ closed mark picture e = record {
   used = e .used;
   outstanding = 0;
   operation = 0;
-  before = doubtMark;
+  before = markNo doubt;
   request = noRequest;
   marks = marked (e .request .procedure) mark (e .marks);
   picture = picture;

@@ -10,6 +10,7 @@ use lib.Dec.{ltb, eqb}
 use Rattle.laws.specs.Pick.{pick}
 use Rattle.laws.specs.Tests.{test, first}
 use Rattle.laws.specs.Over.{over}
+use Rattle.laws.specs.Mark.{doubt, markNo}
 use Rattle.refusals.specs.Refusal.{refusalNo, Told, refuses, tells, outputLeast}
 use Rattle.refusals.specs.Handling.{handlingTold}
 use Rattle.refusals.specs.declared.refusal.Refusal.{Refusal}
@@ -20,7 +21,7 @@ use Rattle.requests.specs.Request.{noForwarded, allNumbers, requestOf}
 use Rattle.requests.specs.Sent.{sendable, requestOctets}
 use Rattle.requests.specs.declared.request.Request.{Request}
 use Rattle.lists.specs.Entries.{instancesMost}
-use Rattle.end.specs.End.{doubtMark, markAt, marked, usedMost, endGood}
+use Rattle.end.specs.End.{markAt, marked, usedMost, endGood}
 use Rattle.end.specs.declared.end.End.{End}
 use Rattle.end.specs.declared.send.Sent.{Sent}
 
@@ -30,7 +31,7 @@ interrogationOf procedure = requestOf procedure 0 noForwarded allNumbers
 
 -- "Sending an activation or deactivation puts its procedure in doubt."
 unfoldable pub marksSent : ℕ → ℕ → List ℕ → List ℕ
-marksSent operation procedure marks = pick (eqb operation interrogation) marks (marked procedure doubtMark marks)
+marksSent operation procedure marks = pick (eqb operation interrogation) marks (marked procedure (markNo doubt) marks)
 
 -- the end after it has sent: the request is outstanding, with the next identifier and the mark from before
 unfoldable pub sent : ℕ → Request → End → End

@@ -7,6 +7,7 @@ use lib.ListN.{length, getD}
 use lib.Dec.{ltb, eqb}
 use Rattle.laws.specs.Pick.{pick}
 use Rattle.laws.specs.Tests.{all, test, first}
+use Rattle.laws.specs.Mark.{known, doubt, markNo}
 use Rattle.refusals.specs.Refusal.{refusalNo, Told, refuses, tells}
 use Rattle.refusals.specs.declared.refusal.Refusal.{Refusal}
 use Rattle.refusals.specs.declared.refusal.Refusal.the-variants.{BadProfile, BadTable, BadRequest}
@@ -17,7 +18,7 @@ use Rattle.lists.specs.Entry.{noEntry}
 use Rattle.lists.specs.Entries.{instancesMost}
 use Rattle.lists.specs.declared.entry.Entry.{Entry}
 use Rattle.instances.specs.Run.{instancesOf, listed, entryFor}
-use Rattle.end.specs.End.{knownMark, doubtMark, markAt, endGood}
+use Rattle.end.specs.End.{markAt, endGood}
 use Rattle.end.specs.Listed.{everyOf}
 use Rattle.end.specs.declared.end.End.{End}
 use Rattle.end.specs.declared.show.Shown.{Shown}
@@ -30,22 +31,22 @@ pub record Seen : Type 0 where
   pub values : List ℕ
 
 abbrev pub seenKnown : ℕ → Seen
-seenKnown count = record { mark = knownMark; values = count ∷ [] }
+seenKnown count = record { mark = markNo known; values = count ∷ [] }
 
 abbrev pub seenDoubt : Seen
-seenDoubt = record { mark = doubtMark; values = [] }
+seenDoubt = record { mark = markNo doubt; values = [] }
 
-abbrev pub shownTold : Shown → Told Seen
-shownTold (Refuses refusal) = refuses (refusalNo refusal)
-shownTold (Known count) = tells (seenKnown count)
-shownTold Doubt = tells seenDoubt
+abbrev pub shownNo : Shown → Told Seen
+shownNo (Refuses refusal) = refuses (refusalNo refusal)
+shownNo (Known count) = tells (seenKnown count)
+shownNo Doubt = tells seenDoubt
 
 -- the entries of a procedure in the picture, as an interrogation's result would have them
 abbrev pub entriesShown : Profile → End → ℕ → List Entry
 entriesShown p e procedure = map (entryFor (p .numbers)) (listed (everyOf procedure) (instancesOf (e .picture)))
 
 abbrev pub isKnown : End → ℕ → Bool
-isKnown e procedure = eqb (markAt procedure (e .marks)) knownMark
+isKnown e procedure = eqb (markAt procedure (e .marks)) (markNo known)
 
 abbrev pub tellsShown : Refusal → Told Seen
 tellsShown refusal = refuses (refusalNo refusal)
@@ -64,7 +65,7 @@ shown access e procedure =
 -- the entries that are handed out: of a procedure in doubt none
 abbrev pub handedOut : Told Seen → List Entry → List Entry
 handedOut (refuses number) es = []
-handedOut (tells seen) es = pick (eqb (seen .mark) knownMark) es []
+handedOut (tells seen) es = pick (eqb (seen .mark) (markNo known)) es []
 
 abbrev pub entriesOut : List ℕ → End → ℕ → List Entry
 entriesOut access e procedure =
@@ -72,10 +73,10 @@ entriesOut access e procedure =
 
 -- what `shown` promises
 abbrev pub Shows : List ℕ → End → ℕ → Shown → Type 0
-Shows access e procedure r = shownTold r ≡ shown access e procedure
+Shows access e procedure r = shownNo r ≡ shown access e procedure
 
 -- what `entry` promises: the same, whether there is such an entry, and the entry
 pub record ShowsEntry (access : List ℕ) (e : End) (procedure i : ℕ) (r : EntryShown) : Type 0 where
-  pub told : shownTold (r .shown) ≡ shown access e procedure
+  pub told : shownNo (r .shown) ≡ shown access e procedure
   pub present : r .present ≡ ltb i (length (entriesOut access e procedure))
   pub entry : r .entry ≡ getD (entriesOut access e procedure) i noEntry

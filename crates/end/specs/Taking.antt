@@ -10,6 +10,7 @@ use lib.Dec.{ltb, eqb}
 use Rattle.laws.specs.Pick.{pick}
 use Rattle.laws.specs.Got.{Got, got, wrong}
 use Rattle.laws.specs.Tests.{test, first}
+use Rattle.laws.specs.Mark.{known, doubt, markNo}
 use Rattle.refusals.specs.Refusal.{refusalNo, Told, refuses, tells, componentMost}
 use Rattle.refusals.specs.Handling.{handlingTold}
 use Rattle.refusals.specs.declared.refusal.Refusal.{Refusal}
@@ -24,14 +25,14 @@ use Rattle.answers.specs.declared.reply.Reply.{Reply}
 use Rattle.answers.specs.declared.reply.Reply.the-variants.{Dropped, Rejected, Failed, Done, Listed, Wrong}
 use Rattle.instances.specs.Run.{instancesOf, packed}
 use Rattle.rules.specs.Judge.{judge, applied}
-use Rattle.end.specs.End.{knownMark, doubtMark, closed, endGood}
+use Rattle.end.specs.End.{closed, endGood}
 use Rattle.end.specs.Listed.{instancesListed, listGood, replaced}
 use Rattle.end.specs.declared.end.End.{End}
 use Rattle.end.specs.declared.take.Moved.{Moved}
 
 -- "reject gives doubt", and so does whatever else is of the wrong shape or cannot be: the instances stay as they were
 abbrev pub doubted : End → End
-doubted e = closed doubtMark (e .picture) e
+doubted e = closed (markNo doubt) (e .picture) e
 
 -- "result of 7 or 8 applies the request by the rules above, and the mark from before (where those rules give an error on the picture: no
 -- change, and doubt)"
@@ -43,7 +44,7 @@ appliedBy p e (some error) = doubted e
 unfoldable pub learned : Profile → End → List Entry → End
 learned p e es =
     pick (listGood instancesMost p (e .request .procedure) (instancesListed p es))
-    (closed knownMark (packed (replaced (e .request .procedure) (instancesListed p es) (instancesOf (e .picture)))) e)
+    (closed (markNo known) (packed (replaced (e .request .procedure) (instancesListed p es) (instancesOf (e .picture)))) e)
     (doubted e)
 
 abbrev pub learnedBy : Profile → End → Got (List Entry) → End

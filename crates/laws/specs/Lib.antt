@@ -6,3 +6,4 @@ pub mod Over
 pub mod Places
 pub mod Stands
 pub mod Those
+pub mod Mark

@@ -11,6 +11,7 @@ use lib.ListN.{length}
 use lib.Dec.{eqb}
 use borrow.Author.Tests.{eqb-true, eqb-false}
 use Rattle.laws.specs.Pick.{pick}
+use Rattle.laws.specs.Mark.{Mark, known}
 use Rattle.laws.proofs.Picks.{by-bool}
 use Rattle.laws.proofs.Tests.{both-hold}
 use Rattle.refusals.specs.Refusal.{Told, refuses, tells}
@@ -35,7 +36,7 @@ use Rattle.end.proofs.Goods.{reached-good, reached-marks}
 use Rattle.end.proofs.Dropped.{late-dropped, idle-dropped}
 use Rattle.end.proofs.Closings.{Closed, takes-closes, gives-closes, list-known, Asks, sends-asks}
 use Rattle.demand.specs.Rules as rules
-use Rattle.demand.specs.Rules.{Mark, known, listed, idle, busy, Sent, Shed, Why, Hit, Miss, CustomerLaws}
+use Rattle.demand.specs.Rules.{listed, idle, busy, Sent, Shed, Why, Hit, Miss, CustomerLaws}
 use Rattle.promise.specs.Demand.{Asking, sized}
 use Rattle.promise.proofs.DemandLists.{heldOf}
 use Rattle.rules.proofs.Tidied.{Sized}

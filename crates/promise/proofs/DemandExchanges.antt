@@ -10,6 +10,7 @@ use lib.ListN.{length}
 use lib.Dec.{ltb, leb, eqb}
 use borrow.Author.Tests.{leb-true, leb-false, ne-eqb, eq-eqb, ltb-true, ltb-false, eqb-true, eqb-false}
 use Rattle.laws.specs.Those.{those}
+use Rattle.laws.specs.Mark.{doubt, markNo}
 use Rattle.laws.proofs.Picks.{by-bool}
 use Rattle.refusals.specs.Refusal.{tells, outputLeast, componentMost}
 use Rattle.codes.specs.Codes.{interrogation}
@@ -50,7 +51,6 @@ use Rattle.exchange.proofs.Askings.{asking-new}
 use Rattle.exchange.proofs.Steps.{after-moves, verdict, fails, lists, changes, handled-ind, step-says, step-asks}
 use Rattle.exchange.proofs.Arrivals.{done-short, done-answers}
 use Rattle.exchange.proofs.Nexts.{reply-fits, next-good, run-held, applied-holds}
-use Rattle.end.specs.End.{doubtMark}
 use Rattle.end.specs.declared.end.End.{End}
 use Rattle.demand.specs.Rules as rules
 use Rattle.demand.specs.Rules.{failed, rejected, Served, ExchangeLaws, answering}
@@ -142,7 +142,7 @@ module _ (access : List ℕ) (ok : accessRead access .ok ≡ true) (counted : ac
 
     -- an end that waits for the answer
     abbrev waits : End
-    waits = record { used = n; outstanding = 1; operation = op; before = doubtMark; request = r; marks = []; picture = packed [] }
+    waits = record { used = n; outstanding = 1; operation = op; before = markNo doubt; request = r; marks = []; picture = packed [] }
 
     abbrev Backs : Step → Type 0
     Backs y = SaysBack (pos n) op (answerOctets (y .answer) (y .entries)) (y .answer) (y .entries)

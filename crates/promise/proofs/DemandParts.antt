@@ -12,6 +12,7 @@ use lib.ListN.{length}
 use lib.Dec.{leb, eqb}
 use borrow.Author.Tests.{eq-eqb, ne-eqb, eqb-true, eqb-false}
 use Rattle.laws.specs.Pick.{pick}
+use Rattle.laws.specs.Mark.{Mark, known, doubt, markNo}
 use Rattle.laws.proofs.Picks.{by-bool}
 use Rattle.refusals.specs.Refusal.{Told, refuses, tells, outputLeast, componentMost}
 use Rattle.codes.specs.Codes.{interrogation}
@@ -35,13 +36,13 @@ use Rattle.exchange.specs.Table.{tableGood}
 use Rattle.exchange.specs.Step.{Step, step}
 use Rattle.exchange.specs.Arrive.{done}
 use Rattle.exchange.specs.declared.table.Table.{Table}
-use Rattle.end.specs.End.{knownMark, markAt}
+use Rattle.end.specs.End.{markAt}
 use Rattle.end.specs.Sending.{sends}
 use Rattle.end.specs.Taking.{takes, givesUp}
 use Rattle.end.specs.declared.end.End.{End}
 use Rattle.end.proofs.Goods.{Reached}
 use Rattle.demand.specs.Rules as rules
-use Rattle.demand.specs.Rules.{Mark, known, doubt, About, Body, listed, failed, rejected, garbled, Waiting, idle, busy, Topic, Exchange, Customer}
+use Rattle.demand.specs.Rules.{About, Body, listed, failed, rejected, garbled, Waiting, idle, busy, Topic, Exchange, Customer}
 use Rattle.demand.specs.Codec.{Wire}
 use Rattle.promise.specs.AnswerBack.{SaysBack}
 use Rattle.promise.specs.Demand.{Asking, sized, sentUp, sentDown, WholeAllowed}
@@ -110,7 +111,7 @@ pub record Proper (n : ℕ) (a : Asking) (b : Said) : Type 0 where
 -- ---- the end
 
 abbrev pub markOf : ℕ → Mark
-markOf mark = pick (eqb mark knownMark) known doubt
+markOf mark = pick (eqb mark (markNo known)) known doubt
 
 unfoldable pub waitingOf : End → Waiting Asking
 waitingOf e = pick (eqb (e .outstanding) 1) (busy (e .used) (asking (e .operation) (e .request)) (markOf (e .before))) idle
@@ -197,13 +198,13 @@ pub clash : {A : Type 0} {x y : A} → (x ≡ y → _≡_ {A = ℕ} 0 1) → ¬ 
 clash f q = let z = f q in omega arith
 
 -- a mark that says known
-pub mark-known : (mark : ℕ) → markOf mark ≡ known → mark ≡ knownMark
+pub mark-known : (mark : ℕ) → markOf mark ≡ known → mark ≡ markNo known
 mark-known mark h =
-    by-bool (mark ≡ knownMark) (eqb mark knownMark) (λ e. eqb-true mark knownMark e)
+    by-bool (mark ≡ markNo known) (eqb mark (markNo known)) (λ e. eqb-true mark (markNo known) e)
     (λ e. absurd (clash {x = doubt} {y = known} (λ z. cc) (sym (rw e) ∙ h)))
 
-pub known-mark : (mark : ℕ) → mark ≡ knownMark → markOf mark ≡ known
-known-mark mark h = rw (eq-eqb mark knownMark h)
+pub known-mark : (mark : ℕ) → mark ≡ markNo known → markOf mark ≡ known
+known-mark mark h = rw (eq-eqb mark (markNo known) h)
 
 module _ (a : Asking) where
   pub about-asks : a .operation ≡ interrogation → aboutOf a ≡ rules.asks (a .request .procedure)

@@ -10,6 +10,7 @@ use lib.IntN.{ℤ, pos}
 use lib.ListN.{length}
 use borrow.Author.Tests.{ne-eqb}
 use Rattle.laws.specs.Got.{Got, got, wrong}
+use Rattle.laws.specs.Mark.{known, markNo}
 use Rattle.laws.proofs.Eaches.{Up}
 use Rattle.octets.specs.Part.{Part, partAt}
 use Rattle.values.specs.Ident.{signedAt}
@@ -32,7 +33,7 @@ use Rattle.answers.specs.Reply.{reply}
 use Rattle.answers.specs.declared.reply.Reply.{Reply}
 use Rattle.answers.specs.declared.reply.Reply.the-variants.{Dropped, Rejected, Failed, Done, Listed, Wrong}
 use Rattle.answers.proofs.Dropped.{no-element, no-identifier, other-identifier}
-use Rattle.end.specs.End.{knownMark, markAt, endGood}
+use Rattle.end.specs.End.{markAt, endGood}
 use Rattle.end.specs.Listed.{instancesListed, listGood, replaced}
 use Rattle.end.specs.Taking.{takes}
 use Rattle.end.specs.declared.end.End.{End}
@@ -44,7 +45,7 @@ use Rattle.end.proofs.Others.{changed-held, replaced-held, takes-others}
 use Rattle.end.proofs.Goods.{reached-good}
 use Rattle.end.proofs.Closings.{reply-closes}
 use Rattle.demand.specs.Rules as rules
-use Rattle.demand.specs.Rules.{known, listed, failed, rejected, garbled, idle, busy, Why}
+use Rattle.demand.specs.Rules.{listed, failed, rejected, garbled, idle, busy, Why}
 use Rattle.promise.specs.AnswerBack.{SaysBack}
 use Rattle.promise.specs.Demand.{Asking}
 use Rattle.promise.proofs.DemandLists.{heldOf}
@@ -176,7 +177,7 @@ module _ (access : List ℕ) (ok : accessRead access .ok ≡ true) where
       abbrev WhyOf : ℕ → Type 0
       WhyOf o = Why (topic access) (customer access) e (e .used) b now o
 
-      before-known : e .before ≡ knownMark → waitingOf e ≡ busy (e .used) asked known
+      before-known : e .before ≡ markNo known → waitingOf e ≡ busy (e .used) asked known
       before-known h = waits-busy e waits ∙ ap (busy (e .used) asked) (known-mark (e .before) h)
 
       same-pic : (o : ℕ) → now .picture ≡ e .picture → heldOf o (instancesOf (now .picture)) ≡ heldOf o held

@@ -37,7 +37,7 @@ use Rattle.end.proofs.Marks.{good-rules, sent-three}
 use Rattle.end.proofs.Shows.{known-by, shown-known}
 use Rattle.end.proofs.Closings.{sends-asks}
 use Rattle.demand.specs.Machine.{World, handles, hears, after, Trace, more}
-use Rattle.demand.specs.Rules.{known, Fresh}
+use Rattle.demand.specs.Rules.{Fresh}
 use Rattle.demand.specs.Codec.{Wired, written}
 use Rattle.demand.proofs.Octets as O
 use Rattle.demand.proofs.Octets.{joined}

@@ -9,6 +9,7 @@ use lib.ListN.{length, getD}
 use lib.Dec.{ltb}
 use borrow.Author.Tests.{ltb-true, ltb-false, le-leb}
 use Rattle.laws.specs.Over.{over}
+use Rattle.laws.specs.Mark.{known, markNo}
 use Rattle.laws.proofs.Over.{over-eq}
 use Rattle.laws.proofs.Picks.{both, by-bool}
 use Rattle.refusals.specs.Refusal.{outputLeast, componentMost, tells}
@@ -24,7 +25,6 @@ use Rattle.exchange.specs.declared.table.Table.{Table}
 use Rattle.exchange.specs.declared.arrive.Arrived.{Arrived}
 use Rattle.exchange.proofs.Arrivals.{done-long, done-profile, done-table, done-answers}
 use Rattle.calls.specs.declared.diverting.Onward.{Onward}
-use Rattle.end.specs.End.{knownMark}
 use Rattle.end.specs.Sending.{sends}
 use Rattle.end.specs.Taking.{Moves, took, takes, MovesBy}
 use Rattle.end.specs.Shown.{shown, entriesShown, seenKnown}
@@ -224,7 +224,7 @@ module _ (x : Taker) (keeps : Keeps x) where
   second-heard : secondHeard (pretends x) .end ≡ endAt 2 activatedInstances
   second-heard =
       at-second (λ e s. pretends x sampleAccess e s .end)
-      ∙ ap (allMarked knownMark)
+      ∙ ap (allMarked (markNo known))
       (keeps sampleAccess activatingEnd (resultFor activatingEnd) .end
       ∙ ap (λ (s : List ℕ). takes sampleAccess activatingEnd s .end) (row 15 .0)
       ∙ row 44 .0)

@@ -8,6 +8,7 @@ use lib.IntN.{ℤ, pos, negsuc}
 use lib.ListN.{length, replicate}
 use Rattle.laws.specs.Got.{got}
 use Rattle.laws.specs.Places.{gathered}
+use Rattle.laws.specs.Mark.{known, doubt, markNo}
 use Rattle.refusals.specs.Refusal.{Told, refuses, tells, outputLeast}
 use Rattle.values.specs.Ident.{identAt, identOctets}
 use Rattle.groups.specs.Groups.{groupsAt, groups}
@@ -48,7 +49,7 @@ use Rattle.answers.specs.declared.answer.Whose.the-variants as whose
 use Rattle.requests.specs.declared.heard.Heard.{Heard}
 use Rattle.requests.specs.declared.heard.Heard.the-variants as heard
 use Rattle.requests.specs.declared.request.Request.{Request}
-use Rattle.end.specs.End.{knownMark, doubtMark, freshEnd}
+use Rattle.end.specs.End.{freshEnd}
 use Rattle.end.specs.Sending as sending
 use Rattle.end.specs.Taking.{takes}
 use Rattle.end.specs.Shown.{Seen, seenKnown, shown}
@@ -209,9 +210,9 @@ endAt used is = record {
   used = used;
   outstanding = 0;
   operation = 0;
-  before = doubtMark;
+  before = markNo doubt;
   request = noRequest;
-  marks = knownMark ∷ knownMark ∷ knownMark ∷ [];
+  marks = markNo known ∷ markNo known ∷ markNo known ∷ [];
   picture = packed is;
 }
 
@@ -220,17 +221,17 @@ waitingAt used operation r mark = record {
   used = used;
   outstanding = 1;
   operation = operation;
-  before = knownMark;
+  before = markNo known;
   request = r;
-  marks = knownMark ∷ mark ∷ knownMark ∷ [];
+  marks = markNo known ∷ mark ∷ markNo known ∷ [];
   picture = packed [];
 }
 
 abbrev pub interrogatingEnd : End
-interrogatingEnd = waitingAt 1 interrogation interrogationOfCfb knownMark
+interrogatingEnd = waitingAt 1 interrogation interrogationOfCfb (markNo known)
 
 abbrev pub activatingEnd : End
-activatingEnd = waitingAt 2 activation activationOfCfb doubtMark
+activatingEnd = waitingAt 2 activation activationOfCfb (markNo doubt)
 
 abbrev pub samples : List Sample
 samples =

@@ -8,6 +8,7 @@ use lib.IntN.{pos}
 use lib.Dec.{leb}
 use Rattle.laws.specs.Pick.{pick}
 use Rattle.laws.specs.Over.{over}
+use Rattle.laws.specs.Mark.{known, doubt, markNo}
 use Rattle.refusals.specs.Refusal.{outputLeast, tells}
 use Rattle.refusals.specs.declared.refusal.Refusal.{Refusal}
 use Rattle.refusals.specs.declared.handling.Handling.the-variants as handling
@@ -22,7 +23,7 @@ use Rattle.exchange.specs.declared.arrive.Arriving.the-variants as arriving
 use Rattle.exchange.specs.declared.arrive.Arrived.{Arrived}
 use Rattle.calls.specs.Divert.{DivertsTo}
 use Rattle.calls.specs.declared.diverting.Diversion.{Diversion}
-use Rattle.end.specs.End.{knownMark, doubtMark, freshEnd}
+use Rattle.end.specs.End.{freshEnd}
 use Rattle.end.specs.Sending.{Sends, sends}
 use Rattle.end.specs.Taking.{Takes}
 use Rattle.end.specs.Shown.{seenKnown, entriesShown, shown}
@@ -126,7 +127,7 @@ allMarked mark e = record {
 
 -- "doubts everything": whatever arrives, every procedure is in doubt
 abbrev pub doubtsAll : Taker → Taker
-doubtsAll x access e s = record { end = allMarked doubtMark (x access e s .end); outcome = x access e s .outcome }
+doubtsAll x access e s = record { end = allMarked (markNo doubt) (x access e s .end); outcome = x access e s .outcome }
 
 -- demand 3's second sentence of an end that hears by `x`: "a whole interrogation that is handled, whose result is the first matching reply
 -- to come, makes its procedure known". It is `FirstReply`, but that the last step of the run is taken by `x`.
@@ -147,7 +148,7 @@ resultFor e = answerOctets (answer.Result (pos (e .used))) []
 abbrev pub pretends : Taker → Taker
 pretends x access e s =
     pick (leb (e .used) 1) (x access e s)
-    (record { end = allMarked knownMark (x access e (resultFor e) .end); outcome = handling.Done })
+    (record { end = allMarked (markNo known) (x access e (resultFor e) .end); outcome = handling.Done })
 
 -- ---- two requests over a path that loses and repeats, with an end that hears by `x`
 

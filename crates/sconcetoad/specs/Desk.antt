@@ -5,11 +5,11 @@ use mathlib.Core.List.{List, [], _∷_}
 use lib.ListN.{length, getD}
 use lib.Dec.{ltb}
 use Rattle.laws.specs.Over.{over}
+use Rattle.laws.specs.Mark.{doubt, markNo}
 use Rattle.refusals.specs.Refusal.{Told, refuses, tells, refusalIn}
 use Rattle.codes.specs.Codes.{activation, deactivation, interrogation}
 use Rattle.requests.specs.declared.request.Request.{Request}
 use Rattle.lists.specs.Entry.{noEntry}
-use Rattle.end.specs.End.{doubtMark}
 use Rattle.end.specs.Sending.{interrogationOf, Sends, sends}
 use Rattle.end.specs.Taking.{Moves, takes, givesUp}
 use Rattle.end.specs.Shown.{Seen, shown, entriesOut}
@@ -53,7 +53,7 @@ GivenUpBy access e r = MovedTo (givesUp access e) r
 
 -- the refusal, the mark, and the count of a procedure that is known
 abbrev pub pageOf : Told Seen → Page
-pageOf (refuses number) = record { refusal = number; mark = doubtMark; count = noCount }
+pageOf (refuses number) = record { refusal = number; mark = markNo doubt; count = noCount }
 pageOf (tells seen) = record { refusal = 0; mark = seen .mark; count = getD (seen .values) 0 noCount }
 
 -- what `sconcetoad_shown` promises

@@ -11,7 +11,7 @@ ghost use mathlib.Core.Path.{_≡_};
 ghost use Rattle.refusals.specs.Refusal.{refusalIn};
 ghost use Rattle.refusals.specs.Handling.{handlingTold};
 ghost use Rattle.end.specs.End.{FreshEnd};
-ghost use Rattle.end.specs.Shown.{shownTold};
+ghost use Rattle.end.specs.Shown.{shownNo};
 ghost use Rattle.sconcetoad.specs.Desk.{pageOf, ActivatedBy, DeactivatedBy, InterrogatedBy, TakenBy, GivenUpBy, PageBy, PageEntryBy};
 
 // A mark, and what stands for the count of a procedure that is not known.
@@ -152,7 +152,7 @@ pub extern "C" fn sconcetoad_give_up(end: End, access: &[u8]) -> Moving
 }
 
 fn page_of(shown: Shown) -> Page
-    ensures { λ r. ⌜ r ≡ pageOf (shownTold shown) ⌝ }
+    ensures { λ r. ⌜ r ≡ pageOf (shownNo shown) ⌝ }
 {
     match shown {
         Shown::Refuses { refusal } => Page {

@@ -1,6 +1,6 @@
 use Rattle.end.specs.declared.show.Shown.{Shown}
 use Rattle.sconcetoad.specs.Desk.{pageOf}
-use Rattle.end.specs.Shown.{shownTold}
+use Rattle.end.specs.Shown.{shownNo}
 use mathlib.Core.Path.{sym, ap}
 use borrow.Author.Needs.{needs}
 use Rattle.sconcetoad.proofs.desk.page_of.Statement.{statement}
@@ -27,15 +27,15 @@ enum-told c = search needs
 
 -- src/desk.rt:159:1
 returns : tie.Need-returns
-returns c = rw (c .refusal-no .ensures) (ap (λ (s : Shown). pageOf (shownTold s)) (sym (c .before .before .shown .given .1)))
+returns c = rw (c .refusal-no .ensures) (ap (λ (s : Shown). pageOf (shownNo s)) (sym (c .before .before .shown .given .1)))
 
 -- src/desk.rt:159:1
 returns-2 : tie.Need-returns-2
-returns-2 c = ap (λ (s : Shown). pageOf (shownTold s)) (sym (c .before .shown2 .given .1))
+returns-2 c = ap (λ (s : Shown). pageOf (shownNo s)) (sym (c .before .shown2 .given .1))
 
 -- src/desk.rt:159:1
 returns-3 : tie.Need-returns-3
-returns-3 c = ap (λ (s : Shown). pageOf (shownTold s)) (sym (c .enum-told .given .1))
+returns-3 c = ap (λ (s : Shown). pageOf (shownNo s)) (sym (c .enum-told .given .1))
 
 pub page-of-spec : {M : Type 1} → statement M
 page-of-spec =
