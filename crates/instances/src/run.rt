@@ -274,12 +274,12 @@ impl Run {
         let mut i: usize = 0;
         while i < ROOM {
             if i < n {
-                let x = next.run[i];
-                if is_chosen(sel, x) {
+                let older = next.run[i];
+                if is_chosen(sel, older) {
                     next.run[i] = Instance {
-                        procedure: x.procedure,
-                        number: x.number,
-                        service: x.service,
+                        procedure: older.procedure,
+                        number: older.number,
+                        service: older.service,
                         address,
                     };
                 }

@@ -28,11 +28,11 @@ stored-requires c κs = search needs
 loop-holds : tie.Need-loop-holds Inv-loop μ-loop
 loop-holds c = (omega arith, c .stored .ensures, search (unmapped, needs), c .before .blank-instance .ensures, refl)
 
-mul-x : tie.Need-mul-x Inv-loop μ-loop
-mul-x c = search needs
+mul-older : tie.Need-mul-older Inv-loop μ-loop
+mul-older c = search needs
 
-element-copy-out-x : tie.Need-element-copy-out-x Inv-loop μ-loop
-element-copy-out-x c = search needs
+element-copy-out-older : tie.Need-element-copy-out-older Inv-loop μ-loop
+element-copy-out-older c = search needs
 
 is-chosen-requires : tie.Need-is-chosen-requires Inv-loop μ-loop
 is-chosen-requires c κs = search needs
@@ -90,8 +90,8 @@ renew-spec =
     blank-instance-requires
     stored-requires
     loop-holds
-    mul-x
-    element-copy-out-x
+    mul-older
+    element-copy-out-older
     is-chosen-requires
     mul-t16
     element-set-from-next
