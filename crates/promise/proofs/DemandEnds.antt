@@ -33,7 +33,7 @@ use Rattle.end.proofs.Marks.{sends-known, sends-doubt, gives-known}
 use Rattle.end.proofs.Others.{gives-picture, sends-picture}
 use Rattle.end.proofs.Goods as goods
 use Rattle.end.proofs.Goods.{reached-good, reached-marks}
-use Rattle.end.proofs.Dropped.{late-dropped, idle-dropped}
+use Rattle.end.proofs.Dropped.{dropped-stays, idle-dropped}
 use Rattle.end.proofs.Closings.{Closed, takes-closes, gives-closes, list-known, Asks, sends-asks}
 use Rattle.demand.specs.Rules as rules
 use Rattle.demand.specs.Rules.{listed, idle, busy, Sent, Shed, Why, Hit, Miss, CustomerLaws}
@@ -113,7 +113,7 @@ module _ (access : List ℕ) (ok : accessRead access .ok ≡ true) where
       let other : pos n ≡ pos (e .used) → ⊥ =
       λ same. miss .other (asking (e .operation) (e .request)) (markOf (e .before))
       (waits-busy e waits ∙ ap (λ k. busy k (asking (e .operation) (e .request)) (markOf (e .before))) (sym (pos-same same))) in
-      late-dropped access e (saidOctets n b)
+      dropped-stays access e (saidOctets n b)
       (one-identifier (pos n) (pos (e .used)) (a .operation) (e .operation) (saidOctets n b) other
       (not-dropped n (a .operation) (saidOctets n b) b (miss .proper .back))))
       (λ t. idle-dropped access e (saidOctets n b) (eqb-false (e .outstanding) 1 t))
