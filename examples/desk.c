@@ -169,8 +169,6 @@ static int show_procedure(const struct desk *desk, uint8_t procedure)
     printf("%s known, %zu forwarded\n", procedures[procedure], page.count);
     for (size_t place = 0; place < page.count; place++) {
         struct sconcetoad_page_entry shown = sconcetoad_entry(desk->end, desk->access, sizeof desk->access, procedure, place);
-        if (!shown.present)
-            return 0;
         show_entry(&shown.entry);
     }
     return 1;

@@ -363,7 +363,7 @@ enum {
 struct sconcetoad_octets sconcetoad_write_sheet(struct sconcetoad_table table, const uint8_t *access, size_t access_length,
                                                 uint8_t *out, size_t out_length);
 
-/* The table that was read. Look at `refusal` first: where the sheet is refused the table is that of a new access, and says nothing. */
+/* The table that was read. Look at `refusal` first: where the sheet is refused the table is that of a new access and must not be used. */
 struct sconcetoad_sheet_taken {
     uint8_t refusal;
     struct sconcetoad_table table;
@@ -456,10 +456,10 @@ struct sconcetoad_page {
 /* The refusals are SCONCETOAD_BAD_PROFILE, SCONCETOAD_BAD_TABLE and SCONCETOAD_BAD_REQUEST. Alters nothing. */
 struct sconcetoad_page sconcetoad_shown(struct sconcetoad_end end, const uint8_t *access, size_t access_length, uint8_t procedure);
 
-/* `present` is 1 where there is such an entry, and then `entry` is it; else `entry` is all zeros and says nothing. */
+/* Look at `page` first, as sconcetoad_shown has it: `entry` is an entry where the procedure is known and the place is below its count. Else it
+   is all zeros and must not be used; there is no flag for it, since where nothing is known there is no list that could be at its end. */
 struct sconcetoad_page_entry {
     struct sconcetoad_page page;
-    uint8_t present;
     struct sconcetoad_entry entry;
 };
 

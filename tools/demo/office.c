@@ -123,7 +123,7 @@ struct sconcetoad_page desk_page(uint8_t procedure)
 struct sconcetoad_entry desk_entry(uint8_t procedure, size_t place)
 {
     struct sconcetoad_page_entry out = sconcetoad_entry(end, access_record, sizeof access_record, procedure, place);
-    must(out.present, "an entry of the page is missing");
+    must(out.page.mark == SCONCETOAD_KNOWN && place < out.page.count, "an entry of the page is missing");
     return out.entry;
 }
 

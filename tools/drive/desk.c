@@ -116,6 +116,18 @@ static int page_wrong(const struct sconcetoad_page *page)
     return page->mark != SCONCETOAD_KNOWN || page->count > SCONCETOAD_ENTRIES;
 }
 
+static int same_page(const struct sconcetoad_page *a, const struct sconcetoad_page *b)
+{
+    return a->refusal == b->refusal && a->mark == b->mark && a->count == b->count;
+}
+
+/* An entry that is none is handed out as zeros, beside the same page. */
+static int none_handed_out(const struct sconcetoad_page_entry *out, const struct sconcetoad_page *page)
+{
+    static struct sconcetoad_entry none;
+    return same_page(&out->page, page) && memcmp(&out->entry, &none, sizeof none) == 0;
+}
+
 static int shown(const char *text, struct lent *access_record)
 {
     static char line[LINE_MOST];
@@ -135,12 +147,14 @@ static int shown(const char *text, struct lent *access_record)
         struct sconcetoad_page_entry out =
             sconcetoad_entry(end, lent_octets(access_record), access_record->size, (uint8_t)procedure, place);
         kept = came_back(access_record, 0) && kept;
-        if (!out.present || out.page.count != page.count)
-            return wrong("an entry is missing");
+        if (!same_page(&out.page, &page))
+            return wrong("an entry has another page");
         *at++ = ' ';
         at = octets_to(at, octets, (size_t)(entry_to(octets, &out.entry) - octets));
     }
-    if (sconcetoad_entry(end, lent_octets(access_record), access_record->size, (uint8_t)procedure, known ? page.count : 0).present)
+    struct sconcetoad_page_entry past =
+        sconcetoad_entry(end, lent_octets(access_record), access_record->size, (uint8_t)procedure, known ? page.count : 0);
+    if (!none_handed_out(&past, &page))
         return wrong("an entry that is none is handed out");
     at += sprintf(at, kept ? " kept" : " spilled");
     end_line(line, at);

@@ -165,8 +165,7 @@ FIELD(page, count, 8, 8);
 
 RECORD(page_entry, 88);
 FIELD(page_entry, page, 0, 16);
-FIELD(page_entry, present, 16, 1);
-FIELD(page_entry, entry, 17, 69);
+FIELD(page_entry, entry, 16, 69);
 
 RECORD(onward, 95);
 FIELD(onward, counter, 0, 1);

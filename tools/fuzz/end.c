@@ -127,6 +127,7 @@ static void check_page(const struct sconcetoad_page *page)
 
 static void try_shown(void)
 {
+    static const struct sconcetoad_entry none;
     size_t place = below(10);
     at_hand("shown");
     world.request.procedure = (uint8_t)(one_in(12) ? below(256) : below(3));
@@ -140,7 +141,9 @@ static void try_shown(void)
     check_page(&page);
     reached(SHOWN, page.refusal == SCONCETOAD_ANSWERED && page.mark == SCONCETOAD_DOUBT ? DOUBTED : page.refusal);
     int there = page.refusal == SCONCETOAD_ANSWERED && page.mark == SCONCETOAD_KNOWN && place < page.count;
-    must(entry.present == there, "an entry where there is none, or none where there is one");
+    must(entry.page.refusal == page.refusal && entry.page.mark == page.mark && entry.page.count == page.count, "an entry has another page");
+    must(there || memcmp(&entry.entry, &none, sizeof none) == 0, "an entry where there is none");
+    must(!there || entry.entry.service != 0, "no entry where there is one");
     reached(ENTRY, there ? YES : NO);
 }
 

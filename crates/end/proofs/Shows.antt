@@ -118,10 +118,9 @@ get-any (x ∷ xs) (suc i) a b h = get-any xs i a b (omega (arith, h))
 pub entry-none :
     (access : List ℕ) (e : End) (procedure i : ℕ) (told : Shown) → shownNo told ≡ shown access e procedure →
     length (entriesOut access e procedure) ≤ i →
-    ShowsEntry access e procedure i (record { shown = told; present = false; entry = noEntry })
+    ShowsEntry access e procedure i (record { shown = told; entry = noEntry })
 entry-none access e procedure i told is past = record {
   told = is;
-  present = sym (le-ltb i (length (entriesOut access e procedure)) past);
   entry = sym (List·getD-eq-default (entriesOut access e procedure) noEntry past);
 }
 
@@ -160,14 +159,13 @@ module _ (access : List ℕ) (e : End) (procedure count : ℕ) (is : tells (seen
   module _ (i : ℕ) (there : i < count) (list : Entries) (d : Entry) where
     pub entry-there :
         list ≡ entriesOf (take instancesMost (entriesShown (accessRead access .profile) e procedure)) →
-        ShowsEntry access e procedure i (record { shown = Known count; present = true; entry = getD (list .entries) i d })
+        ShowsEntry access e procedure i (record { shown = Known count; entry = getD (list .entries) i d })
     entry-there made =
         let es = entriesShown (accessRead access .profile) e procedure in
         let few : length es ≤ instancesMost = omega (arith, count-most, facts .entries) in
         let below : i < length es = omega (arith, there, facts .entries) in
         record {
           told = is;
-          present = sym (lt-ltb i (length (entriesOut access e procedure)) (omega (arith, there, out-count)));
           entry =
               rw (made, take-all instancesMost es few, all-out)
               (List·getD-append es (replicate (instancesMost - length es) noEntry) d i below ∙ get-any es i d noEntry below);

@@ -4,7 +4,7 @@ use mathlib.Core.Path.{_≡_}
 use mathlib.Core.Bool.{Bool, not}
 use mathlib.Core.List.{List, [], _∷_, map}
 use lib.ListN.{length, getD}
-use lib.Dec.{ltb, eqb}
+use lib.Dec.{eqb}
 use Rattle.laws.specs.Pick.{pick}
 use Rattle.laws.specs.Tests.{all, test, first}
 use Rattle.laws.specs.Mark.{known, doubt, markNo}
@@ -75,8 +75,7 @@ entriesOut access e procedure =
 abbrev pub Shows : List ℕ → End → ℕ → Shown → Type 0
 Shows access e procedure r = shownNo r ≡ shown access e procedure
 
--- what `entry` promises: the same, whether there is such an entry, and the entry
+-- what `entry` promises: the same, and the entry
 pub record ShowsEntry (access : List ℕ) (e : End) (procedure i : ℕ) (r : EntryShown) : Type 0 where
   pub told : shownNo (r .shown) ≡ shown access e procedure
-  pub present : r .present ≡ ltb i (length (entriesOut access e procedure))
   pub entry : r .entry ≡ getD (entriesOut access e procedure) i noEntry

@@ -18,10 +18,10 @@ pub enum Shown {
     Doubt,
 }
 
-// The same; whether there is such an entry; and the entry.
+// The same, and the entry: a blank one past the count, and where there is none. There is no flag beside it that a page could take for the
+// end of a list, since of a procedure in doubt there is no list.
 pub struct EntryShown {
     pub shown: Shown,
-    pub present: bool,
     pub entry: Entry,
 }
 
@@ -70,7 +70,6 @@ impl End {
                 if count <= i {
                     return EntryShown {
                         shown: Shown::Known { count },
-                        present: false,
                         entry: blank,
                     };
                 }
@@ -82,18 +81,15 @@ impl End {
                 let entry = list.entries[i];
                 EntryShown {
                     shown: Shown::Known { count },
-                    present: true,
                     entry,
                 }
             }
             Shown::Refuses { refusal } => EntryShown {
                 shown: Shown::Refuses { refusal },
-                present: false,
                 entry: blank,
             },
             Shown::Doubt => EntryShown {
                 shown: Shown::Doubt,
-                present: false,
                 entry: blank,
             },
         }

@@ -81,14 +81,13 @@ pub only-shown :
     r ≡ q
 only-shown access e procedure {r} {q} a b = shown-same r q (both a b)
 
-abbrev entryShownOf : Shown → Bool → Entry → EntryShown
-entryShownOf shown present entry = record { shown = shown; present = present; entry = entry }
+abbrev entryShownOf : Shown → Entry → EntryShown
+entryShownOf shown entry = record { shown = shown; entry = entry }
 
 pub only-entry :
     (access : List ℕ) (e : End) (procedure i : ℕ) {r q : EntryShown} → ShowsEntry access e procedure i r →
     ShowsEntry access e procedure i q →
     r ≡ q
 only-entry access e procedure i {r} {q} a b =
-    ap (λ (s : Shown). entryShownOf s (r .present) (r .entry)) (shown-same (r .shown) (q .shown) (both (a .told) (b .told)))
-    ∙ ap (λ (t : Bool). entryShownOf (q .shown) t (r .entry)) (both (a .present) (b .present))
-    ∙ ap (entryShownOf (q .shown) (q .present)) (both (a .entry) (b .entry))
+    ap (λ (s : Shown). entryShownOf s (r .entry)) (shown-same (r .shown) (q .shown) (both (a .told) (b .told)))
+    ∙ ap (entryShownOf (q .shown)) (both (a .entry) (b .entry))

@@ -1,7 +1,6 @@
 -- Each promise of the customer end at the border admits one answer, and one lent output afterwards. Assumes nothing.
 use Prim.Native.Nat.{ℕ}
 use mathlib.Core.Path.{_≡_, ap, _∙_}
-use mathlib.Core.Bool.{Bool}
 use mathlib.Core.List.{List}
 use Rattle.laws.proofs.Picks.{both}
 use Rattle.requests.specs.declared.request.Request.{Request}
@@ -74,14 +73,13 @@ pub only-sconcetoad-shown :
     r ≡ q
 only-sconcetoad-shown access e procedure = both
 
-abbrev pageEntryOf : Page → Bool → Entry → PageEntry
-pageEntryOf page present entry = record { page = page; present = present; entry = entry }
+abbrev pageEntryOf : Page → Entry → PageEntry
+pageEntryOf page entry = record { page = page; entry = entry }
 
 pub only-sconcetoad-entry :
     (access : List ℕ) (e : End) (procedure i : ℕ) {r q : PageEntry} → PageEntryBy access e procedure i r →
     PageEntryBy access e procedure i q →
     r ≡ q
 only-sconcetoad-entry access e procedure i {r} {q} a b =
-    ap (λ (p : Page). pageEntryOf p (r .present) (r .entry)) (both (a .page) (b .page))
-    ∙ ap (λ (t : Bool). pageEntryOf (q .page) t (r .entry)) (both (a .present) (b .present))
-    ∙ ap (pageEntryOf (q .page) (q .present)) (both (a .entry) (b .entry))
+    ap (λ (p : Page). pageEntryOf p (r .entry)) (both (a .page) (b .page))
+    ∙ ap (pageEntryOf (q .page)) (both (a .entry) (b .entry))

@@ -3,7 +3,6 @@ use Prim.Native.Nat.{ℕ}
 use mathlib.Core.Path.{_≡_}
 use mathlib.Core.List.{List, [], _∷_}
 use lib.ListN.{length, getD}
-use lib.Dec.{ltb}
 use Rattle.laws.specs.Over.{over}
 use Rattle.laws.specs.Mark.{doubt, markNo}
 use Rattle.refusals.specs.Refusal.{Told, refuses, tells, refusalIn}
@@ -60,8 +59,7 @@ pageOf (tells seen) = record { refusal = 0; mark = seen .mark; count = getD (see
 abbrev pub PageBy : List ℕ → End → ℕ → Page → Type 0
 PageBy access e procedure r = r ≡ pageOf (shown access e procedure)
 
--- what `sconcetoad_entry` promises: the same, whether there is such an entry, and the entry
+-- what `sconcetoad_entry` promises: the same, and the entry
 pub record PageEntryBy (access : List ℕ) (e : End) (procedure i : ℕ) (r : PageEntry) : Type 0 where
   pub page : r .page ≡ pageOf (shown access e procedure)
-  pub present : r .present ≡ ltb i (length (entriesOut access e procedure))
   pub entry : r .entry ≡ getD (entriesOut access e procedure) i noEntry

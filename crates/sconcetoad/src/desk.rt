@@ -44,11 +44,10 @@ pub struct Page {
     pub count: usize,
 }
 
-// A page, whether there is such an entry, and the entry.
+// A page, and the entry.
 #[repr(C)]
 pub struct PageEntry {
     pub page: Page,
-    pub present: bool,
     pub entry: Entry,
 }
 
@@ -192,7 +191,6 @@ pub extern "C" fn sconcetoad_entry(end: End, access: &[u8], procedure: u8, i: us
     let entry = out.entry;
     PageEntry {
         page: page_of(shown),
-        present: out.present,
         entry,
     }
 }
