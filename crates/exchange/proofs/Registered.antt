@@ -1,17 +1,14 @@
 -- What a request does to the registrations, at the octets and for every procedure, number and service (document 01, "Replies, in the
--- order checked"): an activation is all or nothing, a deactivation fails exactly if there is nothing to remove, an interrogation lists
--- exactly what is active. Assumes nothing.
+-- order checked"): an activation is all or nothing; a deactivation gives error 46 exactly if no error comes first and there is nothing
+-- to remove; an interrogation lists exactly what is active, or gives the first error. Assumes nothing.
 use Prim.Native.Nat.{ℕ}
 use mathlib.Core.Path.{_≡_, refl, sym, ap, _∙_}
 use mathlib.Core.List.{List, [], _∷_, map}
 use mathlib.Core.Option.{Option, none, some}
 use native.Mathlib.Omega.{arith}
-use lib.IntN.{ℤ}
+use lib.IntN.{ℤ, pos}
 use lib.ListN.{length}
-use lib.Dec.{eqb}
-use borrow.Author.Tests.{eqb-true}
 use Rattle.laws.specs.Pick.{pick}
-use Rattle.laws.proofs.Picks.{by-bool}
 use Rattle.laws.proofs.Eaches.{Up, up-those}
 use Rattle.refusals.specs.Refusal.{tells}
 use Rattle.codes.specs.Codes.{activation, deactivation, interrogation}
@@ -27,18 +24,19 @@ use Rattle.instances.specs.declared.instance.Selection.{Selection}
 use Rattle.instances.proofs.Finds.{names, hasPlace, find-cleared, find-put}
 use Rattle.rules.specs.Selection.{selectionOf}
 use Rattle.rules.specs.Judge.{firstError, everyTests, changed}
-use Rattle.rules.proofs.Judges.{judge-rest, none-fails}
+use Rattle.rules.proofs.Judges.{judge-interrogation, judge-errors, none-fails, fails-none}
 use Rattle.rules.proofs.Changes.{changed-activation, changed-deactivation}
 use Rattle.answers.specs.Answer.{answerNo, answerOctets, Answered}
 use Rattle.answers.specs.Reply.{replyNo, reply}
 use Rattle.answers.specs.declared.answer.Answer.the-variants as answer
+use Rattle.answers.specs.declared.reply.Reply.the-variants.{Failed}
 use Rattle.answers.proofs.Answers.{error-back, result-back}
 use Rattle.exchange.specs.Question.{asks, question}
 use Rattle.exchange.specs.Step.{Step, handled}
 use Rattle.exchange.specs.Arrive.{Done, answered, done}
 use Rattle.exchange.specs.declared.table.Table.{Table}
 use Rattle.exchange.proofs.Questions.{question-asks}
-use Rattle.exchange.proofs.Steps.{verdict, handled-fails, handled-changes, handled-ind, step-asks}
+use Rattle.exchange.proofs.Steps.{verdict, handled-fails, handled-lists, handled-ind, step-asks}
 use Rattle.exchange.proofs.Nexts.{heeded, error-nothing, run-held, applied-holds}
 
 none-there : {A : Type 0} (l : List A) → length l ≡ 0 → l ≡ []
@@ -72,6 +70,11 @@ module _
     is-number operation asked =
         ap (λ (y : Step). answerNo (y .answer)) (sym (step-asks p t s identifier operation r asked))
         ∙ ap (λ (y : Answered). y .number) (heeded access t s size x told .tells)
+
+    is-octets :
+        (operation : ℕ) → Asks operation → (y : Step) → handled p t identifier operation r ≡ y →
+        done access t s size .octets ≡ answerOctets (y .answer) (y .entries)
+    is-octets operation asked y is = ap (λ (d : Done). d .octets) (is-handled operation asked ∙ ap answered is)
 
     -- ---- an activation and a deactivation
 
@@ -122,63 +125,67 @@ module _
         changed-all deactivation _ asked (λ e. omega arith)
         (λ q n service. rw (changed-deactivation p r before) (find-cleared q n service sel before))
 
-    -- "error 46 exactly if there's none": the octets are that error's, and no selected instance is active
+    -- "error 46 exactly if there's none": the octets are that error's exactly where no test that comes first gives its error and no
+    -- selected instance is active
     pub record NoneActive : Type 0 where
-      pub fails : listed sel before ≡ [] → done access t s size .octets ≡ answerOctets (answer.Error identifier 46) []
-      pub only : done access t s size .octets ≡ answerOctets (answer.Error identifier 46) [] → listed sel before ≡ []
+      pub fails :
+          firstError (everyTests p r) ≡ none → listed sel before ≡ [] →
+          done access t s size .octets ≡ answerOctets (answer.Error identifier 46) []
+      pub only :
+          done access t s size .octets ≡ answerOctets (answer.Error identifier 46) [] →
+          (firstError (everyTests p r) ≡ none) × (listed sel before ≡ [])
 
-    module _ (asked : Asks deactivation) (every : firstError (everyTests p r) ≡ none) where
-      -- a result has other octets
-      passes-not :
-          verdict p t identifier deactivation r ≡ none →
-          done access t s size .octets ≡ answerOctets (answer.Error identifier 46) [] → ⊥
-      passes-not passes h =
-          let range = question-asks p (t .last) s identifier deactivation r asked .range in
-          let octets : done access t s size .octets ≡ answerOctets (answer.Result identifier) [] =
-          ap (λ (d : Done). d .octets)
-          (is-handled deactivation asked ∙ ap answered (handled-changes p t identifier deactivation r passes (λ e. omega arith))) in
-          let back =
-          sym (result-back identifier deactivation range [] (λ e. omega arith))
-          ∙ ap (reply identifier deactivation) (sym octets ∙ h)
-          ∙ error-back identifier deactivation range 46 [] (omega arith) in
-          omega (arith, ap replyNo back)
+    -- a result has other octets than an error, and each error its own
+    fails-only :
+        Asks deactivation → done access t s size .octets ≡ answerOctets (answer.Error identifier 46) [] →
+        verdict p t identifier deactivation r ≡ some 46
+    fails-only asked failed =
+        let range = question-asks p (t .last) s identifier deactivation r asked .range in
+        handled-ind p t identifier deactivation r
+        (λ y.
+        reply identifier deactivation (answerOctets (y .answer) (y .entries)) ≡ Failed (pos 46) →
+        verdict p t identifier deactivation r ≡ some 46)
+        (λ error h back.
+        let fits = judge-errors instancesMost p deactivation r before error h in
+        let same : Failed (pos error) ≡ Failed (pos 46) = sym (error-back identifier deactivation range error [] fits) ∙ back in
+        h ∙ cc)
+        (λ _ e _. absurd (omega arith))
+        (λ _ other back. absurd (omega (arith, ap replyNo (sym (result-back identifier deactivation range [] other) ∙ back))))
+        (ap (reply identifier deactivation) (sym (is-octets deactivation asked _ refl) ∙ failed)
+        ∙ error-back identifier deactivation range 46 [] (omega arith))
 
-      pub none-active : NoneActive
-      none-active = record {
-        fails = λ nothing.
-            ap (λ (d : Done). d .octets)
-            (is-handled deactivation asked
-            ∙ ap answered
-            (handled-fails p t identifier deactivation r 46 (none-fails instancesMost p r before every (ap length nothing))));
-        only = λ failed.
-            by-bool (listed sel before ≡ []) (eqb (length (listed sel before)) 0)
-            (λ h. none-there (listed sel before) (eqb-true (length (listed sel before)) 0 h))
-            (λ h. absurd (passes-not (judge-rest instancesMost p deactivation r before every ∙ rw h) failed));
-      }
+    pub none-active : Asks deactivation → NoneActive
+    none-active asked = record {
+      fails = λ every nothing.
+          is-octets deactivation asked _
+          (handled-fails p t identifier deactivation r 46 (none-fails instancesMost p r before every (ap length nothing)));
+      only = λ failed.
+          let both = fails-none instancesMost p r before (fails-only asked failed) in
+          (both .0, none-there (listed sel before) (both .1));
+    }
 
     -- ---- an interrogation
 
-    -- "every active selected instance, by profile number, then service code. Each carries the profile's own number."
+    -- "every active selected instance, by profile number, then service code. Each carries the profile's own number."; or the error of
+    -- the first test that gives one
     pub record Lists : Type 0 where
       pub octets :
+          firstError (everyTests p r) ≡ none →
           done access t s size .octets ≡ answerOctets (answer.Listing identifier) (map (entryFor (p .numbers)) (listed sel before))
+      pub fails :
+          (error : ℕ) → firstError (everyTests p r) ≡ some error →
+          done access t s size .octets ≡ answerOctets (answer.Error identifier error) []
       -- each once
       pub ascends : Up keyOf 0 (listed sel before)
 
-    pub interrogation-lists : Asks interrogation → x .number ≡ 0xA2 → Lists
-    interrogation-lists asked number =
+    pub interrogation-lists : Asks interrogation → Lists
+    interrogation-lists asked =
         let so = heeded access t s size x told in
+        let judged = judge-interrogation instancesMost p interrogation r before (λ e. omega arith) (λ e. omega arith) in
         record {
-          octets =
-              rw (is-handled interrogation asked)
-              (handled-ind p t identifier interrogation r
-              (λ y.
-              answerNo (y .answer) ≡ 0xA2 →
-              answerOctets (y .answer) (y .entries)
-              ≡ answerOctets (answer.Listing identifier) (map (entryFor (p .numbers)) (listed sel before)))
-              (λ _ _ h. absurd (omega arith))
-              (λ _ _ _. refl)
-              (λ _ other _. absurd (other refl))
-              (is-number interrogation asked ∙ number));
+          octets = λ every.
+              is-octets interrogation asked _ (handled-lists p t identifier interrogation r (judged ∙ every) refl);
+          fails = λ error first.
+              is-octets interrogation asked _ (handled-fails p t identifier interrogation r error (judged ∙ first));
           ascends = up-those keyOf (chosen sel) 0 before (run-held p t (so .rules) (so .table) .ascends);
         }

@@ -62,20 +62,20 @@ passed [] h = tt
 passed (t ∷ ts) h =
     let b = passes-both (t .holds) (t .number) (firstError ts) h in (b .0, passed ts (b .1))
 
--- each error fits an octet
-abbrev small : List (Test ℕ) → Bool
-small [] = true
-small (t ∷ ts) = pick (ltb (t .number) 256) (small ts) false
+-- each error is less than a limit
+abbrev below : ℕ → List (Test ℕ) → Bool
+below limit [] = true
+below limit (t ∷ ts) = pick (ltb (t .number) limit) (below limit ts) false
 
-abbrev SmallIf : Option ℕ → Type 0
-SmallIf none = Unit {0}
-SmallIf (some e) = e < 256
+abbrev BelowIf : ℕ → Option ℕ → Type 0
+BelowIf limit none = Unit {0}
+BelowIf limit (some e) = e < limit
 
-first-small : (ts : List (Test ℕ)) → small ts ≡ true → SmallIf (firstError ts)
-first-small [] h = tt
-first-small (t ∷ ts) h =
-    let b = pick-then (ltb (t .number) 256) (small ts) h in
-    pick-ind SmallIf (t .holds) (λ _. ltb-true (t .number) 256 (b .0)) (λ _. first-small ts (b .1))
+first-below : (limit : ℕ) (ts : List (Test ℕ)) → below limit ts ≡ true → BelowIf limit (firstError ts)
+first-below limit [] h = tt
+first-below limit (t ∷ ts) h =
+    let b = pick-then (ltb (t .number) limit) (below limit ts) h in
+    pick-ind (BelowIf limit) (t .holds) (λ _. ltb-true (t .number) limit (b .0)) (λ _. first-below limit ts (b .1))
 
 -- ---- verdicts
 
@@ -190,11 +190,11 @@ module _ (most : ℕ) (p : Profile) (operation : ℕ) (r : Request) (is : List I
   pub judge-errors : (e : ℕ) → judge most p operation r is ≡ some e → e < 256
   unfolding judge
   judge-errors e h =
-      subst SmallIf h
-      (first-small (everyTests p r ++ testsOf most p operation r is)
-      (pick-ind (λ ts. small ts ≡ true) (eqb operation activation)
+      subst (BelowIf 256) h
+      (first-below 256 (everyTests p r ++ testsOf most p operation r is)
+      (pick-ind (λ ts. below 256 ts ≡ true) (eqb operation activation)
       (λ _. refl)
-      (λ _. pick-ind (λ ts. small ts ≡ true) (eqb operation deactivation) (λ _. refl) (λ _. refl))))
+      (λ _. pick-ind (λ ts. below 256 ts ≡ true) (eqb operation deactivation) (λ _. refl) (λ _. refl))))
 
 -- no other operation renews
 pub renews-other :
@@ -298,10 +298,20 @@ module _ (most : ℕ) (p : Profile) (r : Request) (is : List Instance) where
       judge most p deactivation r is ≡ some 46
   none-fails every nothing = rw (judge-rest most p deactivation r is every, eq-eqb active 0 nothing)
 
+  -- every request's own errors are others
+  passes-every :
+      (v : Option ℕ) → firstError (everyTests p r) ≡ v → judge most p deactivation r is ≡ some 46 → v ≡ none
+  passes-every none every h = refl
+  passes-every (some e) every h =
+      let same : firstError (everyTests p r) ≡ some 46 = every ∙ sym (judge-fails most p deactivation r is e every) ∙ h in
+      let other : 46 < 46 = subst (BelowIf 46) same (first-below 46 (everyTests p r) refl) in
+      absurd (omega arith)
+
   pub fails-none :
-      firstError (everyTests p r) ≡ none → judge most p deactivation r is ≡ some 46 →
-      length (listed (selectionOf p r) is) ≡ 0
-  fails-none every h =
+      judge most p deactivation r is ≡ some 46 →
+      (firstError (everyTests p r) ≡ none) × (length (listed (selectionOf p r) is) ≡ 0)
+  fails-none h =
+      let every = passes-every (firstError (everyTests p r)) refl h in
       let b : Bool = eqb active 0 in
       let e : pick {A = Option ℕ} b (some 46) none ≡ some 46 = sym (judge-rest most p deactivation r is every) ∙ h in
-      eqb-true active 0 (pick-first {A = Option ℕ} b (some 46) none (λ q. apart 46 (sym q ∙ e)))
+      (every, eqb-true active 0 (pick-first {A = Option ℕ} b (some 46) none (λ q. apart 46 (sym q ∙ e))))
