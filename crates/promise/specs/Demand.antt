@@ -3,12 +3,12 @@
 -- come, makes its procedure known." Over octets, by the definitions that the promises of `End` and `Table::arrive` cite.
 use Prim.Native.Nat.{ℕ, _<_}
 use mathlib.Core.Path.{_≡_}
-use mathlib.Core.Bool.{Bool}
+use mathlib.Core.Bool.{Bool, true, false}
 use mathlib.Core.List.{List, [], _∷_, map}
 use mathlib.Core.Option.{Option, none, some}
 use mathlib.Core.Logic.{_⊎_}
 use lib.IntN.{pos}
-use lib.ListN.{length, getD}
+use lib.ListN.{length}
 use lib.Dec.{eqb}
 use Rattle.laws.specs.Pick.{pick}
 use Rattle.laws.specs.Tests.{all}
@@ -22,6 +22,7 @@ use Rattle.requests.specs.declared.request.Request.{Request}
 use Rattle.lists.specs.Entries.{tidyEntries}
 use Rattle.lists.specs.declared.entry.Entry.{Entry}
 use Rattle.instances.specs.Run.{instancesOf, listed, entryFor}
+use Rattle.rules.specs.Judge.{notInUse, isSubscribed, hasAllNumbers}
 use Rattle.answers.specs.Answer.{Answered}
 use Rattle.answers.specs.Reply.{reply}
 use Rattle.answers.specs.declared.reply.Reply.the-variants.{Dropped}
@@ -106,9 +107,9 @@ KnownEquals access =
 -- whether the profile allows a whole interrogation: it is "in use", the procedure is subscribed, and MSN is no or the "all numbers"
 -- option yes
 pub record WholeAllowed (p : Profile) (procedure : ℕ) : Type 0 where
-  pub used : p .inuse ≡ 1
-  pub subscribed : getD (p .subscribed) procedure 0 ≡ 1
-  pub whole : (p .msn ≡ 0) ⊎ (p .all ≡ 1)
+  pub used : notInUse p ≡ false
+  pub subscribed : isSubscribed p procedure ≡ true
+  pub whole : (p .msn ≡ 0) ⊎ (hasAllNumbers p ≡ true)
 
 -- a component is a reply to what the end waits for: anything else is dropped
 abbrev pub Replies : End → List ℕ → Type 0

@@ -6,10 +6,9 @@ use mathlib.Core.Bool.{Bool, true, false, not}
 use mathlib.Core.List.{List, [], _∷_}
 use mathlib.Core.Option.{Option, none, some}
 use mathlib.Core.Logic.{_⊎_, ⊎-elim}
-use native.Mathlib.Omega.{arith}
-use lib.ListN.{length, getD}
+use lib.ListN.{length}
 use lib.Dec.{ltb, eqb}
-use borrow.Author.Tests.{eq-eqb, ne-eqb, eqb-true, eqb-false}
+use borrow.Author.Tests.{eq-eqb, eqb-true, eqb-false}
 use Rattle.laws.specs.Pick.{pick}
 use Rattle.laws.specs.Tests.{all}
 use Rattle.laws.proofs.Picks.{by-bool}
@@ -30,7 +29,7 @@ use Rattle.instances.specs.declared.instance.Instance.{Instance}
 use Rattle.instances.specs.declared.instance.Selection.{Selection}
 use Rattle.rules.specs.Prefix.{beginsAny}
 use Rattle.rules.specs.Selection.{numberAsked, selectionOf}
-use Rattle.rules.specs.Judge.{firstError, everyTests, isSubscribed, hasAllNumbers, servedInvalid, notProvided, userSpecified, otherKind, selectedSame, afterwards, testsOf, judge}
+use Rattle.rules.specs.Judge.{firstError, everyTests, notInUse, isSubscribed, hasAllNumbers, servedInvalid, notProvided, userSpecified, otherKind, selectedSame, afterwards, testsOf, judge}
 use Rattle.rules.proofs.Judges.{count-afterwards}
 
 -- ---- numbers
@@ -170,17 +169,15 @@ module _ (p : Profile) (operation : ℕ) (r : Request) (goes : sendable operatio
 
 -- of a profile in use, for a procedure that is subscribed, where MSN is no or the "all numbers" option yes, no test of every request holds
 pub whole-passes :
-    (p : Profile) (r : Request) → p .inuse ≡ 1 → getD (p .subscribed) (r .procedure) 0 ≡ 1 → (p .msn ≡ 0) ⊎ (p .all ≡ 1) →
+    (p : Profile) (r : Request) → notInUse p ≡ false → isSubscribed p (r .procedure) ≡ true → (p .msn ≡ 0) ⊎ (hasAllNumbers p ≡ true) →
     r .served .all ≡ 1 → firstError (everyTests p r) ≡ none
-unfolding isSubscribed servedInvalid hasAllNumbers
+unfolding servedInvalid
 whole-passes p r used subscribed whole every =
-    let on : eqb (p .inuse) 0 ≡ false = ne-eqb (p .inuse) 0 (λ z. omega (arith, used)) in
-    let has : eqb (getD (p .subscribed) (r .procedure) 0) 0 ≡ false = ne-eqb (getD (p .subscribed) (r .procedure) 0) 0 (λ z. omega (arith, subscribed)) in
     ⊎-elim
-    (λ z. rw (on, has, eq-eqb (p .msn) 0 z))
-    (λ z. rw (on, has, eq-eqb (r .served .all) 1 every, ne-eqb (p .all) 0 (λ y. omega (arith, z))) (go (eqb (p .msn) 0)))
+    (λ no. rw (used, subscribed, eq-eqb (p .msn) 0 no))
+    (λ option. rw (used, subscribed, eq-eqb (r .served .all) 1 every) (go (eqb (p .msn) 0) (hasAllNumbers p) option))
     whole
   where
-    go : (b : Bool) → pick {A = Option ℕ} (pick (not b) false false) (some 6) none ≡ none
-    go true = refl
-    go false = refl
+    go : (no option : Bool) → option ≡ true → pick {A = Option ℕ} (pick (not no) (pick (not option) true false) false) (some 6) none ≡ none
+    go true option h = refl
+    go false option h = rw h
