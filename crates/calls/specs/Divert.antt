@@ -55,7 +55,7 @@ comingTold (Diverts reason notice) = tells (diverts (reasonNo reason) (noticeNo 
 -- ---- which instance applies
 
 -- "Offered looks at cfu, busy at cfb, no reply at cfnr"
-abbrev pub procedureOf : ℕ → ℕ
+unfoldable pub procedureOf : ℕ → ℕ
 procedureOf event = pick (eqb event (eventNo offered)) 0 (pick (eqb event (eventNo busy)) 1 2)
 
 -- "for that number and service. No instance, or the access not in use: not diverted"

@@ -5,31 +5,21 @@ use mathlib.Core.Bool.{false, true}
 use mathlib.Core.List.{List, []}
 use mathlib.Core.Option.{none, some}
 use mathlib.Core.Path.{_≡_}
-use native.Mathlib.Omega.{arith}
-use lib.Dec.{eqb}
 use borrow.Author.Tests.{eq-eqb, le-leb, lt-leb, ne-eqb}
-use Rattle.laws.proofs.Picks.{pick-ind}
 use Rattle.refusals.specs.declared.refusal.Refusal.the-variants.{BadCall, BadProfile, BadTable}
 use Rattle.profile.specs.Access.{accessRead}
 use Rattle.profile.specs.declared.profile.Profile.{Profile}
 use Rattle.lists.specs.Entries.{instancesMost}
 use Rattle.calls.specs.Call.{callFrom, callGood}
 use Rattle.calls.specs.Divert.{callRefused, procedureOf}
-use Rattle.calls.specs.Onward.{busy, eventNo, offered}
 use Rattle.calls.specs.Original.{goesOn, handedOn}
 use Rattle.calls.specs.declared.call.Call.{Call}
 use Rattle.grid.specs.Calls.{gridApplying, gridByCall, gridComes, gridOriginal, gridPlaceOfCall, gridSlotOf}
-use Rattle.grid.specs.Grid.{Grid, gridProcedures, rowAt}
+use Rattle.grid.specs.Grid.{Grid, rowAt}
 use Rattle.grid.specs.Row.{Row, active, cellAt}
 use Rattle.grid.specs.Table.{GridTable, gridTableGood}
 
 -- ---- which instance applies
-
-pub procedure-known : (event : ℕ) → procedureOf event < gridProcedures
-procedure-known event =
-    let P : ℕ → Type 0 = λ k. k < gridProcedures in
-    pick-ind P (eqb event (eventNo offered)) (λ _. omega arith)
-    (λ _. pick-ind P (eqb event (eventNo busy)) (λ _. omega arith) (λ _. omega arith))
 
 module _ (p : Profile) (grid : Grid) (c : Call) where
   abbrev row : Row

@@ -23,6 +23,7 @@ use Rattle.calls.proofs.HandedOns as handed
 use Rattle.calls.proofs.Instances.{applying-used}
 use Rattle.calls.proofs.Instances as instances
 use Rattle.calls.proofs.Records.{good-call}
+use Rattle.calls.proofs.Reasons.{procedure-below}
 use Rattle.grid.specs.Calls.{gridApplying, gridComes, gridOriginal, gridPlaceOfCall, gridSlotOf}
 use Rattle.grid.specs.Equal.{BothBreak, HoldSame, SameTable}
 use Rattle.grid.specs.Grid.{Grid, gridGood, rowAt}
@@ -30,7 +31,7 @@ use Rattle.grid.specs.Holds.{holds}
 use Rattle.grid.specs.Row.{Row, active}
 use Rattle.grid.specs.Table.{GridTable}
 use Rattle.grid.proofs.Comings.{applying-none, applying-service, applying-some, applying-unused, comes-by, comes-call, comes-profile}
-use Rattle.grid.proofs.Comings.{comes-table, original-goes, original-none, procedure-known}
+use Rattle.grid.proofs.Comings.{comes-table, original-goes, original-none}
 use Rattle.grid.proofs.FoundCells.{foundIn, found-holds}
 use Rattle.grid.proofs.ProfilePlaces.{WholeProfile, access-whole, has-place, place-has}
 use Rattle.grid.proofs.Tables.{good-grid}
@@ -48,7 +49,7 @@ module _ (p : Profile) (whole : WholeProfile p) (grid : Grid) (good : gridGood i
   -- the one in the cell of the call's number and service
   cell-applies : (p .inuse ≡ 0 → ⊥) → gridApplying p grid c ≡ foundIn p grid q (c .number) (c .service)
   cell-applies used =
-      rw (lt-ltb q 3 (procedure-known (c .event)))
+      rw (lt-ltb q 3 (procedure-below (c .event)))
       (by-bool _ (ltb (gridSlotOf p c) (p .servicecount))
       (λ (e : ltb (gridSlotOf p c) (p .servicecount) ≡ true).
       let slot = ltb-true (gridSlotOf p c) (p .servicecount) e in

@@ -41,7 +41,7 @@ use Rattle.exchange.specs.Step.{lastAfter, resultOf, handled, step}
 use Rattle.exchange.specs.Arrive.{done}
 use Rattle.calls.specs.Onward.{reasonOf, optionsOf, optionAfter, preferenceAfter, originalShown}
 use Rattle.calls.specs.Call.{callFrom, namesGood, valuesGood, originalGood, callGood}
-use Rattle.calls.specs.Divert.{applying, servedOf, noticed, onward, noOnward, comes}
+use Rattle.calls.specs.Divert.{procedureOf, applying, servedOf, noticed, onward, noOnward, comes}
 use Rattle.forms.specs.Instance.{allGroups, instanceOctets, fieldAt, fieldsAt, addressFrom, instanceFrom}
 use Rattle.forms.specs.Sheet.{instancesOctets, sheetOctets, instancesFrom, inOrder, sheetIn}
 use Rattle.listings.specs.Listing.{decimalIn, decimal, procedureName, kindText, hexOf, hexText, subText}
@@ -79,7 +79,7 @@ unfolding fewestFrom wordAt wordOctets spanOf lengthAt headAt lengthHolds length
     ascending eachGood fewOfEach runGood isSubscribed hasAllNumbers servedInvalid notProvided otherKind begins beginsAny selectedSame
     fits afterwards judge changed applied numberAsked selectionOf tableGood notAbove duplicate knownOperation invoked question lastAfter
     resultOf handled step done reasonOf optionsOf optionAfter preferenceAfter originalShown callFrom namesGood valuesGood originalGood
-    callGood applying servedOf noticed onward noOnward comes allGroups instanceOctets fieldAt fieldsAt addressFrom instanceFrom
+    callGood procedureOf applying servedOf noticed onward noOnward comes allGroups instanceOctets fieldAt fieldsAt addressFrom instanceFrom
     instancesOctets sheetOctets instancesFrom inOrder sheetIn decimalIn decimal procedureName kindText hexOf hexText subText lineOf
     headerLine instanceLine instanceLines listing listedSheet refusedLine printedSheet wroteSheet saidAt markAt marked closed
     marksGood waitingGood endGood servedGood toGood partsGood sendable marksSent sent sends learned took takes shown
