@@ -1,8 +1,9 @@
 use Rattle.answers.specs.Reply.{failedAt}
+use Rattle.answers.specs.declared.reply.Reply.the-variants.{Failed}
 use mir.Facts.{toZ-ofZ}
 use mir.Val.{SFits}
 use mir.Syntax.{w16}
-use mathlib.Core.Path.{sym, _∙_}
+use mathlib.Core.Path.{sym, ap, _∙_}
 use borrow.Author.Tests.{eq-eqb, ne-eqb}
 use borrow.Author.Needs.{needs}
 use Rattle.answers.proofs.reply.failed_at.Statement.{statement}
@@ -18,7 +19,7 @@ returns : tie.Need-returns
 unfolding failedAt
 returns c = let id : SFits w16 (c .before .before .value .given .0 .0) = search needs in
     let found = sym (c .before .before .before .before .ident-at .ensures) ∙ c .before .before .value .given .1 in
-    rw (toZ-ofZ id, found, eq-eqb _ _ (c .if1 .taken))
+    rw (found, eq-eqb _ _ (c .if1 .taken)) (ap Failed (toZ-ofZ id))
 
 enum-told : tie.Need-enum-told
 enum-told c = search needs
