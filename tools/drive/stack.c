@@ -85,8 +85,11 @@ static void *begin(void *unused)
     return unused;
 }
 
-/* Prints how deep a call goes; answers whether that is more than there may be. */
-static int measured(const char *name, void (*one)(void))
+/* What was asked for an arrival, docs/ARCHITECTURE.md; the header promises SCONCETOAD_STACK for every call. */
+#define ARRIVAL_MOST 10000
+
+/* Prints how deep a call goes; answers whether that is more than `most`. */
+static int measured_within(size_t most, const char *name, void (*one)(void))
 {
     pthread_attr_t attributes;
     pthread_t thread;
@@ -101,15 +104,17 @@ static int measured(const char *name, void (*one)(void))
     while (*deepest == PAINT)
         deepest++;
     size_t deep = (size_t)(top - deepest);
-    printf("%s %zu%s\n", name, deep, deep > SCONCETOAD_STACK ? ", OVER" : "");
-    return deep > SCONCETOAD_STACK;
+    printf("%s %zu%s\n", name, deep, deep > most ? ", OVER" : "");
+    return deep > most;
 }
+
+static int measured(const char *name, void (*one)(void)) { return measured_within(SCONCETOAD_STACK, name, one); }
 
 static int arrivals(void)
 {
     int over = 0;
     for (size_t n = 0; occasion_numbered(n, &occasion); n++) {
-        over |= measured(occasion.name, arrive);
+        over |= measured_within(ARRIVAL_MOST, occasion.name, arrive);
         if (arrival.refusal != SCONCETOAD_ANSWERED || arrival.count != occasion.reply) {
             fprintf(stderr, "drive: %s gives %zu octets\n", occasion.name, arrival.count);
             return 1;
