@@ -6,9 +6,9 @@ use mathlib.Core.Bool.{Bool, true, false}
 use mathlib.Core.Logic.{inl, inr}
 use native.Mathlib.Omega.{arith}
 use Rattle.laws.specs.Mark.{Mark, known}
-use Rattle.demand.specs.Machine.{In, World, Happening, sends, handles, hears, gives-up, goes-on, jolted, sending, replying, ending, after}
-use Rattle.demand.specs.Machine.{start, Trace, still, more, Calm, Quiet}
-use Rattle.demand.specs.Rules.{asks, listed, WasHandled, Waiting, idle, busy, Topic, Saying, Exchange, Customer, Hit}
+use Rattle.demand.specs.Machine.{In, World, Happening, sends-up, handles, comes-down, gives-up, goes-on, jolted, sending, replying, ending, after}
+use Rattle.demand.specs.Machine.{start, Trace, still, further, Calm, Quiet}
+use Rattle.demand.specs.Rules.{asks-for, says-list, WasHandled, Waiting, idle, awaiting, Topic, Saying, Exchange, Customer, Hit}
 use Rattle.demand.specs.Rules.{ExchangeLaws, CustomerLaws, Fresh, messages, numbered, answering}
 use Rattle.demand.proofs.Invariant as I
 use Rattle.demand.proofs.Serving as G
@@ -38,9 +38,9 @@ module _ (S : Topic) (X : Exchange S) (C : Customer S) (LX : ExchangeLaws S X) (
 
   pub keeps : (w : World (messages S X C)) (v : Happening (messages S X C) w) → Holds S X C w → Holds S X C (after (messages S X C) w v)
   unfolding after replying ending
-  keeps w (sends room r) h = sent-holds w room r h (C .send room (w .end) r) refl
+  keeps w (sends-up room r) h = sent-holds w room r h (C .send room (w .end) r) refl
   keeps w (handles room c i) h = handled-holds w c i h (X .enough room)
-  keeps w (hears c i) h = I.hears S X C LX LC (w .table) (w .end) (w .up) (w .down) h c i
+  keeps w (comes-down c i) h = I.hears S X C LX LC (w .table) (w .end) (w .up) (w .down) h c i
   keeps w gives-up h =
       I.shed S X C LX LC (w .table) (w .end) (C .giveUp (w .end)) (w .up) (w .down) (LC .give-up (w .end) (h .sound))
       (LC .give-up-sound (w .end) (h .sound)) h
@@ -53,7 +53,7 @@ module _ (S : Topic) (X : Exchange S) (C : Customer S) (LX : ExchangeLaws S X) (
 
   pub runs : {from to : World (messages S X C)} → Trace (messages S X C) from to → Holds S X C from → Holds S X C to
   runs still h = h
-  runs (more {w = w} q v) h = keeps w v (runs q h)
+  runs (further {w = w} q v) h = keeps w v (runs q h)
 
   pub starts : (t : X .Table) (e : C .End) → Fresh S X C t e → Holds S X C (start (messages S X C) t e)
   unfolding start
@@ -84,18 +84,18 @@ module _ (S : Topic) (X : Exchange S) (C : Customer S) (LX : ExchangeLaws S X) (
       (w : World (messages S X C)) (v : Happening (messages S X C) w) (c : ℕ × Saying S) → In c (w .down) →
       In c (after (messages S X C) w v .down)
   unfolding after replying ending
-  stays-under-way w (sends room r) c i = sent-keeps w (numbered r (C .send room (w .end) r)) c i
+  stays-under-way w (sends-up room r) c i = sent-keeps w (numbered r (C .send room (w .end) r)) c i
   stays-under-way w (handles room d j) c i =
       let x = messages S X C .handle room (w .table) d in
       handled-keeps w (x .0) (x .1) c i
-  stays-under-way w (hears d j) c i = i
+  stays-under-way w (comes-down d j) c i = i
   stays-under-way w gives-up c i = i
   stays-under-way w (goes-on o) c i = i
   stays-under-way w (jolted j) c i = i
 
   stays-under-ways : {from to : World (messages S X C)} → Trace (messages S X C) from to → (c : ℕ × Saying S) → In c (from .down) → In c (to .down)
   stays-under-ways still c i = i
-  stays-under-ways (more {w = w} q v) c i = stays-under-way w v c (stays-under-ways q c i)
+  stays-under-ways (further {w = w} q v) c i = stays-under-way w v c (stays-under-ways q c i)
 
   -- Through a calm stretch the request stays outstanding.
   abbrev pub Matching : ℕ → ℕ × Saying S → Type 0
@@ -117,14 +117,14 @@ module _ (S : Topic) (X : Exchange S) (C : Customer S) (LX : ExchangeLaws S X) (
 
   pub calm :
       (w : World (messages S X C)) (v : Happening (messages S X C) w) (n : ℕ) (r : S .Req) (m : Mark) → Holds S X C w →
-      Calm (messages S X C) (Matching n) v → C .waiting (w .end) ≡ busy n r m → C .waiting (after (messages S X C) w v .end) ≡ busy n r m
+      Calm (messages S X C) (Matching n) v → C .waiting (w .end) ≡ awaiting n r m → C .waiting (after (messages S X C) w v .end) ≡ awaiting n r m
   unfolding after replying ending
-  calm w (sends room q) n r m h k p =
-      sent-waits w room q (busy n r m) h (λ z. let y : _≡_ {A = ℕ} 0 1 = cc in omega arith) p (C .send room (w .end) q) refl
+  calm w (sends-up room q) n r m h k p =
+      sent-waits w room q (awaiting n r m) h (λ z. let y : _≡_ {A = ℕ} 0 1 = cc in omega arith) p (C .send room (w .end) q) refl
   calm w (handles room d j) n r m h k p =
       let x = messages S X C .handle room (w .table) d in
       ap (C .waiting) (handled-end w (x .0) (x .1)) ∙ p
-  calm w (hears d j) n r m h k p =
+  calm w (comes-down d j) n r m h k p =
       let g = h .proper d j in
       rw (LC .hear-drops (w .end) (d .0) (d .1) (g .0) (record { sound = h .sound; other = λ r′ m′ p′. k (cc); proper = g .2 })) p
   calm w gives-up n r m h k p = absurd k
@@ -133,23 +133,23 @@ module _ (S : Topic) (X : Exchange S) (C : Customer S) (LX : ExchangeLaws S X) (
 
   pub calms :
       {from to : World (messages S X C)} (q : Trace (messages S X C) from to) (n : ℕ) (r : S .Req) (m : Mark) → Holds S X C from →
-      Quiet (messages S X C) (Matching n) q → C .waiting (from .end) ≡ busy n r m → C .waiting (to .end) ≡ busy n r m
+      Quiet (messages S X C) (Matching n) q → C .waiting (from .end) ≡ awaiting n r m → C .waiting (to .end) ≡ awaiting n r m
   calms still n r m h k p = p
-  calms (more {w = w} q v) n r m h k p = calm w v n r m (runs q h) (k .1) (calms q n r m h (k .0) p)
+  calms (further {w = w} q v) n r m h k p = calm w v n r m (runs q h) (k .1) (calms q n r m h (k .0) p)
 
   -- At any moment: an answer to the outstanding interrogation, allowed by the profile, makes its procedure known.
   pub told-known :
-      (w : World (messages S X C)) → Holds S X C w → (n : ℕ) (r : S .Req) (m : Mark) (P : S .Proc) → C .waiting (w .end) ≡ busy n r m →
-      S .about r ≡ asks P → S .Allows P →
+      (w : World (messages S X C)) → Holds S X C w → (n : ℕ) (r : S .Req) (m : Mark) (P : S .Proc) → C .waiting (w .end) ≡ awaiting n r m →
+      S .about r ≡ asks-for P → S .Allows P →
       (b : Saying S) → In (n, b) (w .down) → WasHandled b → C .mark (C .hear (w .end) n b) P ≡ known
   told-known w h n r m P p a g b i y =
       let k = h .pending n r m p .asking P a in
       let z = k .said-allowed g b i y in
-      let j : In (n, listed (z .0)) (w .down) = subst (λ x. In (n, x) (w .down)) (z .1) i in
+      let j : In (n, says-list (z .0)) (w .down) = subst (λ x. In (n, x) (w .down)) (z .1) i in
       let o = h .proper (n, b) i in
       let own : o .0 ≡ r = h .pending n r m p .one (n, o .0) (o .1) refl in
-      let fit : S .Proper n r (listed (z .0)) = subst (λ q. S .Proper n q (listed (z .0))) own (subst (S .Proper n (o .0)) (z .1) (o .2)) in
-      let hit : Hit S C (w .end) n (listed (z .0)) r m = record { sound = h .sound; waits = p; proper = fit } in
+      let fit : S .Proper n r (says-list (z .0)) = subst (λ q. S .Proper n q (says-list (z .0))) own (subst (S .Proper n (o .0)) (z .1) (o .2)) in
+      let hit : Hit S C (w .end) n (says-list (z .0)) r m = record { sound = h .sound; waits = p; proper = fit } in
       rw (z .1) (LC .hear-learns (w .end) n (z .0) r m hit P (X .held (w .table) P) a (k .said-listed (z .0) j))
 
   -- what the exchange has served is on its way, and the end is as it was
@@ -170,13 +170,13 @@ module _ (S : Topic) (X : Exchange S) (C : Customer S) (LX : ExchangeLaws S X) (
   -- The second sentence: in w₁ the exchange handles the interrogation n, outstanding at the end; nothing that matches comes to the end
   -- until w₂, and it does not give up; there the exchange's reply comes.
   pub first-reply-from :
-      (w₁ : World (messages S X C)) → Holds S X C w₁ → (n : ℕ) (r : S .Req) (m : Mark) (P : S .Proc) → S .about r ≡ asks P → S .Allows P →
-      C .waiting (w₁ .end) ≡ busy n r m →
+      (w₁ : World (messages S X C)) → Holds S X C w₁ → (n : ℕ) (r : S .Req) (m : Mark) (P : S .Proc) → S .about r ≡ asks-for P → S .Allows P →
+      C .waiting (w₁ .end) ≡ awaiting n r m →
       (i : In (n, r) (w₁ .up)) → X .last (w₁ .table) < n → (room : S .Room) → X .enough room ≡ true →
       {w₂ :
       World (messages S X C)} (q : Trace (messages S X C) (after (messages S X C) w₁ (handles room (n, r) i)) w₂) → Quiet (messages S X C) (Matching n) q →
       (j :
-      In (n, X .serve (w₁ .table) n r .1) (w₂ .down)) × (C .mark (after (messages S X C) w₂ (hears (n, X .serve (w₁ .table) n r .1) j) .end) P ≡ known)
+      In (n, X .serve (w₁ .table) n r .1) (w₂ .down)) × (C .mark (after (messages S X C) w₂ (comes-down (n, X .serve (w₁ .table) n r .1) j) .end) P ≡ known)
   unfolding after replying ending
   first-reply-from w₁ h₁ n r m P a g p i l room y {w₂} q k =
       let h : Holds S X C (after (messages S X C) w₁ (handles room (n, r) i)) = keeps w₁ (handles room (n, r) i) h₁ in
@@ -187,10 +187,10 @@ module _ (S : Topic) (X : Exchange S) (C : Customer S) (LX : ExchangeLaws S X) (
   pub first-reply-known :
       (t : X .Table) (e : C .End) → Fresh S X C t e → {w₁ : World (messages S X C)} →
       Trace (messages S X C) (start (messages S X C) t e) w₁ →
-      (n : ℕ) (r : S .Req) (m : Mark) (P : S .Proc) → S .about r ≡ asks P → S .Allows P → C .waiting (w₁ .end) ≡ busy n r m →
+      (n : ℕ) (r : S .Req) (m : Mark) (P : S .Proc) → S .about r ≡ asks-for P → S .Allows P → C .waiting (w₁ .end) ≡ awaiting n r m →
       (i : In (n, r) (w₁ .up)) → X .last (w₁ .table) < n → (room : S .Room) → X .enough room ≡ true →
       {w₂ :
       World (messages S X C)} (q : Trace (messages S X C) (after (messages S X C) w₁ (handles room (n, r) i)) w₂) → Quiet (messages S X C) (Matching n) q →
       (j :
-      In (n, X .serve (w₁ .table) n r .1) (w₂ .down)) × (C .mark (after (messages S X C) w₂ (hears (n, X .serve (w₁ .table) n r .1) j) .end) P ≡ known)
+      In (n, X .serve (w₁ .table) n r .1) (w₂ .down)) × (C .mark (after (messages S X C) w₂ (comes-down (n, X .serve (w₁ .table) n r .1) j) .end) P ≡ known)
   first-reply-known t e f {w₁} q₁ n r m P a g p i l room y q k = first-reply-from w₁ (runs q₁ (starts t e f)) n r m P a g p i l room y q k

@@ -8,8 +8,8 @@ use native.Mathlib.Omega.{arith}
 use native.Mathlib.Decide.{ℕ-discrete}
 use Rattle.laws.specs.Mark.{Mark, known}
 use Rattle.demand.specs.Machine.{In}
-use Rattle.demand.specs.Rules.{changes, asks, done, listed, failed, WasHandled, Waiting, idle, busy, Topic, Saying, Exchange}
-use Rattle.demand.specs.Rules.{Customer, Shed, Why, kept, restored, applied, learned, Hit, ExchangeLaws, CustomerLaws, Fresh}
+use Rattle.demand.specs.Rules.{changes, asks-for, says-done, says-list, says-error, WasHandled, Waiting, idle, awaiting, Topic, Saying, Exchange}
+use Rattle.demand.specs.Rules.{Customer, Shed, Why, was-known, by-error, by-result, by-list, Hit, ExchangeLaws, CustomerLaws, Fresh}
 
 abbrev pub Ups : Topic → Type 0
 Ups S = List (ℕ × S .Req)
@@ -31,21 +31,21 @@ module _ (S : Topic) (X : Exchange S) (C : Customer S) where
     pub unhandled :
         X .last t < n → (C .pic e P ≡ X .held t P) ×
         ((c : ℕ × S .Req) → In c up → S .about (c .1) ≡ changes P → (c .0 ≤ X .last t) ⊎ (c .0 ≡ n))
-    pub said-failed : (x : ℕ) → In (n, failed x) down → C .pic e P ≡ X .held t P
-    pub said-done : In (n, done) down → (T : S .Pic) → S .apply r (C .pic e P) ≡ some T → T ≡ X .held t P
+    pub said-failed : (x : ℕ) → In (n, says-error x) down → C .pic e P ≡ X .held t P
+    pub said-done : In (n, says-done) down → (T : S .Pic) → S .apply r (C .pic e P) ≡ some T → T ≡ X .held t P
 
   -- An interrogation n of P is outstanding.
   pub record Asking (t : X .Table) (e : C .End) (down : Downs S) (n : ℕ) (m : Mark) (P : S .Proc) : Type 0 where
     pub before : m ≡ known → C .mark e P ≡ known
-    pub said-listed : (l : S .Listing) → In (n, listed l) down → S .read P l ≡ some (X .held t P)
-    pub said-allowed : S .Allows P → (b : Saying S) → In (n, b) down → WasHandled b → (l : S .Listing) × (b ≡ listed l)
+    pub said-listed : (l : S .Listing) → In (n, says-list l) down → S .read P l ≡ some (X .held t P)
+    pub said-allowed : S .Allows P → (b : Saying S) → In (n, b) down → WasHandled b → (l : S .Listing) × (b ≡ says-list l)
 
   pub record Pending (t : X .Table) (e : C .End) (up : Ups S) (down : Downs S) (n : ℕ) (r : S .Req) (m : Mark) : Type 0 where
     pub mine : In (n, r) up
     pub top : (c : ℕ × S .Req) → In c up → c .0 ≤ n
     pub one : (c : ℕ × S .Req) → In c up → c .0 ≡ n → c .1 ≡ r
     pub changing : (P : S .Proc) → S .about r ≡ changes P → m ≡ known → Changing t e up down n r P
-    pub asking : (P : S .Proc) → S .about r ≡ asks P → Asking t e down n m P
+    pub asking : (P : S .Proc) → S .about r ≡ asks-for P → Asking t e down n m P
 
   pub record Inv (t : X .Table) (e : C .End) (up : Ups S) (down : Downs S) : Type 0 where
     pub good : X .Good t
@@ -56,10 +56,10 @@ module _ (S : Topic) (X : Exchange S) (C : Customer S) where
     pub last-below : X .last t < C .next e
     pub handled : (c : ℕ × Saying S) → In c down → WasHandled (c .1) → c .0 ≤ X .last t
     pub right : (P : S .Proc) → C .mark e P ≡ known → (C .pic e P ≡ X .held t P) × Settled t up P
-    pub pending : (n : ℕ) (r : S .Req) (m : Mark) → C .waiting e ≡ busy n r m → Pending t e up down n r m
+    pub pending : (n : ℕ) (r : S .Req) (m : Mark) → C .waiting e ≡ awaiting n r m → Pending t e up down n r m
 
 module _ (S : Topic) (X : Exchange S) (C : Customer S) (LX : ExchangeLaws S X) (LC : CustomerLaws S C) where
-  pub never-busy : {e : C .End} {n : ℕ} {r : S .Req} {m : Mark} → C .waiting e ≡ idle → C .waiting e ≡ busy n r m → ⊥
+  pub never-busy : {e : C .End} {n : ℕ} {r : S .Req} {m : Mark} → C .waiting e ≡ idle → C .waiting e ≡ awaiting n r m → ⊥
   never-busy p q = let z : _≡_ {A = ℕ} 0 1 = cc in omega arith
 
   pub begins : (t : X .Table) (e : C .End) → Fresh S X C t e → Inv S X C t e [] []
@@ -124,24 +124,24 @@ module _ (S : Topic) (X : Exchange S) (C : Customer S) (LX : ExchangeLaws S X) (
   -- a reply is heard
   above :
       (t : X .Table) (e : C .End) (up : Ups S) (down : Downs S) → Inv S X C t e up down → (n : ℕ) (r : S .Req) (m : Mark) →
-      C .waiting e ≡ busy n r m → n ≤ X .last t → (P : S .Proc) → Settled S X C t up P
+      C .waiting e ≡ awaiting n r m → n ≤ X .last t → (P : S .Proc) → Settled S X C t up P
   above t e up down v n r m w h P c i a = omega (arith, v .pending n r m w .top c i)
 
   why :
       (t : X .Table) (e e′ : C .End) (up : Ups S) (down : Downs S) → Inv S X C t e up down → (c : ℕ × Saying S) → In c down → (P : S .Proc) →
       Why S C e (c .0) (c .1) e′ P → (C .pic e′ P ≡ X .held t P) × Settled S X C t up P
-  why t e e′ up down v c i P (kept k s) = (s ∙ v .right P k .0, v .right P k .1)
-  why t e e′ up down v c i P (restored r x w (inl a) f s) = (
+  why t e e′ up down v c i P (was-known k s) = (s ∙ v .right P k .0, v .right P k .1)
+  why t e e′ up down v c i P (by-error r x w (inl a) f s) = (
     s ∙ v .pending (c .0) r known w .changing P a refl .said-failed x (subst (λ b. In (c .0, b) down) f i),
     above t e up down v (c .0) r known w (v .handled c i (subst WasHandled (sym f) tt)) P,
   )
-  why t e e′ up down v c i P (restored r x w (inr a) f s) =
+  why t e e′ up down v c i P (by-error r x w (inr a) f s) =
       let k = v .pending (c .0) r known w .asking P a .before refl in (s ∙ v .right P k .0, v .right P k .1)
-  why t e e′ up down v c i P (applied r w a d f) = (
+  why t e e′ up down v c i P (by-result r w a d f) = (
     v .pending (c .0) r known w .changing P a refl .said-done (subst (λ b. In (c .0, b) down) d i) (C .pic e′ P) f,
     above t e up down v (c .0) r known w (v .handled c i (subst WasHandled (sym d) tt)) P,
   )
-  why t e e′ up down v c i P (learned r m l w a d f) =
+  why t e e′ up down v c i P (by-list r m l w a d f) =
       let q = v .pending (c .0) r m w .asking P a .said-listed l (subst (λ b. In (c .0, b) down) d i) in
       (cc, above t e up down v (c .0) r m w (v .handled c i (subst WasHandled (sym d) tt)) P)
 
@@ -150,18 +150,18 @@ module _ (S : Topic) (X : Exchange S) (C : Customer S) (LX : ExchangeLaws S X) (
       Inv S X C t (C .hear e (c .0) (c .1)) up down
   hears t e up down v c i = go (C .waiting e) refl
     where
-      dropped : ((r : S .Req) (m : Mark) → ¬ (C .waiting e ≡ busy (c .0) r m)) → Inv S X C t (C .hear e (c .0) (c .1)) up down
+      dropped : ((r : S .Req) (m : Mark) → ¬ (C .waiting e ≡ awaiting (c .0) r m)) → Inv S X C t (C .hear e (c .0) (c .1)) up down
       dropped f =
           let g = v .proper c i in
           rw (LC .hear-drops e (c .0) (c .1) (g .0) (record { sound = v .sound; other = f; proper = g .2 })) v
 
-      hit : (r : S .Req) (m : Mark) → C .waiting e ≡ busy (c .0) r m → Hit S C e (c .0) (c .1) r m
+      hit : (r : S .Req) (m : Mark) → C .waiting e ≡ awaiting (c .0) r m → Hit S C e (c .0) (c .1) r m
       hit r m w =
           let g = v .proper c i in
           let same : g .0 ≡ r = v .pending (c .0) r m w .one (c .0, g .0) (g .1) refl in
           record { sound = v .sound; waits = w; proper = subst (λ q. S .Proper (c .0) q (c .1)) same (g .2) }
 
-      closed : (r : S .Req) (m : Mark) → C .waiting e ≡ busy (c .0) r m → Inv S X C t (C .hear e (c .0) (c .1)) up down
+      closed : (r : S .Req) (m : Mark) → C .waiting e ≡ awaiting (c .0) r m → Inv S X C t (C .hear e (c .0) (c .1)) up down
       closed r m w = record {
         good = v .good;
         sound = LC .hear-sound e (c .0) (c .1) (v .sound);
@@ -174,10 +174,10 @@ module _ (S : Topic) (X : Exchange S) (C : Customer S) (LX : ExchangeLaws S X) (
         pending = λ n q b p. absurd (never-busy (LC .hear-closes e (c .0) (c .1) r m (hit r m w)) p);
       }
 
-      matched : (k : ℕ) (r : S .Req) (m : Mark) → C .waiting e ≡ busy k r m → Dec (k ≡ c .0) → Inv S X C t (C .hear e (c .0) (c .1)) up down
-      matched k r m w (yes q) = closed r m (w ∙ ap (λ x. busy x r m) q)
+      matched : (k : ℕ) (r : S .Req) (m : Mark) → C .waiting e ≡ awaiting k r m → Dec (k ≡ c .0) → Inv S X C t (C .hear e (c .0) (c .1)) up down
+      matched k r m w (yes q) = closed r m (w ∙ ap (λ x. awaiting x r m) q)
       matched k r m w (no q) = dropped (λ r′ m′ w′. q (cc))
 
       go : (x : Waiting (S .Req)) → C .waiting e ≡ x → Inv S X C t (C .hear e (c .0) (c .1)) up down
       go idle w = dropped (λ r m w′. never-busy w w′)
-      go (busy k r m) w = matched k r m w (ℕ-discrete k (c .0))
+      go (awaiting k r m) w = matched k r m w (ℕ-discrete k (c .0))

@@ -7,9 +7,9 @@ use mathlib.Core.Option.{Option, none, some}
 use mathlib.Core.Logic.{inl, inr}
 use native.Mathlib.Omega.{arith}
 use Rattle.laws.specs.Mark.{Mark, known}
-use Rattle.demand.specs.Machine.{In, Machine, World, Happening, sends, handles, hears, gives-up, goes-on, jolted, sending, replying, ending, after, start}
-use Rattle.demand.specs.Machine.{Trace, still, more, Calm, Quiet}
-use Rattle.demand.specs.Rules.{asks, busy, Topic, Saying, Exchange, Customer, ExchangeLaws, CustomerLaws, Fresh, messages, numbered, answering}
+use Rattle.demand.specs.Machine.{In, Machine, World, Happening, sends-up, handles, comes-down, gives-up, goes-on, jolted, sending, replying, ending, after, start}
+use Rattle.demand.specs.Machine.{Trace, still, further, Calm, Quiet}
+use Rattle.demand.specs.Rules.{asks-for, awaiting, Topic, Saying, Exchange, Customer, ExchangeLaws, CustomerLaws, Fresh, messages, numbered, answering}
 use Rattle.demand.specs.Codec.{Octets, Wire, octets, written, Wired}
 use Rattle.demand.proofs.Demand3 as D
 use Rattle.demand.proofs.Demand3.{Holds}
@@ -27,7 +27,7 @@ map-in f (x ∷ l) a (inr i) = inr (map-in f l a i)
 -- one run after another
 pub joined : (M : Machine) {a b c : World M} → Trace M a b → Trace M b c → Trace M a c
 joined M first still = first
-joined M first (more q v) = more (joined M first q) v
+joined M first (further q v) = further (joined M first q) v
 
 module _ (S : Topic) (X : Exchange S) (C : Customer S) (W : Wire S X C) where
   -- a moment, with its messages written out
@@ -69,7 +69,7 @@ module _
     -- each event over octets is an event over messages, and a calm one a calm one where a request is outstanding
     abbrev Calms : (w : World (messages S X C)) (y : World (octets S X C W)) → Happening (octets S X C W) y → Happening (messages S X C) w → Type 0
     Calms w y v u =
-        (n : ℕ) (r : S .Req) (m : Mark) → C .waiting (w .end) ≡ busy n r m → Calm (octets S X C W) (W .Matching n r) v →
+        (n : ℕ) (r : S .Req) (m : Mark) → C .waiting (w .end) ≡ awaiting n r m → Calm (octets S X C W) (W .Matching n r) v →
         Calm (messages S X C) (D.Matching S X C LX LC n) u
 
     abbrev Follows : (w : World (messages S X C)) (y : World (octets S X C W)) → Happening (octets S X C W) y → Type 0
@@ -78,8 +78,8 @@ module _
 
     follows : (w : World (messages S X C)) → Holds S X C w → (v : Happening (octets S X C W) (spelt S X C W w)) → Follows w (spelt S X C W w) v
     unfolding after ending spelt
-    follows w h (sends room r) = (
-      sends room r,
+    follows w h (sends-up room r) = (
+      sends-up room r,
       ap (sending (octets S X C W) (spelt S X C W w)) (K .sends room (w .end) r (h .sound)) ∙ sent-spelt w r (C .send room (w .end) r),
       λ n q m p k. k,
     )
@@ -91,10 +91,10 @@ module _
               ∙ handled-spelt w (z .0 .0) (X .enough room) (X .serve (w .table) (z .0 .0) (z .0 .1)),
           λ n q m p k. k,
         )
-    follows w h (hears c i) =
+    follows w h (comes-down c i) =
         let z = in-map (λ c. W .reply (c .0) (c .1)) (w .down) c i in
         let g = h .proper (z .0) (z .1) in (
-          hears (z .0) (z .1),
+          comes-down (z .0) (z .1),
           ap (ending (octets S X C W) (spelt S X C W w))
               (ap (W .receive (w .end)) (z .2) ∙ K .receives (w .end) (z .0 .0) (z .0 .1) (g .0) (h .sound) (g .2)),
           λ n r m p k q.
@@ -115,16 +115,16 @@ module _
     abbrev Traced : (w : World (messages S X C)) {from to : World (octets S X C W)} → Trace (octets S X C W) from to → Type 0
     Traced w {from} {to} q =
         (x : World (messages S X C)) × (p : Trace (messages S X C) w x) × (to ≡ spelt S X C W x) ×
-        ((n : ℕ) (r : S .Req) (m : Mark) → C .waiting (w .end) ≡ busy n r m → Quiet (octets S X C W) (W .Matching n r) q →
+        ((n : ℕ) (r : S .Req) (m : Mark) → C .waiting (w .end) ≡ awaiting n r m → Quiet (octets S X C W) (W .Matching n r) q →
         Quiet (messages S X C) (D.Matching S X C LX LC n) p)
 
     traced : (w : World (messages S X C)) → Holds S X C w → {to : World (octets S X C W)} (q : Trace (octets S X C W) (spelt S X C W w) to) → Traced w q
     traced w h still = (w, still, refl, λ n r m p k. k)
-    traced w h (more {w = y} q v) =
+    traced w h (further {w = y} q v) =
         let z = traced w h q in
         let u = follows-at (z .0) (D.runs S X C LX LC (z .1) h) y (z .2) v in (
           after (messages S X C) (z .0) (u .0),
-          more (z .1) (u .0),
+          further (z .1) (u .0),
           u .1,
           λ n r m p k.
               let before = z .3 n r m p (k .0) in
@@ -169,12 +169,12 @@ module _
     -- the second sentence, from a moment w₁ at which the exchange handles the interrogation n and replies with a
     abbrev pub Second : World (octets S X C W) → Type 0
     Second w₁ =
-        (n : ℕ) (r : S .Req) (m : Mark) (P : S .Proc) → S .about r ≡ asks P → S .Allows P → C .waiting (w₁ .end) ≡ busy n r m →
+        (n : ℕ) (r : S .Req) (m : Mark) (P : S .Proc) → S .about r ≡ asks-for P → S .Allows P → C .waiting (w₁ .end) ≡ awaiting n r m →
         (i : In (W .request n r) (w₁ .up)) → X .last (w₁ .table) < n → (room : S .Room) → X .enough room ≡ true →
         (w₂ : World (octets S X C W)) (q : Trace (octets S X C W) (after (octets S X C W) w₁ (handles room (W .request n r) i)) w₂) →
         Quiet (octets S X C W) (W .Matching n r) q →
         (a : Octets) → W .handle room (w₁ .table) (W .request n r) .1 ≡ some a →
-        (j : In a (w₂ .down)) × (C .mark (after (octets S X C W) w₂ (hears a j) .end) P ≡ known)
+        (j : In a (w₂ .down)) × (C .mark (after (octets S X C W) w₂ (comes-down a j) .end) P ≡ known)
 
     handled-says :
         (t : X .Table) (n : ℕ) (b : Bool) (x : X .Table × Saying S) (a : Octets) → b ≡ true →

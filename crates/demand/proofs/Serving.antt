@@ -7,15 +7,15 @@ use native.Mathlib.Omega.{arith}
 use native.Mathlib.Decide.{ℕ-discrete, decLt}
 use Rattle.laws.specs.Mark.{Mark, known}
 use Rattle.demand.specs.Machine.{In}
-use Rattle.demand.specs.Rules.{changes, asks, done, listed, failed, rejected, WasHandled, busy, Topic, Saying, Exchange}
+use Rattle.demand.specs.Rules.{changes, asks-for, says-done, says-list, says-error, says-reject, WasHandled, awaiting, Topic, Saying, Exchange}
 use Rattle.demand.specs.Rules.{Customer, Served, Sent, ExchangeLaws, CustomerLaws}
 use Rattle.demand.proofs.Invariant.{Ups, Downs, ProperTo, Settled, Changing, Asking, Pending, Inv}
 
 module _ (S : Topic) (X : Exchange S) (C : Customer S) (LX : ExchangeLaws S X) (LC : CustomerLaws S C) where
   -- a repeated request is rejected
   repeated :
-      (t : X .Table) (e : C .End) (up : Ups S) (down : Downs S) (k : ℕ) (y : S .Problem) → ProperTo S up (k, rejected y) →
-      Inv S X C t e up down → Inv S X C t e up ((k, rejected y) ∷ down)
+      (t : X .Table) (e : C .End) (up : Ups S) (down : Downs S) (k : ℕ) (y : S .Problem) → ProperTo S up (k, says-reject y) →
+      Inv S X C t e up down → Inv S X C t e up ((k, says-reject y) ∷ down)
   repeated t e up down k y g v = record {
     good = v .good;
     sound = v .sound;
@@ -31,22 +31,22 @@ module _ (S : Topic) (X : Exchange S) (C : Customer S) (LX : ExchangeLaws S X) (
       one = u .one;
       changing = λ P a k. let x = u .changing P a k in record {
         unhandled = x .unhandled;
-        said-failed = λ y i. x .said-failed y (older (n, failed y) tt i);
-        said-done = λ i. x .said-done (older (n, done) tt i);
+        said-failed = λ y i. x .said-failed y (older (n, says-error y) tt i);
+        said-done = λ i. x .said-done (older (n, says-done) tt i);
       };
       asking = λ P a. let x = u .asking P a in record {
         before = x .before;
-        said-listed = λ l i. x .said-listed l (older (n, listed l) tt i);
+        said-listed = λ l i. x .said-listed l (older (n, says-list l) tt i);
         said-allowed = λ w b i a. x .said-allowed w b (older (n, b) a i) a;
       };
     };
   }
     where
-      older : (c : ℕ × Saying S) → WasHandled (c .1) → In c ((k, rejected y) ∷ down) → In c down
+      older : (c : ℕ × Saying S) → WasHandled (c .1) → In c ((k, says-reject y) ∷ down) → In c down
       older c a (inl q) = absurd (subst (λ x. WasHandled (x .1)) q a)
       older c a (inr i) = i
 
-      proper′ : (c : ℕ × Saying S) → In c ((k, rejected y) ∷ down) → ProperTo S up c
+      proper′ : (c : ℕ × Saying S) → In c ((k, says-reject y) ∷ down) → ProperTo S up c
       proper′ c (inl q) = subst (ProperTo S up) (sym q) g
       proper′ c (inr i) = v .proper c i
 
@@ -62,7 +62,7 @@ module _ (S : Topic) (X : Exchange S) (C : Customer S) (LX : ExchangeLaws S X) (
         let x = v .right P k in
         (x .0 ∙ sym (s .others P (λ a. omega (arith, x .1 c i a))), λ d j a. omega (arith, x .1 d j a, s .moves))
 
-    module _ (n : ℕ) (r : S .Req) (m : Mark) (p : C .waiting e ≡ busy n r m) where
+    module _ (n : ℕ) (r : S .Req) (m : Mark) (p : C .waiting e ≡ awaiting n r m) where
       serve-changing : (P : S .Proc) → S .about r ≡ changes P → m ≡ known → Changing S X C t′ e up ((c .0, b) ∷ down) n r P
       serve-changing P a k = go (ℕ-discrete (c .0) n)
         where
@@ -89,21 +89,21 @@ module _ (S : Topic) (X : Exchange S) (C : Customer S) (LX : ExchangeLaws S X) (
           go : Dec (c .0 ≡ n) → Changing S X C t′ e up ((c .0, b) ∷ down) n r P
           go (yes q) = record {
             unhandled = λ l. absurd (omega (arith, s .moves));
-            said-failed = λ y j. was ∙ sym (s .on-failed y (sym (late (n, failed y) tt j le .1)) P);
-            said-done = λ j T f. s .on-done (sym (late (n, done) tt j le .1)) P (rw (u .one c i q) a) T (rw (u .one c i q, ← was) f);
+            said-failed = λ y j. was ∙ sym (s .on-failed y (sym (late (n, says-error y) tt j le .1)) P);
+            said-done = λ j T f. s .on-done (sym (late (n, says-done) tt j le .1)) P (rw (u .one c i q) a) T (rw (u .one c i q, ← was) f);
           }
           go (no q) = record {
             unhandled =
                 λ l.
                 (was ∙ sym (s .others P (λ y. not-this q (x .unhandled (omega (arith, le)) .1 c i y))), λ d j y. settle d (x .unhandled (omega (arith, le)) .1 d j y));
-            said-failed = λ y j. absurd (q (sym (late (n, failed y) tt j le .0)));
-            said-done = λ j. absurd (q (sym (late (n, done) tt j le .0)));
+            said-failed = λ y j. absurd (q (sym (late (n, says-error y) tt j le .0)));
+            said-done = λ j. absurd (q (sym (late (n, says-done) tt j le .0)));
           }
 
-      serve-asking : (P : S .Proc) → S .about r ≡ asks P → Asking S X C t′ e ((c .0, b) ∷ down) n m P
+      serve-asking : (P : S .Proc) → S .about r ≡ asks-for P → Asking S X C t′ e ((c .0, b) ∷ down) n m P
       serve-asking P a = record {
         before = v .pending n r m p .asking P a .before;
-        said-listed = λ l j. let q = late (n, listed l) tt j le in
+        said-listed = λ l j. let q = late (n, says-list l) tt j le in
             rw (s .others P (other q.0)) (s .on-listed l (sym q.1) P (about′ q.0));
         said-allowed = λ w d j y. let q = late (n, d) y j le in
             let z = s .on-allowed P (about′ q.0) w in (z .0, q.1 ∙ z .1);
@@ -112,7 +112,7 @@ module _ (S : Topic) (X : Exchange S) (C : Customer S) (LX : ExchangeLaws S X) (
           le : c .0 ≤ n
           le = v .pending n r m p .top c i
 
-          about′ : n ≡ c .0 → S .about (c .1) ≡ asks P
+          about′ : n ≡ c .0 → S .about (c .1) ≡ asks-for P
           about′ q = rw (v .pending n r m p .one c i (sym q)) a
 
           other : n ≡ c .0 → ¬ (S .about (c .1) ≡ changes P)
@@ -156,7 +156,7 @@ module _ (S : Topic) (X : Exchange S) (C : Customer S) (LX : ExchangeLaws S X) (
           (LX .serve-good t (c .0) (c .1) (v .good) (v .fit c i)) (LX .serve-proper t (c .0) (c .1) (v .good) (v .fit c i))
       go (no h) =
           let q = LX .repeats t (c .0) (c .1) (v .good) (v .fit c i) (omega arith) in
-          let g : S .Proper (c .0) (c .1) (rejected (q .0)) = rw (q .1) at (LX .serve-proper t (c .0) (c .1) (v .good) (v .fit c i)) in
+          let g : S .Proper (c .0) (c .1) (says-reject (q .0)) = rw (q .1) at (LX .serve-proper t (c .0) (c .1) (v .good) (v .fit c i)) in
           rw (q .1) (repeated t e up down (c .0) (q .0) (c .1, i, g) v)
 
   -- a request is sent
@@ -212,17 +212,17 @@ module _ (S : Topic) (X : Exchange S) (C : Customer S) (LX : ExchangeLaws S X) (
         one = one′;
         changing = λ P a k. let k′ : C .mark e P ≡ known = sym (s .before-is P (inl a)) ∙ k in record {
           unhandled = λ l. (s .pics P ∙ v .right P k′ .0, waits′ P k′);
-          said-failed = λ y i. absurd (silent (failed y) tt i);
-          said-done = λ i. absurd (silent done tt i);
+          said-failed = λ y i. absurd (silent (says-error y) tt i);
+          said-done = λ i. absurd (silent says-done tt i);
         };
         asking = λ P a. record {
           before = λ k. s .asked P a ∙ (sym (s .before-is P (inr a)) ∙ k);
-          said-listed = λ l i. absurd (silent (listed l) tt i);
+          said-listed = λ l i. absurd (silent (says-list l) tt i);
           said-allowed = λ w b i y. absurd (silent b y i);
         };
       }
 
-      moved : (k : ℕ) (q : S .Req) (m : Mark) → C .waiting e′ ≡ busy k q m → Pending S X C t e′ ((n, r) ∷ up) down k q m
+      moved : (k : ℕ) (q : S .Req) (m : Mark) → C .waiting e′ ≡ awaiting k q m → Pending S X C t e′ ((n, r) ∷ up) down k q m
       moved k q m p =
           let w = s .waits in
           let a : k ≡ n = cc in

@@ -2,7 +2,7 @@
 -- Assumes nothing.
 use mathlib.Core.Path.{_≡_, refl, ap, _∙_}
 use mathlib.Core.Option.{Option, none}
-use Rattle.demand.specs.Machine.{In, Machine, World, sends, handles, hears, gives-up, sending, replying, ending, after}
+use Rattle.demand.specs.Machine.{In, Machine, World, sends-up, handles, comes-down, gives-up, sending, replying, ending, after}
 
 module _ (M : Machine) (w : World M) where
   none-sent : sending M w none ≡ w
@@ -17,7 +17,7 @@ module _ (M : Machine) (w : World M) where
   unfolding ending
   same-end = refl
 
-  pub stays-sent : (room : M .Room) (r : M .Req) → M .send room (w .end) r ≡ none → after M w (sends room r) ≡ w
+  pub stays-sent : (room : M .Room) (r : M .Req) → M .send room (w .end) r ≡ none → after M w (sends-up room r) ≡ w
   unfolding after
   stays-sent room r h = ap (sending M w) h ∙ none-sent
 
@@ -27,11 +27,11 @@ module _ (M : Machine) (w : World M) where
   unfolding after
   stays-handled room c i h = ap (λ (x : M .Table × Option (M .Down)). replying M w (x .0) (x .1)) h ∙ none-replied
 
-  pub heard-end : (c : M .Down) (i : In c (w .down)) → after M w (hears c i) .end ≡ M .receive (w .end) c
+  pub heard-end : (c : M .Down) (i : In c (w .down)) → after M w (comes-down c i) .end ≡ M .receive (w .end) c
   unfolding after ending
   heard-end c i = refl
 
-  pub stays-heard : (c : M .Down) (i : In c (w .down)) → M .receive (w .end) c ≡ w .end → after M w (hears c i) ≡ w
+  pub stays-heard : (c : M .Down) (i : In c (w .down)) → M .receive (w .end) c ≡ w .end → after M w (comes-down c i) ≡ w
   unfolding after
   stays-heard c i h = ap (ending M w) h ∙ same-end
 

@@ -38,9 +38,9 @@ pub record World (M : Machine) : Type 0 where
   pub down : List (M .Down)
 
 pub data Happening (M : Machine) (w : World M) : Type 0 where
-  sends : M .Room → M .Req → Happening M w
+  sends-up : M .Room → M .Req → Happening M w
   handles : M .Room → (c : M .Up) → In c (w .up) → Happening M w
-  hears : (c : M .Down) → In c (w .down) → Happening M w
+  comes-down : (c : M .Down) → In c (w .down) → Happening M w
   gives-up : Happening M w
   goes-on : M .Elsewhere → Happening M w
   jolted : M .Jolt → Happening M w
@@ -58,9 +58,9 @@ ending M w e = record { table = w .table; end = e; up = w .up; down = w .down }
 
 -- the moment after an event
 unfoldable pub after : (M : Machine) (w : World M) → Happening M w → World M
-after M w (sends room r) = sending M w (M .send room (w .end) r)
+after M w (sends-up room r) = sending M w (M .send room (w .end) r)
 after M w (handles room c i) = replying M w (M .handle room (w .table) c .0) (M .handle room (w .table) c .1)
-after M w (hears c i) = ending M w (M .receive (w .end) c)
+after M w (comes-down c i) = ending M w (M .receive (w .end) c)
 after M w gives-up = ending M w (M .giveUp (w .end))
 after M w (goes-on o) = replying M w (M .elsewhere (w .table) o) none
 after M w (jolted j) = ending M w (M .jolt (w .end) j)
@@ -71,13 +71,13 @@ start M t e = record { table = t; end = e; up = []; down = [] }
 -- a run from one moment to another
 pub data Trace (M : Machine) (from : World M) : World M → Type 0 where
   still : Trace M from from
-  more : {w : World M} → Trace M from w → (v : Happening M w) → Trace M from (after M w v)
+  further : {w : World M} → Trace M from w → (v : Happening M w) → Trace M from (after M w v)
 
 -- an event in which the end hears nothing that matches and neither gives up nor is jolted
 abbrev pub Calm : (M : Machine) → (M .Down → Type 0) → {w : World M} → Happening M w → Type 0
-Calm M Matching (sends room r) = Unit {0}
+Calm M Matching (sends-up room r) = Unit {0}
 Calm M Matching (handles room c i) = Unit {0}
-Calm M Matching (hears c i) = ¬ Matching c
+Calm M Matching (comes-down c i) = ¬ Matching c
 Calm M Matching gives-up = ⊥
 Calm M Matching (goes-on o) = Unit {0}
 Calm M Matching (jolted j) = ⊥
@@ -85,4 +85,4 @@ Calm M Matching (jolted j) = ⊥
 -- a run of such events
 abbrev pub Quiet : (M : Machine) → (M .Down → Type 0) → {from to : World M} → Trace M from to → Type 0
 Quiet M Matching still = Unit {0}
-Quiet M Matching (more q v) = Quiet M Matching q × Calm M Matching v
+Quiet M Matching (further q v) = Quiet M Matching q × Calm M Matching v

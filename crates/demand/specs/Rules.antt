@@ -10,30 +10,30 @@ use Rattle.demand.specs.Machine.{Machine}
 -- what a request is about: it changes a procedure (activation, deactivation), asks for one (interrogation), or neither
 pub data About (Proc : Type 0) : Type 0 where
   changes : Proc → About Proc
-  asks : Proc → About Proc
+  asks-for : Proc → About Proc
   aside : About Proc
 
 -- what a reply says: a result without a list, a result with one, an error with its value, a reject with its problem; or nothing that its
 -- shape allows
 pub data Body (Listing Problem : Type 0) : Type 0 where
-  done : Body Listing Problem
-  listed : Listing → Body Listing Problem
-  failed : ℕ → Body Listing Problem
-  rejected : Problem → Body Listing Problem
+  says-done : Body Listing Problem
+  says-list : Listing → Body Listing Problem
+  says-error : ℕ → Body Listing Problem
+  says-reject : Problem → Body Listing Problem
   garbled : Body Listing Problem
 
 -- a result or an error: the request was handled
 abbrev pub WasHandled : {L P : Type 0} → Body L P → Type 0
-WasHandled done = Unit {0}
-WasHandled (listed l) = Unit {0}
-WasHandled (failed x) = Unit {0}
-WasHandled (rejected x) = ⊥
+WasHandled says-done = Unit {0}
+WasHandled (says-list l) = Unit {0}
+WasHandled (says-error x) = Unit {0}
+WasHandled (says-reject x) = ⊥
 WasHandled garbled = ⊥
 
 -- the end's outstanding request: its identifier, itself, and its procedure's mark from before it was sent
 pub data Waiting (Req : Type 0) : Type 0 where
   idle : Waiting Req
-  busy : ℕ → Req → Mark → Waiting Req
+  awaiting : ℕ → Req → Mark → Waiting Req
 
 -- What is spoken of: procedures, what is held of one, requests, and what replies carry. `Fit` is what the end sends, `Proper` what the
 -- exchange replies to it, under an identifier.
@@ -82,11 +82,11 @@ pub record Customer (S : Topic) : Type 1 where
 pub record Served (S : Topic) (X : Exchange S) (t : X .Table) (n : ℕ) (r : S .Req) (t′ : X .Table) (b : Saying S) : Type 0 where
   pub moves : X .last t′ ≡ n
   pub others : (P : S .Proc) → ¬ (S .about r ≡ changes P) → X .held t′ P ≡ X .held t P
-  pub on-failed : (x : ℕ) → b ≡ failed x → (P : S .Proc) → X .held t′ P ≡ X .held t P
+  pub on-failed : (x : ℕ) → b ≡ says-error x → (P : S .Proc) → X .held t′ P ≡ X .held t P
   pub on-done :
-      b ≡ done → (P : S .Proc) → S .about r ≡ changes P → (T : S .Pic) → S .apply r (X .held t P) ≡ some T → T ≡ X .held t′ P
-  pub on-listed : (l : S .Listing) → b ≡ listed l → (P : S .Proc) → S .about r ≡ asks P → S .read P l ≡ some (X .held t P)
-  pub on-allowed : (P : S .Proc) → S .about r ≡ asks P → S .Allows P → (l : S .Listing) × (b ≡ listed l)
+      b ≡ says-done → (P : S .Proc) → S .about r ≡ changes P → (T : S .Pic) → S .apply r (X .held t P) ≡ some T → T ≡ X .held t′ P
+  pub on-listed : (l : S .Listing) → b ≡ says-list l → (P : S .Proc) → S .about r ≡ asks-for P → S .read P l ≡ some (X .held t P)
+  pub on-allowed : (P : S .Proc) → S .about r ≡ asks-for P → S .Allows P → (l : S .Listing) × (b ≡ says-list l)
 
 -- the end sends a request under the identifier n
 pub record Sent (S : Topic) (C : Customer S) (e : C .End) (r : S .Req) (e′ : C .End) (n : ℕ) : Type 0 where
@@ -94,11 +94,11 @@ pub record Sent (S : Topic) (C : Customer S) (e : C .End) (r : S .Req) (e′ : C
   pub new : C .next e ≤ n
   pub used : n < C .next e′
   pub before : Mark
-  pub waits : C .waiting e′ ≡ busy n r before
-  pub before-is : (P : S .Proc) → (S .about r ≡ changes P) ⊎ (S .about r ≡ asks P) → before ≡ C .mark e P
+  pub waits : C .waiting e′ ≡ awaiting n r before
+  pub before-is : (P : S .Proc) → (S .about r ≡ changes P) ⊎ (S .about r ≡ asks-for P) → before ≡ C .mark e P
   pub pics : (P : S .Proc) → C .pic e′ P ≡ C .pic e P
   pub stays : (P : S .Proc) → C .mark e′ P ≡ known → (C .mark e P ≡ known) × ¬ (S .about r ≡ changes P)
-  pub asked : (P : S .Proc) → S .about r ≡ asks P → C .mark e′ P ≡ C .mark e P
+  pub asked : (P : S .Proc) → S .about r ≡ asks-for P → C .mark e′ P ≡ C .mark e P
   pub fits : S .Fit n r
 
 -- the end closes what was outstanding and knows no more than before: giving up, a jolt
@@ -109,21 +109,21 @@ pub record Shed (S : Topic) (C : Customer S) (e e′ : C .End) : Type 0 where
 
 -- why a procedure is known after the reply (n, b)
 pub data Why (S : Topic) (C : Customer S) (e : C .End) (n : ℕ) (b : Saying S) (e′ : C .End) (P : S .Proc) : Type 0 where
-  kept : C .mark e P ≡ known → C .pic e′ P ≡ C .pic e P → Why S C e n b e′ P
-  restored :
-      (r : S .Req) (x : ℕ) → C .waiting e ≡ busy n r known → (S .about r ≡ changes P) ⊎ (S .about r ≡ asks P) → b ≡ failed x →
+  was-known : C .mark e P ≡ known → C .pic e′ P ≡ C .pic e P → Why S C e n b e′ P
+  by-error :
+      (r : S .Req) (x : ℕ) → C .waiting e ≡ awaiting n r known → (S .about r ≡ changes P) ⊎ (S .about r ≡ asks-for P) → b ≡ says-error x →
       C .pic e′ P ≡ C .pic e P → Why S C e n b e′ P
-  applied :
-      (r : S .Req) → C .waiting e ≡ busy n r known → S .about r ≡ changes P → b ≡ done →
+  by-result :
+      (r : S .Req) → C .waiting e ≡ awaiting n r known → S .about r ≡ changes P → b ≡ says-done →
       S .apply r (C .pic e P) ≡ some (C .pic e′ P) → Why S C e n b e′ P
-  learned :
-      (r : S .Req) (m : Mark) (l : S .Listing) → C .waiting e ≡ busy n r m → S .about r ≡ asks P → b ≡ listed l →
+  by-list :
+      (r : S .Req) (m : Mark) (l : S .Listing) → C .waiting e ≡ awaiting n r m → S .about r ≡ asks-for P → b ≡ says-list l →
       S .read P l ≡ some (C .pic e′ P) → Why S C e n b e′ P
 
 pub record ExchangeLaws (S : Topic) (X : Exchange S) : Type 0 where
   pub repeats :
       (t : X .Table) (n : ℕ) (r : S .Req) → X .Good t → S .Fit n r → n ≤ X .last t →
-      (x : S .Problem) × (X .serve t n r ≡ (t, rejected x))
+      (x : S .Problem) × (X .serve t n r ≡ (t, says-reject x))
   pub serves :
       (t : X .Table) (n : ℕ) (r : S .Req) → X .Good t → S .Fit n r → X .last t < n →
       Served S X t n r (X .serve t n r .0) (X .serve t n r .1)
@@ -137,12 +137,12 @@ pub record ExchangeLaws (S : Topic) (X : Exchange S) : Type 0 where
 module _ (S : Topic) (C : Customer S) (e : C .End) (n : ℕ) (b : Saying S) where
   pub record Hit (r : S .Req) (m : Mark) : Type 0 where
     pub sound : C .Sound e
-    pub waits : C .waiting e ≡ busy n r m
+    pub waits : C .waiting e ≡ awaiting n r m
     pub proper : S .Proper n r b
 
   pub record Miss (r : S .Req) : Type 0 where
     pub sound : C .Sound e
-    pub other : (q : S .Req) (m : Mark) → ¬ (C .waiting e ≡ busy n q m)
+    pub other : (q : S .Req) (m : Mark) → ¬ (C .waiting e ≡ awaiting n q m)
     pub proper : S .Proper n r b
 
 pub record CustomerLaws (S : Topic) (C : Customer S) : Type 0 where
@@ -158,8 +158,8 @@ pub record CustomerLaws (S : Topic) (C : Customer S) : Type 0 where
   pub hear-closes : (e : C .End) (n : ℕ) (b : Saying S) (r : S .Req) (m : Mark) → Hit S C e n b r m → C .waiting (C .hear e n b) ≡ idle
   pub hear-drops : (e : C .End) (n : ℕ) (b : Saying S) (r : S .Req) → Miss S C e n b r → C .hear e n b ≡ e
   pub hear-learns :
-      (e : C .End) (n : ℕ) (l : S .Listing) (r : S .Req) (m : Mark) → Hit S C e n (listed l) r m →
-      (P : S .Proc) (T : S .Pic) → S .about r ≡ asks P → S .read P l ≡ some T → C .mark (C .hear e n (listed l)) P ≡ known
+      (e : C .End) (n : ℕ) (l : S .Listing) (r : S .Req) (m : Mark) → Hit S C e n (says-list l) r m →
+      (P : S .Proc) (T : S .Pic) → S .about r ≡ asks-for P → S .read P l ≡ some T → C .mark (C .hear e n (says-list l)) P ≡ known
   pub hear-sound : (e : C .End) (n : ℕ) (b : Saying S) → C .Sound e → C .Sound (C .hear e n b)
   pub give-up : (e : C .End) → C .Sound e → Shed S C e (C .giveUp e)
   pub give-up-sound : (e : C .End) → C .Sound e → C .Sound (C .giveUp e)

@@ -36,7 +36,7 @@ use Rattle.end.proofs.Goods.{reached-good, reached-marks}
 use Rattle.end.proofs.Dropped.{dropped-stays, idle-dropped}
 use Rattle.end.proofs.Closings.{Closed, takes-closes, gives-closes, list-known, Asks, sends-asks}
 use Rattle.demand.specs.Rules as rules
-use Rattle.demand.specs.Rules.{listed, idle, busy, Sent, Shed, Why, Hit, Miss, CustomerLaws}
+use Rattle.demand.specs.Rules.{says-list, idle, awaiting, Sent, Shed, Why, Hit, Miss, CustomerLaws}
 use Rattle.promise.specs.Demand.{Asking, sized}
 use Rattle.promise.proofs.DemandLists.{heldOf}
 use Rattle.rules.proofs.Tidied.{Sized}
@@ -88,20 +88,20 @@ module _ (access : List ℕ) (ok : accessRead access .ok ≡ true) where
         (core-closes access ok e (hit .sound) (is .waits) b fits)
 
   hear-learns :
-      (e : End) (n : ℕ) (l : List Entry) (a : Asking) (m : Mark) → Hit (topic access) (customer access) e n (listed l) a m →
-      (o : ℕ) (T : List Instance) → aboutOf a ≡ rules.asks o → readOn p o (tidyEntries l) ≡ some T →
-      markOf (markAt o (takes access e (saidOctets n (listed l)) .end .marks)) ≡ known
+      (e : End) (n : ℕ) (l : List Entry) (a : Asking) (m : Mark) → Hit (topic access) (customer access) e n (says-list l) a m →
+      (o : ℕ) (T : List Instance) → aboutOf a ≡ rules.asks-for o → readOn p o (tidyEntries l) ≡ some T →
+      markOf (markAt o (takes access e (saidOctets n (says-list l)) .end .marks)) ≡ known
   hear-learns e n l a m hit o T about read =
-      let w = is e n (listed l) a m hit in
-      let fit = fits e n (listed l) a m hit in
+      let w = is e n (says-list l) a m hit in
+      let fit = fits e n (says-list l) a m hit in
       let own : e .request .procedure ≡ o = ap (λ (x : Asking). x .request .procedure) (w .asks) ∙ asks-is a o about .1 in
       let back = fit .back .2 in
       let list = read-good p (e .request .procedure) (tidyEntries l) T (ap (λ k. readOn p k (tidyEntries l)) own ∙ read) in
       let good = reached-good access ok e (hit .sound .way) in
-      subst (λ k. markOf (markAt o (takes access e (saidOctets k (listed l)) .end .marks)) ≡ known) (w .used)
-      (subst (λ q. markOf (markAt q (takes access e (saidOctets (e .used) (listed l)) .end .marks)) ≡ known) own
+      subst (λ k. markOf (markAt o (takes access e (saidOctets k (says-list l)) .end .marks)) ≡ known) (w .used)
+      (subst (λ q. markOf (markAt q (takes access e (saidOctets (e .used) (says-list l)) .end .marks)) ≡ known) own
       (known-mark _
-      (list-known access e ok good (w .waits) (saidOctets (e .used) (listed l)) (fit .short)
+      (list-known access e ok good (w .waits) (saidOctets (e .used) (says-list l)) (fit .short)
       (reached-marks access e (hit .sound .way)) (back .at) (back .end) (tidyEntries l) (back .end) (back .is) (back .entries) list)))
 
   hear-drops :
@@ -112,7 +112,7 @@ module _ (access : List ℕ) (ok : accessRead access .ok ≡ true) where
       let waits = eqb-true (e .outstanding) 1 t in
       let other : pos n ≡ pos (e .used) → ⊥ =
       λ same. miss .other (asking (e .operation) (e .request)) (markOf (e .before))
-      (waits-busy e waits ∙ ap (λ k. busy k (asking (e .operation) (e .request)) (markOf (e .before))) (sym (pos-same same))) in
+      (waits-busy e waits ∙ ap (λ k. awaiting k (asking (e .operation) (e .request)) (markOf (e .before))) (sym (pos-same same))) in
       dropped-stays access e (saidOctets n b)
       (one-identifier (pos n) (pos (e .used)) (a .operation) (e .operation) (saidOctets n b) other
       (not-dropped n (a .operation) (saidOctets n b) b (miss .proper .back))))
@@ -184,9 +184,9 @@ module _ (access : List ℕ) (ok : accessRead access .ok ≡ true) where
         before = markOf (markAt (a .request .procedure) (e .marks));
         waits =
             waits-busy (d .end) (asks .outstanding)
-            ∙ (ap (λ x. busy (d .end .used) x (markOf (d .end .before)))
+            ∙ (ap (λ x. awaiting (d .end .used) x (markOf (d .end .before)))
             (ap (λ o. asking o (d .end .request)) (asks .operation) ∙ ap (asking (a .operation)) (asks .request))
-            ∙ ap (λ k. busy (d .end .used) a (markOf k)) (asks .before));
+            ∙ ap (λ k. awaiting (d .end .used) a (markOf k)) (asks .before));
         before-is = λ o h. ap (λ q. markOf (markAt q (e .marks))) (⊎-elim (λ c. changes-is a o c .1) (λ c. asks-is a o c .1) h);
         pics = λ o. ap (λ (u : Run). heldOf o (instancesOf u)) (sends-picture access (a .operation) (a .request) e size);
         stays = stays;

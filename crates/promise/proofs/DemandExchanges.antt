@@ -53,7 +53,7 @@ use Rattle.exchange.proofs.Arrivals.{done-short, done-answers}
 use Rattle.exchange.proofs.Nexts.{reply-fits, next-good, run-held, applied-holds}
 use Rattle.end.specs.declared.end.End.{End}
 use Rattle.demand.specs.Rules as rules
-use Rattle.demand.specs.Rules.{failed, rejected, Served, ExchangeLaws, answering}
+use Rattle.demand.specs.Rules.{says-error, says-reject, Served, ExchangeLaws, answering}
 use Rattle.promise.specs.AnswerBack.{SaysBack}
 use Rattle.promise.specs.Demand.{Asking, goesDown, sentDown, WholeAllowed}
 use Rattle.promise.proofs.AnswerBack.{known-sent, request-answered}
@@ -208,8 +208,8 @@ module _ (access : List ℕ) (ok : accessRead access .ok ≡ true) (counted : ac
       moves = after-moves p n (t .last) counted;
       others = λ o h. refl;
       on-failed = λ y h o. refl;
-      on-done = λ h. absurd (clash {x = failed error} {y = rules.done} (λ z. cc) h);
-      on-listed = λ l h. absurd (clash {x = failed error} {y = rules.listed l} (λ z. cc) h);
+      on-done = λ h. absurd (clash {x = says-error error} {y = rules.says-done} (λ z. cc) h);
+      on-listed = λ l h. absurd (clash {x = says-error error} {y = rules.says-list l} (λ z. cc) h);
       on-allowed = λ o h w.
           let z = asks-is a o h in
           absurd (clash {x = none} {y = some error} (λ z. cc) (sym (allowed (z .0) (subst (WholeAllowed p) (sym (z .1)) w)) ∙ j));
@@ -222,8 +222,8 @@ module _ (access : List ℕ) (ok : accessRead access .ok ≡ true) (counted : ac
         record {
           moves = after-moves p n (t .last) counted;
           others = λ o h. refl;
-          on-failed = λ x h. absurd (clash {x = rules.listed es} {y = failed x} (λ z. cc) h);
-          on-done = λ h. absurd (clash {x = rules.listed es} {y = rules.done} (λ z. cc) h);
+          on-failed = λ x h. absurd (clash {x = rules.says-list es} {y = says-error x} (λ z. cc) h);
+          on-done = λ h. absurd (clash {x = rules.says-list es} {y = rules.says-done} (λ z. cc) h);
           on-listed = λ l h o k.
               let z : r .procedure ≡ o = asks-is a o k .1 in
               let y : es ≡ l = cc in
@@ -250,7 +250,7 @@ module _ (access : List ℕ) (ok : accessRead access .ok ≡ true) (counted : ac
           others = λ o h.
               ap (heldOf o) holds
               ∙ C.changed-others p read op o is (λ z. h (P.about-changes a (ne-eqb op interrogation other) ∙ ap rules.changes (sym z)));
-          on-failed = λ x h. absurd (clash {x = rules.done} {y = failed x} (λ z. cc) h);
+          on-failed = λ x h. absurd (clash {x = rules.says-done} {y = says-error x} (λ z. cc) h);
           on-done = λ h o k T y.
               let z : r .procedure ≡ o = changes-is a o k .1 in
               let v : T ≡ heldOf (r .procedure) (changed p op r is) =
@@ -258,7 +258,7 @@ module _ (access : List ℕ) (ok : accessRead access .ok ≡ true) (counted : ac
               v
               ∙ (sym (C.changed-tidied p op r (fit .goes) (fit .sizes) 0 is (held .ascends))
               ∙ (ap (heldOf (r .procedure)) (sym holds) ∙ ap (λ w. heldOf w now) z));
-          on-listed = λ l h. absurd (clash {x = rules.done} {y = rules.listed l} (λ z. cc) h);
+          on-listed = λ l h. absurd (clash {x = rules.says-done} {y = rules.says-list l} (λ z. cc) h);
           on-allowed = λ o h w. absurd (other (asks-is a o h .0));
         }
       where

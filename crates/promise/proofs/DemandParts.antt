@@ -42,7 +42,7 @@ use Rattle.end.specs.Taking.{takes, givesUp}
 use Rattle.end.specs.declared.end.End.{End}
 use Rattle.end.proofs.Goods.{Reached}
 use Rattle.demand.specs.Rules as rules
-use Rattle.demand.specs.Rules.{About, Body, listed, failed, rejected, garbled, Waiting, idle, busy, Topic, Exchange, Customer}
+use Rattle.demand.specs.Rules.{About, Body, says-list, says-error, says-reject, garbled, Waiting, idle, awaiting, Topic, Exchange, Customer}
 use Rattle.demand.specs.Codec.{Wire}
 use Rattle.promise.specs.AnswerBack.{SaysBack}
 use Rattle.promise.specs.Demand.{Asking, sized, sentUp, sentDown, WholeAllowed}
@@ -56,7 +56,7 @@ abbrev pub asking : ℕ → Request → Asking
 asking operation r = record { operation = operation; request = r }
 
 abbrev pub aboutOf : Asking → About ℕ
-aboutOf a = pick (eqb (a .operation) interrogation) (rules.asks (a .request .procedure)) (rules.changes (a .request .procedure))
+aboutOf a = pick (eqb (a .operation) interrogation) (rules.asks-for (a .request .procedure)) (rules.changes (a .request .procedure))
 
 abbrev granted : {A : Type 0} → Option ℕ → A → Option A
 granted none x = some x
@@ -73,17 +73,17 @@ Said = Body (List Entry) Problem
 
 -- the answer of the identifier n that says it, and its entries
 abbrev pub answerOf : ℕ → Said → Answer
-answerOf n rules.done = answer.Result (pos n)
-answerOf n (listed es) = answer.Listing (pos n)
-answerOf n (failed value) = answer.Error (pos n) value
-answerOf n (rejected problem) = answer.Reject (Own (pos n)) problem
+answerOf n rules.says-done = answer.Result (pos n)
+answerOf n (says-list es) = answer.Listing (pos n)
+answerOf n (says-error value) = answer.Error (pos n) value
+answerOf n (says-reject problem) = answer.Reject (Own (pos n)) problem
 answerOf n garbled = answer.Silence
 
 abbrev pub entriesSaid : Said → List Entry
-entriesSaid rules.done = []
-entriesSaid (listed es) = es
-entriesSaid (failed value) = []
-entriesSaid (rejected problem) = []
+entriesSaid rules.says-done = []
+entriesSaid (says-list es) = es
+entriesSaid (says-error value) = []
+entriesSaid (says-reject problem) = []
 entriesSaid garbled = []
 
 abbrev pub saidOctets : ℕ → Said → List ℕ
@@ -92,10 +92,10 @@ saidOctets n b = answerOctets (answerOf n b) (entriesSaid b)
 -- and what an answer says
 abbrev pub saidBy : Answer → List Entry → Said
 saidBy answer.Silence es = garbled
-saidBy (answer.Reject whose problem) es = rejected problem
-saidBy (answer.Error identifier value) es = failed value
-saidBy (answer.Result identifier) es = rules.done
-saidBy (answer.Listing identifier) es = listed es
+saidBy (answer.Reject whose problem) es = says-reject problem
+saidBy (answer.Error identifier value) es = says-error value
+saidBy (answer.Result identifier) es = rules.says-done
+saidBy (answer.Listing identifier) es = says-list es
 
 -- a request that the end sends under the identifier n
 pub record Fit (n : ℕ) (a : Asking) : Type 0 where
@@ -114,7 +114,7 @@ abbrev pub markOf : ℕ → Mark
 markOf mark = pick (eqb mark (markNo known)) known doubt
 
 unfoldable pub waitingOf : End → Waiting Asking
-waitingOf e = pick (eqb (e .outstanding) 1) (busy (e .used) (asking (e .operation) (e .request)) (markOf (e .before))) idle
+waitingOf e = pick (eqb (e .outstanding) 1) (awaiting (e .used) (asking (e .operation) (e .request)) (markOf (e .before))) idle
 
 abbrev pub numberUp : End → Told (Unit {0}) → Option (End × ℕ)
 numberUp e (refuses number) = none
@@ -207,33 +207,33 @@ pub known-mark : (mark : ℕ) → mark ≡ markNo known → markOf mark ≡ know
 known-mark mark h = rw (eq-eqb mark (markNo known) h)
 
 module _ (a : Asking) where
-  pub about-asks : a .operation ≡ interrogation → aboutOf a ≡ rules.asks (a .request .procedure)
+  pub about-asks : a .operation ≡ interrogation → aboutOf a ≡ rules.asks-for (a .request .procedure)
   about-asks h = rw (eq-eqb (a .operation) interrogation h)
 
   pub about-changes : eqb (a .operation) interrogation ≡ false → aboutOf a ≡ rules.changes (a .request .procedure)
   about-changes h = rw h
 
-  pub about-one : (aboutOf a ≡ rules.changes (a .request .procedure)) ⊎ (aboutOf a ≡ rules.asks (a .request .procedure))
+  pub about-one : (aboutOf a ≡ rules.changes (a .request .procedure)) ⊎ (aboutOf a ≡ rules.asks-for (a .request .procedure))
   about-one =
       by-bool _ (eqb (a .operation) interrogation)
       (λ h. inr (about-asks (eqb-true (a .operation) interrogation h))) (λ h. inl (about-changes h))
 
   -- what is about asking is an interrogation, of that procedure
-  pub asks-is : (P : ℕ) → aboutOf a ≡ rules.asks P → (a .operation ≡ interrogation) × (a .request .procedure ≡ P)
+  pub asks-is : (P : ℕ) → aboutOf a ≡ rules.asks-for P → (a .operation ≡ interrogation) × (a .request .procedure ≡ P)
   asks-is P h =
       by-bool _ (eqb (a .operation) interrogation)
       (λ e.
       let o = eqb-true (a .operation) interrogation e in
-      let z : rules.asks (a .request .procedure) ≡ rules.asks P = sym (about-asks o) ∙ h in
+      let z : rules.asks-for (a .request .procedure) ≡ rules.asks-for P = sym (about-asks o) ∙ h in
       (o, cc))
-      (λ e. absurd (clash {x = rules.changes (a .request .procedure)} {y = rules.asks P} (λ z. cc) (sym (about-changes e) ∙ h)))
+      (λ e. absurd (clash {x = rules.changes (a .request .procedure)} {y = rules.asks-for P} (λ z. cc) (sym (about-changes e) ∙ h)))
 
   pub changes-is : (P : ℕ) → aboutOf a ≡ rules.changes P → (a .operation ≡ interrogation → ⊥) × (a .request .procedure ≡ P)
   changes-is P h =
       by-bool _ (eqb (a .operation) interrogation)
       (λ e.
       let o = eqb-true (a .operation) interrogation e in
-      absurd (clash {x = rules.asks (a .request .procedure)} {y = rules.changes P} (λ z. cc) (sym (about-asks o) ∙ h)))
+      absurd (clash {x = rules.asks-for (a .request .procedure)} {y = rules.changes P} (λ z. cc) (sym (about-asks o) ∙ h)))
       (λ e.
       let z : rules.changes (a .request .procedure) ≡ rules.changes P = sym (about-changes e) ∙ h in
       (eqb-false (a .operation) interrogation e, cc))
@@ -243,7 +243,7 @@ module _ (e : End) where
   unfolding waitingOf
   waits-idle free = rw (ne-eqb (e .outstanding) 1 free)
 
-  pub waits-busy : e .outstanding ≡ 1 → waitingOf e ≡ busy (e .used) (asking (e .operation) (e .request)) (markOf (e .before))
+  pub waits-busy : e .outstanding ≡ 1 → waitingOf e ≡ awaiting (e .used) (asking (e .operation) (e .request)) (markOf (e .before))
   unfolding waitingOf
   waits-busy waits = rw (eq-eqb (e .outstanding) 1 waits)
 
@@ -253,15 +253,15 @@ module _ (e : End) where
     pub asks : asking (e .operation) (e .request) ≡ a
     pub before : markOf (e .before) ≡ m
 
-  pub busy-is : (n : ℕ) (a : Asking) (m : Mark) → waitingOf e ≡ busy n a m → Busy n a m
+  pub busy-is : (n : ℕ) (a : Asking) (m : Mark) → waitingOf e ≡ awaiting n a m → Busy n a m
   busy-is n a m h =
       by-bool (Busy n a m) (eqb (e .outstanding) 1)
       (λ t.
       let w = eqb-true (e .outstanding) 1 t in
-      let z : busy (e .used) (asking (e .operation) (e .request)) (markOf (e .before)) ≡ busy n a m = sym (waits-busy w) ∙ h in
+      let z : awaiting (e .used) (asking (e .operation) (e .request)) (markOf (e .before)) ≡ awaiting n a m = sym (waits-busy w) ∙ h in
       record { waits = w; used = cc; asks = ap asked z; before = cc })
-      (λ t. absurd (clash {x = idle} {y = busy n a m} (λ z. cc) (sym (waits-idle (eqb-false (e .outstanding) 1 t)) ∙ h)))
+      (λ t. absurd (clash {x = idle} {y = awaiting n a m} (λ z. cc) (sym (waits-idle (eqb-false (e .outstanding) 1 t)) ∙ h)))
     where
       asked : Waiting Asking → Asking
       asked idle = a
-      asked (busy k x o) = x
+      asked (awaiting k x o) = x

@@ -45,7 +45,7 @@ use Rattle.end.proofs.Others.{changed-held, replaced-held, takes-others}
 use Rattle.end.proofs.Goods.{reached-good}
 use Rattle.end.proofs.Closings.{reply-closes}
 use Rattle.demand.specs.Rules as rules
-use Rattle.demand.specs.Rules.{listed, failed, rejected, garbled, idle, busy, Why}
+use Rattle.demand.specs.Rules.{says-list, says-error, says-reject, garbled, idle, awaiting, Why}
 use Rattle.promise.specs.AnswerBack.{SaysBack}
 use Rattle.promise.specs.Demand.{Asking}
 use Rattle.promise.proofs.DemandLists.{heldOf}
@@ -90,30 +90,30 @@ module _ (n o : ℕ) (s : List ℕ) where
   Back b = SaysBack (pos n) o s (answerOf n b) (entriesSaid b)
 
   pub not-dropped : (b : Said) → Back b → reply (pos n) o s ≡ Dropped → ⊥
-  not-dropped rules.done h d = omega (arith, ap kind (sym (h .2) ∙ d))
-  not-dropped (listed es) h d = omega (arith, ap kind (sym (h .2 .is) ∙ d))
-  not-dropped (failed value) h d = omega (arith, ap kind (sym (h .1) ∙ d))
-  not-dropped (rejected problem) h d = omega (arith, ap kind (sym (h .1) ∙ d))
+  not-dropped rules.says-done h d = omega (arith, ap kind (sym (h .2) ∙ d))
+  not-dropped (says-list es) h d = omega (arith, ap kind (sym (h .2 .is) ∙ d))
+  not-dropped (says-error value) h d = omega (arith, ap kind (sym (h .1) ∙ d))
+  not-dropped (says-reject problem) h d = omega (arith, ap kind (sym (h .1) ∙ d))
   not-dropped garbled h d = h
 
-  is-failed : (b : Said) → Back b → (value : ℤ) → reply (pos n) o s ≡ Failed value → (x : ℕ) × (b ≡ failed x)
-  is-failed (failed x) h value d = (x, refl)
-  is-failed rules.done h value d = absurd (omega (arith, ap kind (sym (h .2) ∙ d)))
-  is-failed (listed es) h value d = absurd (omega (arith, ap kind (sym (h .2 .is) ∙ d)))
-  is-failed (rejected problem) h value d = absurd (omega (arith, ap kind (sym (h .1) ∙ d)))
+  is-failed : (b : Said) → Back b → (value : ℤ) → reply (pos n) o s ≡ Failed value → (x : ℕ) × (b ≡ says-error x)
+  is-failed (says-error x) h value d = (x, refl)
+  is-failed rules.says-done h value d = absurd (omega (arith, ap kind (sym (h .2) ∙ d)))
+  is-failed (says-list es) h value d = absurd (omega (arith, ap kind (sym (h .2 .is) ∙ d)))
+  is-failed (says-reject problem) h value d = absurd (omega (arith, ap kind (sym (h .1) ∙ d)))
   is-failed garbled h value d = absurd h
 
-  is-done : (b : Said) → Back b → reply (pos n) o s ≡ Done → (b ≡ rules.done) × ((o ≡ activation) ⊎ (o ≡ deactivation))
-  is-done rules.done h d = (refl, h .1)
-  is-done (failed x) h d = absurd (omega (arith, ap kind (sym (h .1) ∙ d)))
-  is-done (listed es) h d = absurd (omega (arith, ap kind (sym (h .2 .is) ∙ d)))
-  is-done (rejected problem) h d = absurd (omega (arith, ap kind (sym (h .1) ∙ d)))
+  is-done : (b : Said) → Back b → reply (pos n) o s ≡ Done → (b ≡ rules.says-done) × ((o ≡ activation) ⊎ (o ≡ deactivation))
+  is-done rules.says-done h d = (refl, h .1)
+  is-done (says-error x) h d = absurd (omega (arith, ap kind (sym (h .1) ∙ d)))
+  is-done (says-list es) h d = absurd (omega (arith, ap kind (sym (h .2 .is) ∙ d)))
+  is-done (says-reject problem) h d = absurd (omega (arith, ap kind (sym (h .1) ∙ d)))
   is-done garbled h d = absurd h
 
   -- a list, read as the end reads it
   record Lists (b : Said) (es : List Entry) : Type 0 where
     entries : List Entry
-    is : b ≡ listed entries
+    is : b ≡ says-list entries
     read : es ≡ tidyEntries entries
     asks : o ≡ interrogation
 
@@ -140,15 +140,15 @@ module _ (n o : ℕ) (s : List ℕ) where
   is-listed :
       (b : Said) → Back b → (at end : ℕ) (es : List Entry) (next : ℕ) → reply (pos n) o s ≡ Listed at end →
       entriesFrom instancesMost s at end ≡ got es next → Lists b es
-  is-listed (listed l) h at end es next d read =
+  is-listed (says-list l) h at end es next d read =
       let same = sym (h .2 .is) ∙ d in
       let from : entriesFrom instancesMost s at end ≡ got (tidyEntries l) (h .2 .end) =
       ap (λ k. entriesFrom instancesMost s k end) (sym (ap startOf same))
       ∙ (ap (entriesFrom instancesMost s (h .2 .at)) (sym (ap stopOf same)) ∙ h .2 .entries) in
       record { entries = l; is = refl; read = ap foundIn (sym read ∙ from); asks = h .1 }
-  is-listed rules.done h at end es next d read = absurd (omega (arith, ap kind (sym (h .2) ∙ d)))
-  is-listed (failed x) h at end es next d read = absurd (omega (arith, ap kind (sym (h .1) ∙ d)))
-  is-listed (rejected problem) h at end es next d read = absurd (omega (arith, ap kind (sym (h .1) ∙ d)))
+  is-listed rules.says-done h at end es next d read = absurd (omega (arith, ap kind (sym (h .2) ∙ d)))
+  is-listed (says-error x) h at end es next d read = absurd (omega (arith, ap kind (sym (h .1) ∙ d)))
+  is-listed (says-reject problem) h at end es next d read = absurd (omega (arith, ap kind (sym (h .1) ∙ d)))
   is-listed garbled h at end es next d read = absurd h
 
 -- ---- a reply to the outstanding request
@@ -177,8 +177,8 @@ module _ (access : List ℕ) (ok : accessRead access .ok ≡ true) where
       abbrev WhyOf : ℕ → Type 0
       WhyOf o = Why (topic access) (customer access) e (e .used) b now o
 
-      before-known : e .before ≡ markNo known → waitingOf e ≡ busy (e .used) asked known
-      before-known h = waits-busy e waits ∙ ap (busy (e .used) asked) (known-mark (e .before) h)
+      before-known : e .before ≡ markNo known → waitingOf e ≡ awaiting (e .used) asked known
+      before-known h = waits-busy e waits ∙ ap (awaiting (e .used) asked) (known-mark (e .before) h)
 
       same-pic : (o : ℕ) → now .picture ≡ e .picture → heldOf o (instancesOf (now .picture)) ≡ heldOf o held
       same-pic o h = ap (λ (u : Run). heldOf o (instancesOf u)) h
@@ -222,24 +222,24 @@ module _ (access : List ℕ) (ok : accessRead access .ok ≡ true) where
           rw (list, whole, R.replaced-held p (e .request .procedure) new held list ups)
 
       why-of : (o : ℕ) → marks.Why p e s o (takes access e s) → WhyOf o
-      why-of o (marks.refused k number told same) = rules.kept (known-mark _ k) (same-pic o (ap (λ (x : End). x .picture) same))
-      why-of o (marks.idle k free same) = rules.kept (known-mark _ k) (same-pic o (ap (λ (x : End). x .picture) same))
-      why-of o (marks.dropped k drop same) = rules.kept (known-mark _ k) (same-pic o (ap (λ (x : End). x .picture) same))
-      why-of o (marks.other k not) = rules.kept (known-mark _ k) (other-pic o not)
+      why-of o (marks.refused k number told same) = rules.was-known (known-mark _ k) (same-pic o (ap (λ (x : End). x .picture) same))
+      why-of o (marks.idle k free same) = rules.was-known (known-mark _ k) (same-pic o (ap (λ (x : End). x .picture) same))
+      why-of o (marks.dropped k drop same) = rules.was-known (known-mark _ k) (same-pic o (ap (λ (x : End). x .picture) same))
+      why-of o (marks.other k not) = rules.was-known (known-mark _ k) (other-pic o not)
       why-of o (marks.restored own _ before value is pic) =
           let x = is-failed (e .used) (e .operation) s b (fit .back) value is in
-          rules.restored asked (x .0) (before-known before)
-          (subst (λ q. (aboutOf asked ≡ rules.changes q) ⊎ (aboutOf asked ≡ rules.asks q)) (sym own) (about-one asked)) (x .1) (same-pic o pic)
+          rules.by-error asked (x .0) (before-known before)
+          (subst (λ q. (aboutOf asked ≡ rules.changes q) ⊎ (aboutOf asked ≡ rules.asks-for q)) (sym own) (about-one asked)) (x .1) (same-pic o pic)
       why-of o (marks.applies own _ before is passes pic) =
           let x = is-done (e .used) (e .operation) s b (fit .back) is in
           let not : e .operation ≡ interrogation → ⊥ = λ z. ⊎-elim (λ y. omega (arith, y, z)) (λ y. omega (arith, y, z)) (x .1) in
           subst WhyOf (sym own)
-          (rules.applied asked (before-known before) (P.about-changes asked (ne-eqb (e .operation) interrogation not)) (x .0)
+          (rules.by-result asked (before-known before) (P.about-changes asked (ne-eqb (e .operation) interrogation not)) (x .0)
           (applied-pic (x .1) passes pic))
       why-of o (marks.learns own _ at end es next is read list pic) =
           let x = is-listed (e .used) (e .operation) s b (fit .back) at end es next is read in
           subst WhyOf (sym own)
-          (rules.learned asked (markOf (e .before)) (x .entries) (waits-busy e waits) (P.about-asks asked (x .asks)) (x .is)
+          (rules.by-list asked (markOf (e .before)) (x .entries) (waits-busy e waits) (P.about-asks asked (x .asks)) (x .is)
           (ap (readOn p (e .request .procedure)) (sym (x .read)) ∙ learned-pic es list pic))
 
       pub core-why : (o : ℕ) → markOf (markAt o (now .marks)) ≡ known → WhyOf o

@@ -36,7 +36,7 @@ use Rattle.end.proofs.Goods.{begins, reached-good}
 use Rattle.end.proofs.Marks.{good-rules, sent-three}
 use Rattle.end.proofs.Shows.{known-by, shown-known}
 use Rattle.end.proofs.Closings.{sends-asks}
-use Rattle.demand.specs.Machine.{World, handles, hears, after, Trace, more}
+use Rattle.demand.specs.Machine.{World, handles, comes-down, after, Trace, further}
 use Rattle.demand.specs.Rules.{Fresh}
 use Rattle.demand.specs.Codec.{Wired, written}
 use Rattle.demand.proofs.Octets as O
@@ -167,8 +167,8 @@ module _ (access : List ℕ) (ok : accessRead access .ok ≡ true) (counted : ac
       (customer-laws access ok) wired freshTable freshEnd fresh run (e .used) asked (markOf (e .before)) procedure
       (about-asks asked (h .interrogates)) (h .allowed) (waits-busy e (h .outstanding)) (h .arrives) (h .new) size (room w size a h)
       v q quiet a (h .replies) in
-      let whole = more (joined (machine access) (more run (handles size (askedBy e) (h .arrives))) q) (hears a (known .0)) in
-      let now = after (machine access) v (hears a (known .0)) in
+      let whole = further (joined (machine access) (further run (handles size (askedBy e) (h .arrives))) q) (comes-down a (known .0)) in
+      let now = after (machine access) v (comes-down a (known .0)) in
       let good = reached-good access ok (now .end) (sound-at now whole .way) in (
         known .0,
         length (entriesShown p (now .end) procedure),

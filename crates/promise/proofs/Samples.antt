@@ -62,7 +62,7 @@ use Rattle.end.specs.Sending.{marksSent, sent, sends}
 use Rattle.end.specs.Taking.{learned, took, gaveUp, takes, givesUp}
 use Rattle.end.specs.Shown.{seenKnown, shown, entriesOut}
 use Rattle.demand.specs.Machine as machine
-use Rattle.demand.specs.Machine.{Machine, World, Trace, still, more}
+use Rattle.demand.specs.Machine.{Machine, World, Trace, still, further}
 use Rattle.promise.specs.Samples.{Sample, Each, samples, sampleAccess, activationOctets, activationOfCfb, interrogationOfCfb, activatedTable}
 use Rattle.promise.specs.Demand.{Asking, sized, machine, begin, entriesHeld, Handled}
 use Rattle.promise.specs.DemandRun.{sampleProcedure, SampleRun, SampleHandled}
@@ -194,14 +194,14 @@ w8 =
 -- each moment follows on the one before
 abbrev Follows : Type 0
 Follows =
-    (machine.after M (begin sampleAccess) (machine.sends outputLeast activates) ≡ w1)
+    (machine.after M (begin sampleAccess) (machine.sends-up outputLeast activates) ≡ w1)
     × (machine.after M w1 machine.gives-up ≡ w2)
-    × (machine.after M w2 (machine.sends outputLeast activates) ≡ w3)
+    × (machine.after M w2 (machine.sends-up outputLeast activates) ≡ w3)
     × (machine.after M w3 (machine.handles outputLeast activationOctets (inl refl)) ≡ w4)
     × (machine.after M w4 machine.gives-up ≡ w5)
-    × (machine.after M w5 (machine.sends outputLeast interrogates) ≡ w6)
+    × (machine.after M w5 (machine.sends-up outputLeast interrogates) ≡ w6)
     × (machine.after M w6 (machine.handles outputLeast thirdOctets (inl refl)) ≡ w7)
-    × (machine.after M w7 (machine.hears listingOctets (inl refl)) ≡ w8)
+    × (machine.after M w7 (machine.comes-down listingOctets (inl refl)) ≡ w8)
     × (shown sampleAccess (w8 .end) sampleProcedure ≡ tells (seenKnown 1))
     × (length (entriesOut sampleAccess (w8 .end) sampleProcedure) ≡ 1)
     × (length (entriesHeld sampleAccess (w8 .table) sampleProcedure) ≡ 1)
@@ -233,17 +233,17 @@ follows =
     (refl, refl, refl, refl, refl, refl, refl, refl, refl, refl, refl, handled)
 
 to : {u v : World M} (x : machine.Happening M u) → machine.after M u x ≡ v → Trace M (begin sampleAccess) u → Trace M (begin sampleAccess) v
-to x is run = subst (Trace M (begin sampleAccess)) is (more run x)
+to x is run = subst (Trace M (begin sampleAccess)) is (further run x)
 
 -- an activation is sent and lost, another is handled and its result lost, and an interrogation is sent
 asks : Trace M (begin sampleAccess) w6
 asks =
-    to (machine.sends outputLeast interrogates) (follows .5)
+    to (machine.sends-up outputLeast interrogates) (follows .5)
     (to machine.gives-up (follows .4)
     (to (machine.handles outputLeast activationOctets (inl refl)) (follows .3)
-    (to (machine.sends outputLeast activates) (follows .2)
+    (to (machine.sends-up outputLeast activates) (follows .2)
     (to machine.gives-up (follows .1)
-    (to (machine.sends outputLeast activates) (follows .0) still)))))
+    (to (machine.sends-up outputLeast activates) (follows .0) still)))))
 
 -- and handled
 pub sample-handled : SampleHandled
@@ -253,6 +253,6 @@ sample-handled = record { asks = w6; run = asks; result = listingOctets; handled
 pub sample-run : SampleRun
 sample-run =
     let run : Trace M (begin sampleAccess) w8 =
-    to (machine.hears listingOctets (inl refl)) (follows .7)
+    to (machine.comes-down listingOctets (inl refl)) (follows .7)
     (to (machine.handles outputLeast thirdOctets (inl refl)) (follows .6) asks) in
     record { ends = w8; run = run; sent = refl; answered = refl; known = follows .8; out = follows .9; held = follows .10 }

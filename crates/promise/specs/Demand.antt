@@ -36,7 +36,7 @@ use Rattle.end.specs.Taking.{takes, givesUp}
 use Rattle.end.specs.Shown.{seenKnown, shown, entriesOut}
 use Rattle.end.specs.declared.end.End.{End}
 use Rattle.demand.specs.Machine as events
-use Rattle.demand.specs.Machine.{In, Machine, World, handles, hears, after, start, Trace, Quiet}
+use Rattle.demand.specs.Machine.{In, Machine, World, handles, comes-down, after, start, Trace, Quiet}
 
 -- ---- the end, the exchange and the path between them
 
@@ -138,7 +138,7 @@ FirstReply access =
     (v : World (machine access)) (q : Trace (machine access) (after (machine access) w (handles size (askedBy (w .end)) (h .arrives))) v) →
     Quiet (machine access) (Replies (w .end)) q →
     (j : In a (v .down)) × (count : ℕ) ×
-    (shown access (after (machine access) v (hears a j) .end) (w .end .request .procedure) ≡ tells (seenKnown count))
+    (shown access (after (machine access) v (comes-down a j) .end) (w .end .request .procedure) ≡ tells (seenKnown count))
 
 -- ---- demand 3
 
@@ -153,7 +153,7 @@ pub record RefusedStays (access : List ℕ) : Type 0 where
   pub sending :
       (w : World (machine access)) (size : ℕ) (a : Asking) (n : ℕ) →
       sends access (a .operation) (a .request) (w .end) size .told ≡ refuses n →
-      after (machine access) w (events.sends size a) ≡ w
+      after (machine access) w (events.sends-up size a) ≡ w
   pub handling :
       (w : World (machine access)) (size : ℕ) (s : List ℕ) (i : In s (w .up)) (n : ℕ) →
       done access (w .table) s size .told ≡ refuses n →
@@ -161,7 +161,7 @@ pub record RefusedStays (access : List ℕ) : Type 0 where
   pub hearing :
       (w : World (machine access)) (s : List ℕ) (i : In s (w .down)) (n : ℕ) →
       takes access (w .end) s .told ≡ refuses n →
-      after (machine access) w (hears s i) ≡ w
+      after (machine access) w (comes-down s i) ≡ w
   pub giving :
       (w : World (machine access)) (n : ℕ) → givesUp access (w .end) .told ≡ refuses n →
       after (machine access) w events.gives-up ≡ w

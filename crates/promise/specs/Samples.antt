@@ -61,9 +61,9 @@ pub data Sample : Type 0 where
   writes-identifier : ℤ → List ℕ → Sample
   reads-groups : List ℕ → Groups → Sample
   writes-groups : ℕ → List ℕ → Sample
-  hears : List ℕ → Heard → Sample
-  asks : (operation : ℕ) → List ℕ → (at : ℕ) → Request → Sample
-  sends : (identifier : ℤ) (operation : ℕ) → Request → List ℕ → Sample
+  hears-component : List ℕ → Heard → Sample
+  reads-request : (operation : ℕ) → List ℕ → (at : ℕ) → Request → Sample
+  writes-request : (identifier : ℤ) (operation : ℕ) → Request → List ℕ → Sample
   answers : Answer → List Entry → List ℕ → Sample
   told : (identifier : ℤ) (operation : ℕ) → List ℕ → Reply → Sample
   lists-entries : List ℕ → (at end : ℕ) → List Entry → Sample
@@ -85,9 +85,9 @@ Says (reads-identifier s r) = identAt 1 s 0 (length s) ≡ r
 Says (writes-identifier z s) = identOctets z ≡ s
 Says (reads-groups s r) = groupsAt s 0 (length s) ≡ r
 Says (writes-groups n s) = groups n ≡ s
-Says (hears s r) = heard s ≡ r
-Says (asks operation s at r) = argumentAt (local (pos operation)) s at (length s) ≡ got r (length s)
-Says (sends identifier operation r s) = requestOctets identifier operation r ≡ s
+Says (hears-component s r) = heard s ≡ r
+Says (reads-request operation s at r) = argumentAt (local (pos operation)) s at (length s) ≡ got r (length s)
+Says (writes-request identifier operation r s) = requestOctets identifier operation r ≡ s
 Says (answers a es s) = answerOctets a es ≡ s
 Says (told identifier operation s r) = reply identifier operation s ≡ r
 Says (lists-entries s at end es) = entriesFrom instancesMost s at end ≡ got es end
@@ -246,14 +246,14 @@ samples =
     ∷ writes-groups 300 (0xAC ∷ 0x02 ∷ [])
     ∷ reads-groups (0x80 ∷ 0x00 ∷ []) groups.Bad
     -- the two requests, heard, read and written
-    ∷ hears interrogationOctets (heard.Asks (pos 1) (local (pos interrogation)) 8 18)
-    ∷ asks interrogation interrogationOctets 8 interrogationOfCfb
-    ∷ sends (pos 1) interrogation interrogationOfCfb interrogationOctets
-    ∷ hears activationOctets (heard.Asks (pos 2) (local (pos activation)) 8 27)
-    ∷ asks activation activationOctets 8 activationOfCfb
-    ∷ sends (pos 2) activation activationOfCfb activationOctets
+    ∷ hears-component interrogationOctets (heard.Asks (pos 1) (local (pos interrogation)) 8 18)
+    ∷ reads-request interrogation interrogationOctets 8 interrogationOfCfb
+    ∷ writes-request (pos 1) interrogation interrogationOfCfb interrogationOctets
+    ∷ hears-component activationOctets (heard.Asks (pos 2) (local (pos activation)) 8 27)
+    ∷ reads-request activation activationOctets 8 activationOfCfb
+    ∷ writes-request (pos 2) activation activationOfCfb activationOctets
     -- "empty input" is not one element
-    ∷ hears [] heard.NotOne
+    ∷ hears-component [] heard.NotOne
     -- the replies: "`A2 03 02 01 02`", the duplicate, "not subscribed, identifier 1", and that to the empty input
     ∷ answers (answer.Result (pos 2)) [] activatedOctets
     ∷ answers (answer.Reject (whose.Own (pos 2)) (problem.Invoke 0)) [] duplicateOctets
