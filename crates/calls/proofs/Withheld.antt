@@ -68,4 +68,5 @@ digits-withheld access s t u a b low one two first second =
     let p : Profile = accessRead access .profile in
     rw (one, two)
     (alike-both (not (accessRead access .ok)) _ _ _
-    (alike-both (not (callGood p s)) _ _ _ (instances-alike p (callFrom s) low (instancesOf (t .run)) (instancesOf (u .run)) a b first second)))
+    (alike-both (not (callGood p s)) _ _ _
+    (instances-alike p (callFrom s) low (instancesOf (t .run)) (instancesOf (u .run)) a b first second)))

@@ -6,7 +6,8 @@ use mathlib.Core.Bool.{Bool, true, false}
 use mathlib.Core.Logic.{inl, inr}
 use native.Mathlib.Omega.{arith}
 use Rattle.laws.specs.Mark.{Mark, known}
-use Rattle.demand.specs.Machine.{In, World, Happening, sends-up, handles, comes-down, gives-up, goes-on, jolted, sending, replying, ending, after}
+use Rattle.demand.specs.Machine.{In, World, Happening, sends-up, handles, comes-down, gives-up, goes-on, jolted, sending, replying}
+use Rattle.demand.specs.Machine.{ending, after}
 use Rattle.demand.specs.Machine.{start, Trace, still, further, Calm, Quiet}
 use Rattle.demand.specs.Rules.{asks-for, says-list, WasHandled, Waiting, idle, awaiting, Topic, Saying, Exchange, Customer, Hit}
 use Rattle.demand.specs.Rules.{ExchangeLaws, CustomerLaws, Fresh, messages, numbered, answering}
@@ -117,7 +118,8 @@ module _ (S : Topic) (X : Exchange S) (C : Customer S) (LX : ExchangeLaws S X) (
 
   pub calm :
       (w : World (messages S X C)) (v : Happening (messages S X C) w) (n : ℕ) (r : S .Req) (m : Mark) → Holds S X C w →
-      Calm (messages S X C) (Matching n) v → C .waiting (w .end) ≡ awaiting n r m → C .waiting (after (messages S X C) w v .end) ≡ awaiting n r m
+      Calm (messages S X C) (Matching n) v → C .waiting (w .end) ≡ awaiting n r m → C .waiting
+      (after (messages S X C) w v .end) ≡ awaiting n r m
   unfolding after replying ending
   calm w (sends-up room q) n r m h k p =
       sent-waits w room q (awaiting n r m) h (λ z. let y : _≡_ {A = ℕ} 0 1 = cc in omega arith) p (C .send room (w .end) q) refl
@@ -148,7 +150,8 @@ module _ (S : Topic) (X : Exchange S) (C : Customer S) (LX : ExchangeLaws S X) (
       let j : In (n, says-list (z .0)) (w .down) = subst (λ x. In (n, x) (w .down)) (z .1) i in
       let o = h .proper (n, b) i in
       let own : o .0 ≡ r = h .pending n r m p .one (n, o .0) (o .1) refl in
-      let fit : S .Proper n r (says-list (z .0)) = subst (λ q. S .Proper n q (says-list (z .0))) own (subst (S .Proper n (o .0)) (z .1) (o .2)) in
+      let fit : S .Proper n r (says-list (z .0)) = subst (λ q. S .Proper n q (says-list (z .0))) own
+      (subst (S .Proper n (o .0)) (z .1) (o .2)) in
       let hit : Hit S C (w .end) n (says-list (z .0)) r m = record { sound = h .sound; waits = p; proper = fit } in
       rw (z .1) (LC .hear-learns (w .end) n (z .0) r m hit P (X .held (w .table) P) a (k .said-listed (z .0) j))
 
@@ -170,19 +173,26 @@ module _ (S : Topic) (X : Exchange S) (C : Customer S) (LX : ExchangeLaws S X) (
   -- The second sentence: in w₁ the exchange handles the interrogation n, outstanding at the end; nothing that matches comes to the end
   -- until w₂, and it does not give up; there the exchange's reply comes.
   pub first-reply-from :
-      (w₁ : World (messages S X C)) → Holds S X C w₁ → (n : ℕ) (r : S .Req) (m : Mark) (P : S .Proc) → S .about r ≡ asks-for P → S .Allows P →
+      (w₁ : World (messages S X C)) → Holds S X C w₁ → (n : ℕ) (r : S .Req) (m : Mark)
+      (P : S .Proc) → S .about r ≡ asks-for P → S .Allows P →
       C .waiting (w₁ .end) ≡ awaiting n r m →
       (i : In (n, r) (w₁ .up)) → X .last (w₁ .table) < n → (room : S .Room) → X .enough room ≡ true →
       {w₂ :
-      World (messages S X C)} (q : Trace (messages S X C) (after (messages S X C) w₁ (handles room (n, r) i)) w₂) → Quiet (messages S X C) (Matching n) q →
+      World (messages S X C)} (q : Trace (messages S X C) (after (messages S X C) w₁ (handles room (n, r) i)) w₂) → Quiet (messages S X C)
+      (Matching n) q →
       (j :
-      In (n, X .serve (w₁ .table) n r .1) (w₂ .down)) × (C .mark (after (messages S X C) w₂ (comes-down (n, X .serve (w₁ .table) n r .1) j) .end) P ≡ known)
+      In (n, X .serve (w₁ .table) n r .1) (w₂ .down)) ×
+      (C .mark (after (messages S X C) w₂ (comes-down (n, X .serve (w₁ .table) n r .1) j) .end) P ≡ known)
   unfolding after replying ending
   first-reply-from w₁ h₁ n r m P a g p i l room y {w₂} q k =
       let h : Holds S X C (after (messages S X C) w₁ (handles room (n, r) i)) = keeps w₁ (handles room (n, r) i) h₁ in
-      let j : In (n, X .serve (w₁ .table) n r .1) (w₂ .down) = stays-under-ways q (n, X .serve (w₁ .table) n r .1) (first-down w₁ n r i room y) in
-      let z = LX .serves (w₁ .table) n r (h₁ .good) (h₁ .fit (n, r) i) l .on-allowed P a g in
-      (j, told-known w₂ (runs q h) n r m P (calms q n r m h k (first-waits w₁ n r i room ∙ p)) a g (X .serve (w₁ .table) n r .1) j (rw (z .1) tt))
+      let j : In (n, X .serve (w₁ .table) n r .1) (w₂ .down) = stays-under-ways q (n, X .serve (w₁ .table) n r .1)
+      (first-down w₁ n r i room y) in
+      let z = LX .serves (w₁ .table) n r (h₁ .good) (h₁ .fit (n, r) i) l .on-allowed P a g in (
+        j,
+        told-known w₂ (runs q h) n r m P (calms q n r m h k (first-waits w₁ n r i room ∙ p)) a g (X .serve (w₁ .table) n r .1) j
+            (rw (z .1) tt),
+      )
 
   pub first-reply-known :
       (t : X .Table) (e : C .End) → Fresh S X C t e → {w₁ : World (messages S X C)} →
@@ -190,7 +200,9 @@ module _ (S : Topic) (X : Exchange S) (C : Customer S) (LX : ExchangeLaws S X) (
       (n : ℕ) (r : S .Req) (m : Mark) (P : S .Proc) → S .about r ≡ asks-for P → S .Allows P → C .waiting (w₁ .end) ≡ awaiting n r m →
       (i : In (n, r) (w₁ .up)) → X .last (w₁ .table) < n → (room : S .Room) → X .enough room ≡ true →
       {w₂ :
-      World (messages S X C)} (q : Trace (messages S X C) (after (messages S X C) w₁ (handles room (n, r) i)) w₂) → Quiet (messages S X C) (Matching n) q →
+      World (messages S X C)} (q : Trace (messages S X C) (after (messages S X C) w₁ (handles room (n, r) i)) w₂) → Quiet (messages S X C)
+      (Matching n) q →
       (j :
-      In (n, X .serve (w₁ .table) n r .1) (w₂ .down)) × (C .mark (after (messages S X C) w₂ (comes-down (n, X .serve (w₁ .table) n r .1) j) .end) P ≡ known)
+      In (n, X .serve (w₁ .table) n r .1) (w₂ .down)) ×
+      (C .mark (after (messages S X C) w₂ (comes-down (n, X .serve (w₁ .table) n r .1) j) .end) P ≡ known)
   first-reply-known t e f {w₁} q₁ n r m P a g p i l room y q k = first-reply-from w₁ (runs q₁ (starts t e f)) n r m P a g p i l room y q k

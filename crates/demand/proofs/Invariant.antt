@@ -8,7 +8,8 @@ use native.Mathlib.Omega.{arith}
 use native.Mathlib.Decide.{ℕ-discrete}
 use Rattle.laws.specs.Mark.{Mark, known}
 use Rattle.demand.specs.Machine.{In}
-use Rattle.demand.specs.Rules.{changes, asks-for, says-done, says-list, says-error, WasHandled, Waiting, idle, awaiting, Topic, Saying, Exchange}
+use Rattle.demand.specs.Rules.{changes, asks-for, says-done, says-list, says-error, WasHandled, Waiting, idle, awaiting, Topic}
+use Rattle.demand.specs.Rules.{Saying, Exchange}
 use Rattle.demand.specs.Rules.{Customer, Shed, Why, was-known, by-error, by-result, by-list, Hit, ExchangeLaws, CustomerLaws, Fresh}
 
 abbrev pub Ups : Topic → Type 0
@@ -128,7 +129,8 @@ module _ (S : Topic) (X : Exchange S) (C : Customer S) (LX : ExchangeLaws S X) (
   above t e up down v n r m w h P c i a = omega (arith, v .pending n r m w .top c i)
 
   why :
-      (t : X .Table) (e e′ : C .End) (up : Ups S) (down : Downs S) → Inv S X C t e up down → (c : ℕ × Saying S) → In c down → (P : S .Proc) →
+      (t : X .Table) (e e′ : C .End) (up : Ups S) (down : Downs S) → Inv S X C t e up down → (c : ℕ × Saying S) → In c down →
+      (P : S .Proc) →
       Why S C e (c .0) (c .1) e′ P → (C .pic e′ P ≡ X .held t P) × Settled S X C t up P
   why t e e′ up down v c i P (was-known k s) = (s ∙ v .right P k .0, v .right P k .1)
   why t e e′ up down v c i P (by-error r x w (inl a) f s) = (

@@ -7,9 +7,11 @@ use mathlib.Core.Option.{Option, none, some}
 use mathlib.Core.Logic.{inl, inr}
 use native.Mathlib.Omega.{arith}
 use Rattle.laws.specs.Mark.{Mark, known}
-use Rattle.demand.specs.Machine.{In, Machine, World, Happening, sends-up, handles, comes-down, gives-up, goes-on, jolted, sending, replying, ending, after, start}
+use Rattle.demand.specs.Machine.{In, Machine, World, Happening, sends-up, handles, comes-down, gives-up, goes-on, jolted, sending}
+use Rattle.demand.specs.Machine.{replying, ending, after, start}
 use Rattle.demand.specs.Machine.{Trace, still, further, Calm, Quiet}
-use Rattle.demand.specs.Rules.{asks-for, awaiting, Topic, Saying, Exchange, Customer, ExchangeLaws, CustomerLaws, Fresh, messages, numbered, answering}
+use Rattle.demand.specs.Rules.{asks-for, awaiting, Topic, Saying, Exchange, Customer, ExchangeLaws, CustomerLaws, Fresh, messages}
+use Rattle.demand.specs.Rules.{numbered, answering}
 use Rattle.demand.specs.Codec.{Octets, Wire, octets, written, Wired}
 use Rattle.demand.proofs.Demand3 as D
 use Rattle.demand.proofs.Demand3.{Holds}

@@ -94,8 +94,11 @@ module _ (S : Topic) (X : Exchange S) (C : Customer S) (LX : ExchangeLaws S X) (
           }
           go (no q) = record {
             unhandled =
-                λ l.
-                (was ∙ sym (s .others P (λ y. not-this q (x .unhandled (omega (arith, le)) .1 c i y))), λ d j y. settle d (x .unhandled (omega (arith, le)) .1 d j y));
+                λ l. (
+                  was ∙ sym (s .others P (λ y. not-this q (x .unhandled (omega (arith, le)) .1 c i y))),
+                  λ d j y. settle d
+                      (x .unhandled (omega (arith, le)) .1 d j y),
+                );
             said-failed = λ y j. absurd (q (sym (late (n, says-error y) tt j le .0)));
             said-done = λ j. absurd (q (sym (late (n, says-done) tt j le .0)));
           }

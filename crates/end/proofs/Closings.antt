@@ -59,7 +59,8 @@ module _ (access : List ℕ) (e : End) where
       (λ _ _ _. inr (closed-one (e .before) (e .picture) e))
       (λ _ _ _. inr (closed-one (e .before) (applied (ours access) (e .operation) (e .request) (e .picture)) e))
       (λ _ _ _ es _ _ _ _.
-      inr (closed-one (markNo known) (packed (replaced (e .request .procedure) (instancesListed (ours access) es) (instancesOf (e .picture)))) e)))
+      inr (closed-one (markNo known)
+      (packed (replaced (e .request .procedure) (instancesListed (ours access) es) (instancesOf (e .picture)))) e)))
 
   module _ (ok : accessRead access .ok ≡ true) (good : endGood instancesMost (ours access) e ≡ true) where
     -- giving up leaves nothing outstanding

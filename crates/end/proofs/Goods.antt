@@ -38,7 +38,8 @@ use Rattle.end.proofs.Others.{changed-held, replaced-held}
 -- each of the three marks of a good end is one of the two
 pub marks-two : (marks : List ℕ) → marksGood marks ≡ true → (k : ℕ) → k < 3 → markAt k marks ≤ 1
 unfolding marksGood markAt
-marks-two marks h zero low = leb-true (getD marks 0 0) 1 (all-at (flag (getD marks 0 0) ∷ flag (getD marks 1 0) ∷ flag (getD marks 2 0) ∷ []) 0 h)
+marks-two marks h zero low =
+    leb-true (getD marks 0 0) 1 (all-at (flag (getD marks 0 0) ∷ flag (getD marks 1 0) ∷ flag (getD marks 2 0) ∷ []) 0 h)
 marks-two marks h (suc zero) low = leb-true (getD marks 1 0) 1 (all-at (flag (getD marks 0 0) ∷ flag (getD marks 1 0) ∷ flag (getD marks 2 0) ∷ []) 1 h)
 marks-two marks h (suc (suc zero)) low = leb-true (getD marks 2 0) 1 (all-at (flag (getD marks 0 0) ∷ flag (getD marks 1 0) ∷ flag (getD marks 2 0) ∷ []) 2 h)
 marks-two marks h (suc (suc (suc k))) low = absurd (omega arith)
@@ -86,7 +87,8 @@ module _
         endGood instancesMost p (closed mark picture e) ≡ true
     unfolding closed waitingGood
     closed-good mark picture low run =
-        end-good p (closed mark picture e) (rules .used) (omega arith) (marked-good (e .request .procedure) mark (e .marks) low (rules .flags))
+        end-good p (closed mark picture e) (rules .used) (omega arith)
+        (marked-good (e .request .procedure) mark (e .marks) low (rules .flags))
         refl run
 
     held : runGood instancesMost p (e .picture) ≡ true

@@ -146,7 +146,8 @@ module _
           Doubts (ours access) e s →
           (markAt (e .request .procedure) (takes access e s .end .marks) ≡ markNo doubt) × (takes access e s .end .picture ≡ e .picture)
       reply-doubt why =
-          let is : takes access e s ≡ moved (doubted e) = takes-all access e s fair ok good ∙ ap moved (took-doubt (ours access) e s waits why) in (
+          let is : takes access e s ≡ moved (doubted e) =
+          takes-all access e s fair ok good ∙ ap moved (took-doubt (ours access) e s waits why) in (
             ap (λ (m : Moves). markAt (e .request .procedure) (m .end .marks)) is ∙ doubted-mark,
             ap (λ (m : Moves). m .end .picture) is ∙ closed-picture (markNo doubt) (e .picture) e,
           )
@@ -236,7 +237,8 @@ module _ (access : List ℕ) (e : End) (s : List ℕ) (q : ℕ) where
 
   -- after a request is closed: by the mark that its procedure gets, or as before
   by-closed :
-      (mark : ℕ) (picture : Run) → ((q ≡ e .request .procedure) → mark ≡ markNo known → Why (ours access) e s q (moved (closed mark picture e))) →
+      (mark : ℕ) (picture : Run) → ((q ≡ e .request .procedure) → mark ≡ markNo known → Why (ours access) e s q
+      (moved (closed mark picture e))) →
       Known (moved (closed mark picture e))
   by-closed mark picture own says =
       ⊎-elim

@@ -123,7 +123,8 @@ module _
         GoodList p instancesMost (replaced (e .request .procedure) new held)
     replaced-held new list =
         good-list p instancesMost (replaced (e .request .procedure) new held)
-        (replaced-good instancesMost p (e .request .procedure) new held (access-good access ok) list (list-good p instancesMost held held-good))
+        (replaced-good instancesMost p (e .request .procedure) new held (access-good access ok) list
+        (list-good p instancesMost held held-good))
 
     module _ (q : ℕ) (other : q ≡ e .request .procedure → ⊥) where
       applied-others :
@@ -162,7 +163,8 @@ module _ (access : List ℕ) (e : End) (s : List ℕ) (q : ℕ) (other : q ≡ e
       (λ _ _. closed-others (markNo doubt) (e .picture))
       (λ _ _ _. closed-others (e .before) (e .picture))
       (λ _ _ _. closed-others (e .before) (applied (ours access) (e .operation) (e .request) (e .picture)))
-      (λ _ _ _ es _ _ _ _. closed-others (markNo known) (packed (replaced (e .request .procedure) (instancesListed (ours access) es) (instancesOf (e .picture))))))
+      (λ _ _ _ es _ _ _ _. closed-others (markNo known)
+      (packed (replaced (e .request .procedure) (instancesListed (ours access) es) (instancesOf (e .picture))))))
 
   -- and their instances in the picture
   pub takes-others :

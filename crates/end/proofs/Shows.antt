@@ -52,13 +52,15 @@ module _ (access : List ℕ) (e : End) (procedure : ℕ) where
       module _ (code : procedure < 3) where
         pub shown-doubt : (markAt procedure (e .marks) ≡ markNo known → ⊥) → shown access e procedure ≡ tells seenDoubt
         unfolding shown
-        shown-doubt not = rw (ok, good, procedure-code procedure, lt-ltb procedure 3 code, ne-eqb (markAt procedure (e .marks)) (markNo known) not)
+        shown-doubt not =
+            rw (ok, good, procedure-code procedure, lt-ltb procedure 3 code, ne-eqb (markAt procedure (e .marks)) (markNo known) not)
 
         pub shown-known :
             markAt procedure (e .marks) ≡ markNo known →
             shown access e procedure ≡ tells (seenKnown (length (entriesShown ours e procedure)))
         unfolding shown
-        shown-known is = rw (ok, good, procedure-code procedure, lt-ltb procedure 3 code, eq-eqb (markAt procedure (e .marks)) (markNo known) is)
+        shown-known is =
+            rw (ok, good, procedure-code procedure, lt-ltb procedure 3 code, eq-eqb (markAt procedure (e .marks)) (markNo known) is)
 
   pub shown-count :
       length (listed (everyOf procedure) (instancesOf (e .picture))) ≡ length (entriesShown ours e procedure)
@@ -100,8 +102,11 @@ module _ (access : List ℕ) (e : End) (procedure : ℕ) where
         })
         (λ m.
         absurd
-        (omega
-        (arith, ap (λ (s : Seen). s .mark) (seen-same _ (shown-doubt ok good code (eqb-false (markAt procedure (e .marks)) (markNo known) m)))))))
+        (omega (
+          arith,
+          ap (λ (s : Seen). s .mark)
+              (seen-same _ (shown-doubt ok good code (eqb-false (markAt procedure (e .marks)) (markNo known) m))),
+        ))))
         (λ over. no-refusal _ (shown-none ok good (ltb-false procedure 3 over))))
         (λ bad. no-refusal _ (shown-end ok bad)))
         (λ bad. no-refusal _ (shown-profile bad))
@@ -152,7 +157,8 @@ module _ (access : List ℕ) (e : End) (procedure count : ℕ) (is : tells (seen
         arith,
         facts .entries,
         listed-most (accessRead access .profile) (everyOf procedure) instancesMost (instancesOf (e .picture))
-            (run-good (accessRead access .profile) instancesMost (e .picture) (picture-good instancesMost (accessRead access .profile) e (facts .good)))
+            (run-good (accessRead access .profile) instancesMost (e .picture)
+            (picture-good instancesMost (accessRead access .profile) e (facts .good)))
             (facts .code),
       )
 

@@ -72,7 +72,9 @@ module _ (x : Instance) (rest whole : List Instance) (n : ℕ) where
           holds = rw (is, set-at front idle (y ∷ (back ++ rest)) y j e) (sym (append-snoc front y (y ∷ (back ++ rest))));
           at = omega (arith, e, length-append front (y ∷ []));
           end = omega (arith, many);
-          makes = append-snoc front y (merged (x ∷ []) back ++ rest) ∙ rw (merge-lower (x ∷ []) (y ∷ back) y back refl x [] refl (rw is at low)) at so;
+          makes =
+              append-snoc front y (merged (x ∷ []) back ++ rest)
+              ∙ rw (merge-lower (x ∷ []) (y ∷ back) y back refl x [] refl (rw is at low)) at so;
         }
 
     -- x goes before what is not below it, or after all of them

@@ -218,7 +218,8 @@ module _ (access : List ℕ) (t : Table) (s : List ℕ) (size : ℕ) where
         (profileGood profile ≡ true) × (tableGood instancesMost profile t ≡ true) × (done access t s size ≡ answered (step profile t s))
     done-step =
         done-ind
-        (λ d. d .told ≡ tells x → (profileGood profile ≡ true) × (tableGood instancesMost profile t ≡ true) × (d ≡ answered (step profile t s)))
+        (λ d. d .told ≡ tells x → (profileGood profile ≡ true) × (tableGood instancesMost profile t ≡ true) ×
+        (d ≡ answered (step profile t s)))
         (λ _ h. absurd (refuses-not _ _ h))
         (λ ok good _. (access-good access ok, good, refl))
         told

@@ -35,7 +35,8 @@ use Rattle.answers.specs.declared.answer.Problem.the-variants.{General, Invoke}
 use Rattle.answers.specs.declared.answer.Whose.{Whose}
 use Rattle.answers.specs.declared.answer.Whose.the-variants.{Null, Own}
 use Rattle.answers.proofs.Fits.{OwnFits, EntriesFit}
-use Rattle.exchange.specs.Question.{Question, says, asks, rejects, notAbove, duplicate, knownOperation, codeOf, argued, invoked, questionOf, question}
+use Rattle.exchange.specs.Question.{Question, says, asks, rejects, notAbove, duplicate, knownOperation, codeOf, argued, invoked}
+use Rattle.exchange.specs.Question.{questionOf, question}
 use Rattle.exchange.specs.inner.Question.{questionRead}
 
 -- ---- the machine's tests

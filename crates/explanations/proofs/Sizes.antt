@@ -72,7 +72,8 @@ number-most : (n : Number) → length (numberText n) ≤ 32
 unfolding numberText
 number-most n =
     let kind : List ℕ = endedBy (kindText (n .form) (n .kind)) 32 in
-    pick-ind (λ ws. length ws ≤ 32) (eqb (n .form) other) {x = chars "a number of another kind"} {y = kind ++ countedPlaces (n .count) (n .digits)}
+    pick-ind (λ ws. length ws ≤ 32)
+    (eqb (n .form) other) {x = chars "a number of another kind"} {y = kind ++ countedPlaces (n .count) (n .digits)}
     (λ _. omega arith)
     (λ _.
     omega (
@@ -97,7 +98,8 @@ octets-most count octets =
 sub-most : (to : Forwarded) → length (subWord to) ≤ 40
 unfolding subWord
 sub-most to =
-    pick-ind (λ ws. length ws ≤ 40) (eqb (to .user) 1) {x = chars "user-specified"} {y = octetsWord (to .address .subcount) (to .address .sub)}
+    pick-ind (λ ws. length ws ≤ 40)
+    (eqb (to .user) 1) {x = chars "user-specified"} {y = octetsWord (to .address .subcount) (to .address .sub)}
     (λ _. omega arith) (λ _. octets-most (to .address .subcount) (to .address .sub))
 
 to-most : (operation : ℕ) (to : Forwarded) → length (toText operation to) ≤ 77

@@ -25,7 +25,8 @@ use Rattle.numbers.specs.declared.address.Address.{Address}
 use Rattle.instances.specs.declared.instance.Instance.{Instance}
 use Rattle.forms.specs.Form.{form1}
 use Rattle.forms.specs.Size.{sheetMost}
-use Rattle.forms.specs.Instance.{allGroups, digitOf, addressOf, addressFields, instanceFields, fieldOf, fieldAt, fieldsAt, kindGood, addressFrom, serviceOf, instanceFrom}
+use Rattle.forms.specs.Instance.{allGroups, digitOf, addressOf, addressFields, instanceFields, fieldOf, fieldAt, fieldsAt, kindGood}
+use Rattle.forms.specs.Instance.{addressFrom, serviceOf, instanceFrom}
 use Rattle.forms.specs.Sheet.{Sheet, instancesFrom, inOrder, instancesOctets, sheetOctets, sheetIn}
 use Rattle.forms.specs.Formed.{ReadForm}
 use Rattle.forms.specs.declared.form.Form.{Form}

@@ -158,7 +158,8 @@ module _ (s : List ℕ) (at : ℕ) where
           number-judged =
               let low : form < 2 = below-small s at 2 form p f in
               let few : count < 21 = below-small s q 21 count a c in
-              let j = judged form kind cs low (characters (d .fields) (passing .passes)) (omega (arith, counted)) (got (numberOf form kind cs) (r .next)) in
+              let j = judged form kind cs low (characters (d .fields) (passing .passes)) (omega (arith, counted))
+              (got (numberOf form kind cs) (r .next)) in
               number-digits ∙ rw (number-made, d .is, ← counted) j
 
           pub number-refused : numberGood made ≡ false → numberFromFields s at ≡ wrong

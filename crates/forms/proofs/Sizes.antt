@@ -51,7 +51,8 @@ module _ (a : Address) (h : Held a) where
       let cs : List ℕ = digitsOf (a .number) in
       omega (
         arith,
-        fields-most 1 (λ d. ltb d 10) (λ d e. groups-length 0 d (omega (arith, ltb-true d 10 e))) (map digitOf cs) (digits-pass cs (held-digits a h)),
+        fields-most 1 (λ d. ltb d 10) (λ d e. groups-length 0 d (omega (arith, ltb-true d 10 e))) (map digitOf cs)
+            (digits-pass cs (held-digits a h)),
         length-map cs digitOf,
         digits-fair cs good,
       )

@@ -23,7 +23,8 @@ use Rattle.numbers.specs.declared.number.Number.{Number}
 use Rattle.numbers.specs.declared.address.Address.{Address}
 use Rattle.numbers.proofs.Goods.{some-fair, GoodNumber, good-number, good-address, digits-fair}
 use Rattle.instances.specs.declared.instance.Instance.{Instance}
-use Rattle.forms.specs.Instance.{allGroups, digitOf, addressFields, instanceFields, fieldAt, fieldsAt, kindGood, addressFrom, serviceOf, instanceFrom}
+use Rattle.forms.specs.Instance.{allGroups, digitOf, addressFields, instanceFields, fieldAt, fieldsAt, kindGood, addressFrom}
+use Rattle.forms.specs.Instance.{serviceOf, instanceFrom}
 use Rattle.forms.specs.Sheet.{instancesOctets, instancesFrom, inOrder, sheetOctets, sheetIn}
 use Rattle.forms.specs.declared.form.Form.{Form}
 use Rattle.forms.proofs.Fields.{AllPass}

@@ -101,7 +101,8 @@ module _ (q n s : ℕ) where
       -- an instance stands at the place of its number and service, which the profile has
       at-place : numberOfPlace j ≡ n → cellAt row j .service ≡ s → (j ≡ placeAt p n s) × (hasPlace p n s ≡ true)
       at-place number service =
-          let its : placeOf s (subscribedServices p) ≡ serviceOfPlace j = ap (λ (c : ℕ). placeOf c (subscribedServices p)) (sym service) ∙ slot in
+          let its : placeOf s (subscribedServices p) ≡ serviceOfPlace j = ap (λ (c : ℕ). placeOf c (subscribedServices p)) (sym service)
+          ∙ slot in
           (omega (arith, its, number), place-has p whole n s (omega (arith, number, ruled .number)) (omega (arith, its, ruled .slot)))
 
     own-found : find (rowInstances q row) ≡ pick (hasPlace p n s) (cellAddress row (placeAt p n s)) none

@@ -105,7 +105,8 @@ module _ (p : Profile) (whole : WholeProfile p) (r : Request) (g : GridTable) (s
     -- a place of the procedure, and one of another
     own-place :
         (q n s : ℕ) → q ≡ r .procedure → hasPlace p n s ≡ true →
-        cellAddress (rowAt after q) (placeAt p n s) ≡ pick (names (selectionOf p r) q n s) now (cellAddress (rowAt (g .grid) q) (placeAt p n s))
+        cellAddress (rowAt after q) (placeAt p n s) ≡ pick (names (selectionOf p r) q n s) now
+        (cellAddress (rowAt (g .grid) q) (placeAt p n s))
     own-place q n s same here =
         let place = has-place p whole n s here in
         let there : rowAt after q ≡ next = its-row q ∙ rw (eq-eqb q (r .procedure) same) in
@@ -113,7 +114,8 @@ module _ (p : Profile) (whole : WholeProfile p) (r : Request) (g : GridTable) (s
 
     other-place :
         (q n s : ℕ) → (q ≡ r .procedure → ⊥) →
-        cellAddress (rowAt after q) (placeAt p n s) ≡ pick (names (selectionOf p r) q n s) now (cellAddress (rowAt (g .grid) q) (placeAt p n s))
+        cellAddress (rowAt after q) (placeAt p n s) ≡ pick (names (selectionOf p r) q n s) now
+        (cellAddress (rowAt (g .grid) q) (placeAt p n s))
     other-place q n s other =
         let there : rowAt after q ≡ rowAt (g .grid) q = its-row q ∙ rw (ne-eqb q (r .procedure) other) in
         rw (there, unconcerned p whole r q other)

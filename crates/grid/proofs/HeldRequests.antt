@@ -123,7 +123,8 @@ module _ (p : Profile) (whole : WholeProfile p) (r : Request) (g : GridTable) (s
   clear-held limit good =
       let q = r .procedure in
       let clear = clearIn (cellPlaces p r) row in
-      let kept = row-replaced limit p g q clear inside good (good-clear limit p q (cellPlaces p r) row (table-row limit p g good q known)) in
+      let kept = row-replaced limit p g q clear inside good
+      (good-clear limit p q (cellPlaces p r) row (table-row limit p g good q known)) in
       becomes-same p (selectionOf p r) whole limit none held (deactivated (selectionOf p r) held) (with clear) kept
       (cleared-good p (selectionOf p r) limit held (held-good limit p whole g good))
       (grid-becomes p whole r g shaped known none clear (λ j lt. address-clear (cellPlaces p r) row j) limit limit good kept)

@@ -128,7 +128,8 @@ module _ (access : List ℕ) (t : GridTable) (s : List ℕ) (size : ℕ) where
 
   -- a table that breaks no rule breaks none afterwards
   pub done-good :
-      GridShaped (t .grid) → gridTableGood instancesMost profile t ≡ true → gridTableGood instancesMost profile (gridDone access t s size .table) ≡ true
+      GridShaped (t .grid) → gridTableGood instancesMost profile t ≡ true → gridTableGood instancesMost profile
+      (gridDone access t s size .table) ≡ true
   done-good so good =
       done-ind (λ d. gridTableGood instancesMost profile (d .table) ≡ true) (λ _. good) (λ ok _.
       step-good profile t s (access-good access ok) (access-services access) so good)

@@ -15,7 +15,8 @@ use Rattle.grid.specs.Table.{GridTable}
 module _ (p : Profile) (t : GridTable) (s : List ℕ) where
   question-ind :
       (P : GridStep → Type 0) (q : Question) → question p (t .last) s ≡ q → ((a : Answer) → Said a → P (gridSays t a)) →
-      ((identifier : ℤ) (operation : ℕ) (r : Request) → RequestAsked p (t .last) identifier operation r → P (gridAsks p t identifier operation r)) →
+      ((identifier : ℤ) (operation : ℕ) (r : Request) → RequestAsked p (t .last) identifier operation r → P
+      (gridAsks p t identifier operation r)) →
       P (gridStepOf p t q)
   question-ind P (says a) e said asked = said a (question-says p (t .last) s a e)
   question-ind P (asks identifier operation r) e said asked =
@@ -24,7 +25,8 @@ module _ (p : Profile) (t : GridTable) (s : List ℕ) where
   -- what holds of every answer at once, and of every request that is judged, holds of a step
   pub step-ind :
       (P : GridStep → Type 0) → ((a : Answer) → Said a → P (gridSays t a)) →
-      ((identifier : ℤ) (operation : ℕ) (r : Request) → RequestAsked p (t .last) identifier operation r → P (gridAsks p t identifier operation r)) →
+      ((identifier : ℤ) (operation : ℕ) (r : Request) → RequestAsked p (t .last) identifier operation r → P
+      (gridAsks p t identifier operation r)) →
       P (gridStep p t s)
   unfolding gridStep
   step-ind P = question-ind P (question p (t .last) s) refl

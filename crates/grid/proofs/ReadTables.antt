@@ -129,7 +129,8 @@ module _ (access s : List ℕ) (accepted : gridReadSheet access s .told ≡ tell
       let few = few-of (form1 .perprocedure) (was .sheet .instances) (order-of form1 (was .sheet .instances) (allowed .order) .1) in
       rw table-is
       (table-grid instancesMost p (gridTableOf p (was .sheet)) (allowed .last)
-      ∙ grid-placed instancesMost p (access-good access read-ok) (access-services access) (was .sheet .instances) up holdable (was .all) few)
+      ∙ grid-placed instancesMost p (access-good access read-ok) (access-services access) (was .sheet .instances) up holdable
+      (was .all) few)
 
 -- two accepted sheets of one access that give the same table are the same octets
 pub sheets-apart :

@@ -86,7 +86,8 @@ module _ (p : Profile) (t : GridTable) (identifier : ℤ) (r : Request) where
 
     verdict-all :
         (operation : ℕ) (now : Option Address) → (operation ≡ interrogation → ⊥) →
-        ((j : ℕ) → j < places → held (gridApplied operation r (cellPlaces p r) row) j ≡ pick (gridSelected (cellPlaces p r) j) now (held row j)) →
+        ((j : ℕ) → j < places → held (gridApplied operation r (cellPlaces p r) row) j ≡ pick (gridSelected (cellPlaces p r) j) now
+        (held row j)) →
         (v : Option ℕ) → GridAllOrNothing now (gridVerdict p t identifier operation r v)
     unfolding gridResult
     verdict-all operation now asks is none =

@@ -113,4 +113,9 @@ module _ (p : Profile) (t : GridTable) (good : gridTableGood instancesMost p t â
   instances-few =
       rw (rows-all (t .grid))
       (gathered-each instancesMost (rowOf (t .grid)) gridProcedures (Î» k h.
-      omega (arith, row-count k (rowAt (t .grid) k), good-few instancesMost p k (rowAt (t .grid) k) (table-row instancesMost p t good k h))))
+      omega (
+        arith,
+        row-count k (rowAt (t .grid) k),
+        good-few instancesMost p k (rowAt (t .grid) k)
+            (table-row instancesMost p t good k h),
+      )))

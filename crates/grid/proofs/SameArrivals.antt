@@ -130,10 +130,12 @@ module _ (access : List ℕ) (g : GridTable) (t : Table) (s : List ℕ) (size : 
 -- from tables that are the same every sequence of components gets the same replies, octet for octet, and leaves the same table
 pub sequence-same :
     (access : List ℕ) (cs : List Component) (g : GridTable) (t : Table) → SameTable (accessRead access .profile) g t →
-    (gridReplies access g cs ≡ runReplies access t cs) × SameTable (accessRead access .profile) (gridAfter access g cs) (runAfter access t cs)
+    (gridReplies access g cs ≡ runReplies access t cs) × SameTable (accessRead access .profile) (gridAfter access g cs)
+    (runAfter access t cs)
 unfolding gridReplies runReplies gridAfter runAfter
 sequence-same access [] g t so = (refl, so)
 sequence-same access (c ∷ cs) g t so =
     let one = done-same access g t (c .octets) (c .size) so in
-    let rest = sequence-same access cs (gridDone access g (c .octets) (c .size) .table) (done access t (c .octets) (c .size) .table) (one .tables) in
+    let rest = sequence-same access cs (gridDone access g (c .octets) (c .size) .table) (done access t (c .octets) (c .size) .table)
+    (one .tables) in
     (rw (one .told, one .octets, rest .0), rest .1)

@@ -89,7 +89,8 @@ module _ (access : List ℕ) (g : GridTable) (t : Table) (s : List ℕ) (so : Sa
       (λ good.
       comes-by access g s ok (same .grid-good) good
       ∙ ap (byInstance p (callFrom s))
-      (applies-same p (access-whole access ok) (g .grid) (good-grid instancesMost p g (same .grid-good)) (callFrom s) (good-call p s good .number)
+      (applies-same p (access-whole access ok) (g .grid) (good-grid instancesMost p g (same .grid-good)) (callFrom s)
+      (good-call p s good .number)
       ∙ ap (λ is. applying p is (callFrom s)) (same .held))
       ∙ sym (run.comes-by access t s ok (same .run-good) good))
       (λ bad. comes-call access g s ok (same .grid-good) bad ∙ sym (run.comes-call access t s ok (same .run-good) bad))

@@ -124,7 +124,8 @@ module _ (p : Profile) (whole : WholeProfile p) (g : GridTable) (shaped : GridSh
       ∙ tests-same every
       ∙ sym (rules.judge-rest instancesMost p operation r held every)
   judged-by (some e) fails =
-      judge-fails instancesMost p operation r (cellPlaces p r) row e fails ∙ sym (rules.judge-fails instancesMost p operation r held e fails)
+      judge-fails instancesMost p operation r (cellPlaces p r) row e fails
+      ∙ sym (rules.judge-fails instancesMost p operation r held e fails)
 
   pub judge-same : gridJudge instancesMost p operation r (cellPlaces p r) row ≡ judge instancesMost p operation r held
   judge-same = judged-by (firstError (everyTests p r)) refl

@@ -92,7 +92,8 @@ module _ (p : Profile) (whole : WholeProfile p) (r : Request) where
       (n s : ℕ) → hasPlace p n s ≡ true → gridSelected (cellPlaces p r) (placeAt p n s) ≡ selected sel n s
   marked-place n s h =
       let place = has-place p whole n s h in
-      marks-same (placeAt p n s) (place .inside) (omega (arith, place .numbered, place .number)) (omega (arith, place .slotted, place .slot))
+      marks-same (placeAt p n s) (place .inside) (omega (arith, place .numbered, place .number))
+      (omega (arith, place .slotted, place .slot))
       ∙ ap (λ (k : ℕ). selected sel k (getD (p .services) (serviceOfPlace (placeAt p n s)) 0)) (place .numbered)
       ∙ ap (selected sel n) (place .service)
 

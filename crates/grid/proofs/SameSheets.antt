@@ -118,7 +118,8 @@ module _ (access s : List ℕ) where
       both-read good =
           let whole = access-whole access ok in
           let so = held-good good in
-          let read : gridReadSheet access s ≡ record { told = tells tt; table = record { last = was .sheet .last; grid = allPlaced p noGrid is } } =
+          let read : gridReadSheet access
+          s ≡ record { told = tells tt; table = record { last = was .sheet .last; grid = allPlaced p noGrid is } } =
           read-from access s ok ∙ rw (was .is, good-in p whole is (so .each)) in
           let reads = reads-table access s (accessRead access) refl ok form refl formed good in
           record {
@@ -144,7 +145,8 @@ module _ (access s : List ℕ) where
           let outside : gridAllIn p is ≡ false =
           by-bool (gridAllIn p is ≡ false) (gridAllIn p is) (λ all. absurd (false≢true (sym bad ∙ run-held all))) (λ e. e) in
           let read : gridReadSheet access s ≡ gridNotRead BadSheet = read-from access s ok ∙ rw (was .is, outside) in
-          rw read (both-refuse BadSheet (reads-outside access s (accessRead access) refl ok form refl formed bad (sheetRefused BadSheet) refl))
+          rw read (both-refuse BadSheet (reads-outside access s (accessRead access) refl ok form refl formed bad
+          (sheetRefused BadSheet) refl))
 
   -- any octets are refused alike, or read as tables that hold the same
   pub read-same : ReadSame (accessRead access .profile) (gridReadSheet access s) (readSheet access s)
@@ -156,6 +158,8 @@ module _ (access s : List ℕ) where
       by-bool (Alike (gridReadSheet access s)) (runGood instancesMost p (form ok .run)) (both-read ok formed) (none-read ok formed))
       (λ unformed.
       let read : gridReadSheet access s ≡ gridNotRead BadSheet = read-from access s ok ∙ rw (form-none s (form ok) refl unformed) in
-      rw read (both-refuse BadSheet (reads-form access s (accessRead access) refl ok (form ok) refl unformed (sheetRefused BadSheet) refl))))
+      rw read (both-refuse BadSheet (reads-form access s (accessRead access) refl ok (form ok) refl unformed
+      (sheetRefused BadSheet) refl))))
       (λ bad.
-      rw (read-profile access s bad) (both-refuse BadProfile (reads-profile access s (accessRead access) refl bad (sheetRefused BadProfile) refl)))
+      rw (read-profile access s bad)
+      (both-refuse BadProfile (reads-profile access s (accessRead access) refl bad (sheetRefused BadProfile) refl)))

@@ -54,7 +54,8 @@ module _ (access : List ℕ) (t : GridTable) (size : ℕ) (told : gridWroteSheet
   pub written-room : sheetMost form1 ≤ size
   written-room =
       by-bool _ (ltb size (sheetMost form1))
-      (λ e. absurd (refuses-not _ tt (sym (ap (λ (w : Made). w .told) (writes-short access t size (ltb-true size (sheetMost form1) e))) ∙ told)))
+      (λ e. absurd (refuses-not _ tt
+      (sym (ap (λ (w : Made). w .told) (writes-short access t size (ltb-true size (sheetMost form1) e))) ∙ told)))
       (λ e. ltb-false size (sheetMost form1) e)
 
   pub written-ok : accessRead access .ok ≡ true

@@ -36,7 +36,13 @@ module _ (q n s : ℕ) where
   unfolding isAt
   at-chosen sel x h =
       let tests : List Bool = eqb (x .procedure) q ∷ eqb (x .number) n ∷ eqb (x .service) s ∷ [] in
-      rw (chosen-of sel x, eqb-true (x .procedure) q (all-at tests 0 h), eqb-true (x .number) n (all-at tests 1 h), eqb-true (x .service) s (all-at tests 2 h))
+      rw (
+        chosen-of sel x,
+        eqb-true (x .procedure) q (all-at tests 0 h),
+        eqb-true (x .number) n (all-at tests 1 h),
+        eqb-true (x .service) s
+            (all-at tests 2 h),
+      )
 
   -- ---- a deactivation
 
@@ -59,7 +65,13 @@ module _ (q n s : ℕ) where
       let takes = those-take (spared sel) (x ∷ l) l x refl (kept-test _ c) in
       by-bool _ (isAt q n s x)
       (λ (h : isAt q n s x ≡ true).
-      rw (takes, sym (at-chosen sel x h) ∙ c, find-here q n s (x ∷ deactivated sel l) x (deactivated sel l) refl h, find-here q n s (x ∷ l) x l refl h))
+      rw (
+        takes,
+        sym (at-chosen sel x h)
+            ∙ c,
+        find-here q n s (x ∷ deactivated sel l) x (deactivated sel l) refl h,
+        find-here q n s (x ∷ l) x l refl h,
+      ))
       (λ (h : isAt q n s x ≡ false).
       rw (takes, find-on q n s (x ∷ deactivated sel l) x (deactivated sel l) refl h, find-on q n s (x ∷ l) x l refl h) so))
 
@@ -247,6 +259,7 @@ module _ (q n s : ℕ) (sel : Selection) (address : Address) where
       rw (c, ← stands-of p (both .1))
       (find-first q n s (map here ws) kept none ∙ find-made ws (concerns-is sel q (both .0))))
       (λ (c : names sel q n s ≡ false).
-      let none = each-map (λ x. isAt q n s x ≡ false) here ws (each-so (λ w. Unit {0} × (picks sel w ≡ true)) (λ w. isAt q n s (here w) ≡ false)
+      let none = each-map (λ x. isAt q n s x ≡ false) here ws
+      (each-so (λ w. Unit {0} × (picks sel w ≡ true)) (λ w. isAt q n s (here w) ≡ false)
       (λ w h. not-there (here w) (λ e. false≢true (sym (sym (chosen-here w (h .1)) ∙ e ∙ c)))) ws (every-picked p)) in
       rw c (find-second q n s (map here ws) kept none ∙ find-cleared q n s sel l ∙ rw c))

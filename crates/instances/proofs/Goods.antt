@@ -21,7 +21,8 @@ use Rattle.profile.proofs.Profiles.{rising-first, GoodProfile}
 use Rattle.lists.specs.Entries.{instancesMost}
 use Rattle.instances.specs.Instance.{key, keyOf, chosen, spared, among, instanceGood}
 use Rattle.instances.specs.Places.{runMost, placeFor, placesFrom, picks, placesOf}
-use Rattle.instances.specs.Run.{instancesOf, packed, deactivated, instanceAt, activated, ascending, eachGood, isOf, countOf, fewOfEach, instancesGood, runGood}
+use Rattle.instances.specs.Run.{instancesOf, packed, deactivated, instanceAt, activated, ascending, eachGood, isOf, countOf}
+use Rattle.instances.specs.Run.{fewOfEach, instancesGood, runGood}
 use Rattle.instances.specs.declared.instance.Instance.{Instance}
 use Rattle.instances.specs.declared.instance.Selection.{Selection}
 use Rattle.instances.specs.declared.places.Place.{Place}
@@ -90,8 +91,12 @@ Few most l = (countOf 0 l ≤ most) × (countOf 1 l ≤ most) × (countOf 2 l �
 pub few-of : (most : ℕ) (l : List Instance) → fewOfEach most l ≡ true → Few most l
 unfolding fewOfEach
 few-of most l h =
-    let tests : List Bool = leb (countOf 0 l) most ∷ leb (countOf 1 l) most ∷ leb (countOf 2 l) most ∷ [] in
-    (leb-true (countOf 0 l) most (all-at tests 0 h), leb-true (countOf 1 l) most (all-at tests 1 h), leb-true (countOf 2 l) most (all-at tests 2 h))
+    let tests : List Bool = leb (countOf 0 l) most ∷ leb (countOf 1 l) most ∷ leb (countOf 2 l) most ∷ [] in (
+      leb-true (countOf 0 l) most (all-at tests 0 h),
+      leb-true (countOf 1 l) most (all-at tests 1 h),
+      leb-true (countOf 2 l) most
+          (all-at tests 2 h),
+    )
 
 pub few-is : (most : ℕ) (l : List Instance) → Few most l → fewOfEach most l ≡ true
 unfolding fewOfEach
@@ -178,8 +183,11 @@ module _ (p : Profile) (profile : GoodProfile p) (sel : Selection) (address : Ad
 
   pub small-good : (x : Instance) → instanceGood p x ≡ true → Small x
   small-good x h =
-      let so = fits-of (p .subscribed) (p .numbercount) (subscribedServices p) x h in
-      (omega (arith, so .number, profile .few), omega (arith, among-small 0 (x .service) (subscribedServices p) (profile .rises) (so .service)))
+      let so = fits-of (p .subscribed) (p .numbercount) (subscribedServices p) x h in (
+        omega (arith, so .number, profile .few),
+        omega
+            (arith, among-small 0 (x .service) (subscribedServices p) (profile .rises) (so .service)),
+      )
 
   module _
       (three : sel .procedure < 3)

@@ -95,7 +95,9 @@ module _ (f : ℕ → Entry) (whole : List Entry) where
               (λ t.
               let same : m ≡ k = omega (arith, ltb-false m k t) in
               rw (same, getD-set-same places k i 0 (omega (arith, so .long))) (omega arith));
-          come = rw (taken, add-one k, append-snoc (take k (map f places)) e (take (instancesMost - suc k) left)) (rw (next, less) at (so .come));
+          come =
+              rw (taken, add-one k, append-snoc (take k (map f places)) e (take (instancesMost - suc k) left))
+              (rw (next, less) at (so .come));
           sum =
               rw (taken, octets-last (take k (map f places)) e)
               (omega (arith, so .sum, size-is, length-append (entriesOctets (take k (map f places))) (entryOctets e)));

@@ -118,8 +118,18 @@ module _ (sel : Selection) (from : ℕ) where
         (those (picks sel) (map (placeFor from) (x ∷ services) ++ ws) ≡
         map (placeFor from) (servicesNamed (sel .service) (x ∷ services)) ++ those (picks sel) ws)
         (f x)
-        (λ t. rw (those-take f (x ∷ services) services x refl t, those-take (picks sel) (placeFor from x ∷ row) row (placeFor from x) refl (test ∙ t), less))
-        (λ t. rw (those-skip f (x ∷ services) services x refl t, those-skip (picks sel) (placeFor from x ∷ row) row (placeFor from x) refl (test ∙ t), less))
+        (λ t. rw (
+          those-take f (x ∷ services) services x refl t,
+          those-take (picks sel) (placeFor from x ∷ row) row (placeFor from x) refl
+              (test ∙ t),
+          less,
+        ))
+        (λ t. rw (
+          those-skip f (x ∷ services) services x refl t,
+          those-skip (picks sel) (placeFor from x ∷ row) row (placeFor from x) refl
+              (test ∙ t),
+          less,
+        ))
 
     row-other :
         named everyNumber (sel .number) from ≡ false → (services : List ℕ) →

@@ -42,10 +42,12 @@ module _ (sel : Selection) (address : Address) (ws : List Place) (is : List Inst
 
       module _ (w : Place) (vs : List Place) (more : ws ≡ w ∷ vs) where
         pub put-kept : keyOf x < keyOf (here w) → activatedAt sel address ws is ≡ x ∷ activatedAt sel address ws js
-        put-kept h = merge-lower (map here ws) (deactivated sel is) x (deactivated sel js) takes (here w) (map here vs) (ap (map here) more) h
+        put-kept h =
+            merge-lower (map here ws) (deactivated sel is) x (deactivated sel js) takes (here w) (map here vs) (ap (map here) more) h
 
         pub put-made : keyOf (here w) ≤ keyOf x → activatedAt sel address ws is ≡ here w ∷ activatedAt sel address vs is
-        put-made h = merge-higher (map here ws) (deactivated sel is) (here w) (map here vs) (ap (map here) more) x (deactivated sel js) takes h
+        put-made h =
+            merge-higher (map here ws) (deactivated sel is) (here w) (map here vs) (ap (map here) more) x (deactivated sel js) takes h
 
   module _ (none : is ≡ []) where
     gone : deactivated sel is ≡ []

@@ -111,7 +111,8 @@ module _ (p : Profile) (profile : GoodProfile p) where
       by-bool (n < length (p .numbers)) (ltb n (length (p .numbers)))
       (λ e. ltb-true n (length (p .numbers)) e)
       (λ e.
-      let past : getD (p .numbers) n noNumber ≡ noNumber = List·getD-eq-default (p .numbers) noNumber (ltb-false n (length (p .numbers)) e) in
+      let past : getD (p .numbers) n noNumber ≡ noNumber = List·getD-eq-default (p .numbers) noNumber
+      (ltb-false n (length (p .numbers)) e) in
       let good : numberGood noNumber ≡ true = ap numberGood (sym past) ∙ profile .numbers n h in
       absurd (omega (arith, digits-fair (digitsOf noNumber) (good-number noNumber good .digits) .0))) in
       omega (arith, length-take (p .numbercount) (p .numbers), h, long)
@@ -171,7 +172,8 @@ module _ (sel : Selection) (address : Address) where
       by-bool _ (chosen sel x)
       (λ (h : chosen sel x ≡ true).
       rw (those-take (chosen sel) (x ∷ l) l x refl h, those-skip (spared sel) (x ∷ l) l x refl (gone-test _ h), h)
-      (first-merged (again address x) taken kept (up-those keyOf (spared sel) (keyOf x) l (up .1)) ∙ ap (λ (m : List Instance). again address x ∷ m) less))
+      (first-merged (again address x) taken kept (up-those keyOf (spared sel) (keyOf x) l (up .1))
+      ∙ ap (λ (m : List Instance). again address x ∷ m) less))
       (λ (h : chosen sel x ≡ false).
       rw (those-skip (chosen sel) (x ∷ l) l x refl h, those-take (spared sel) (x ∷ l) l x refl (kept-test _ h), h)
       (second-merged x taken kept

@@ -129,7 +129,13 @@ gathered-places f g zero =
     rw (gathered-none (λ j. pick (f j) (g j ∷ []) []), gathered-none (λ j. pick (f j) (j ∷ []) []))
 gathered-places f g (suc n) =
     let one : List ℕ = pick (f n) (n ∷ []) [] in
-    rw (gathered-more (λ j. pick (f j) (g j ∷ []) []) n, gathered-more (λ j. pick (f j) (j ∷ []) []) n, map-append g (placesWhere f n) one, gathered-places f g n)
+    rw (
+      gathered-more (λ j. pick (f j) (g j ∷ []) []) n,
+      gathered-more (λ j. pick (f j) (j ∷ []) []) n,
+      map-append g
+          (placesWhere f n) one,
+      gathered-places f g n,
+    )
     (ap (λ (l : List _). map g (placesWhere f n) ++ l) (sym (pick-map (map g) (f n) (n ∷ []) [])))
 
 -- what gives the same at each place gathers the same

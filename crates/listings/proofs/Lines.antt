@@ -14,7 +14,8 @@ use Rattle.instances.specs.declared.instance.Instance.{Instance}
 use Rattle.forms.specs.Form.{form1}
 use Rattle.forms.proofs.Readers.{service-few}
 use Rattle.forms.proofs.Fits.{FieldsFit, Small, held-small}
-use Rattle.listings.specs.Listing.{decimal, procedureName, kindText, hexText, subText, endedBy, lineOf, headerLine, headerMost, instanceLine, lineMost}
+use Rattle.listings.specs.Listing.{decimal, procedureName, kindText, hexText, subText, endedBy, lineOf, headerLine, headerMost}
+use Rattle.listings.specs.Listing.{instanceLine, lineMost}
 use Rattle.listings.proofs.Words.{decimal-one, decimal-most, hex-length}
 
 -- ---- words, one after the other

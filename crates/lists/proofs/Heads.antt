@@ -109,7 +109,8 @@ module _ (identifier : ℤ) (size : ℕ) where
         unfolding listOpened
         head-room =
             room-after (sequenceOpened size)
-            (room-after (opened 0x30 (sequenceOpened size) size) (room-after (insideOpened identifier size) fits (rw (known .is-inside) at a)) b)
+            (room-after (opened 0x30 (sequenceOpened size) size)
+            (room-after (insideOpened identifier size) fits (rw (known .is-inside) at a)) b)
             (rw (known .is-sequence) at c)
 
         -- head, identifier, head, operation, head
@@ -215,10 +216,21 @@ module _
     unfolding listRoom
     list-none none =
         by-bool (Puts xs 0 (listOctets identifier es) 0 ys) (leb (length (listOpened identifier size) + size) (length xs))
-        (λ h. absurd (omega (arith, none, opened-some identifier size, rw (le-leb size (entrySize * instancesMost) few, h) at (head .moved))))
+        (λ h. absurd (omega (
+          arith,
+          none,
+          opened-some identifier size,
+          rw (le-leb size (entrySize * instancesMost) few, h) at
+              (head .moved),
+        )))
         (λ h.
         let same = rw (le-leb size (entrySize * instancesMost) few, h) at (head .holds) in
-        rw same (puts-none (omega (arith, list-length identifier es is, leb-false (length (listOpened identifier size) + size) (length xs) h))))
+        rw same (puts-none (omega (
+          arith,
+          list-length identifier es is,
+          leb-false (length (listOpened identifier size) + size)
+              (length xs) h,
+        ))))
 
     -- the entries are written after it, and that is the list
     pub list-all :

@@ -100,7 +100,8 @@ module _ (entries : List Entry) where
 
 -- as many as are counted, of those that there is room for
 pub counted-all :
-    (entries : List Entry) (count i : ℕ) → length entries ≡ instancesMost → i ≡ min count instancesMost → take i entries ≡ take count entries
+    (entries : List Entry) (count i : ℕ) → length entries ≡ instancesMost → i ≡ min count instancesMost → take i entries ≡ take count
+    entries
 counted-all entries count i long is =
     ap (λ (k : ℕ). take k entries) (is ∙ ap (min count) (sym long)) ∙ take-min count entries
 

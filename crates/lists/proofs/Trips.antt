@@ -19,7 +19,8 @@ use Rattle.numbers.specs.Address.{tidyAddress, addressOctets}
 use Rattle.numbers.proofs.Goods.{good-number, good-address}
 use Rattle.numbers.proofs.Sizes.{number-most, address-most}
 use Rattle.numbers.proofs.Trips.{number-back, address-back}
-use Rattle.lists.specs.Entry.{entryDepth, fieldDepth, fieldsOctets, entryOctets, entryGood, tidyEntry, kept, lastField, codesIn, fieldsIn, entryAt}
+use Rattle.lists.specs.Entry.{entryDepth, fieldDepth, fieldsOctets, entryOctets, entryGood, tidyEntry, kept, lastField, codesIn}
+use Rattle.lists.specs.Entry.{fieldsIn, entryAt}
 use Rattle.lists.specs.Entries.{entriesOctets, allGood, tidyEntries, entriesFrom}
 use Rattle.lists.specs.declared.entry.Entry.{Entry}
 use Rattle.lists.proofs.Sizes.{good-entry, fields-size, entry-some, good-entries, octets-none, octets-more}

@@ -76,7 +76,8 @@ module _ (e : Entry) (whole : Whole e) where
       let address : List ℕ = addressOctets (e .address) in
       element-small 0x30 (fieldsOctets e) (omega (arith, fields-size e, number-few, address-few))
       ∙ ap (λ (ws : List ℕ). 0x30 ∷ length (fieldsOctets e) ∷ ws)
-      (sym (append-assoc number (service ++ procedure) address ∙ ap (λ (ws : List ℕ). number ++ ws) (append-assoc service procedure address)))
+      (sym (append-assoc number (service ++ procedure) address
+      ∙ ap (λ (ws : List ℕ). number ++ ws) (append-assoc service procedure address)))
 
   -- after its head and its number there is room for its codes
   pub start-room :

@@ -40,7 +40,8 @@ unknown-back depth {n} {ws} s at end sp deep st fit in-s =
     let start : ℕ = at + suc (suc (sp .spells .k)) in
     let all : at + length ws ≡ start + length (sp .digits) = omega (arith, spells-length (sp .spells)) in
     rw (spells-back depth s at end (sp .spells) deep (λ e. omega arith) st fit in-s, all, sp .is)
-    (digits-back unknown 0 s start (start + length (sp .digits)) (sp .digits) (sp .good) (spells-contents s at (sp .spells) st) (omega arith))
+    (digits-back unknown 0 s start (start + length (sp .digits)) (sp .digits) (sp .good) (spells-contents s at (sp .spells) st)
+    (omega arith))
 
 -- a numeric string that ends where the public number's contents end
 string-back :
@@ -62,7 +63,11 @@ type-back :
 unfolding publicIn
 type-back depth s at end after sp deep st fit in-s =
     let l = length-append (sp .type) (sp .string) in
-    rw (enumerated-spells-back depth (sp .kind) s at end (sp .first) deep (stands-left s at (sp .type) (sp .string) st) (omega arith) in-s, sp .kinds)
+    rw (
+      enumerated-spells-back depth (sp .kind) s at end (sp .first) deep (stands-left s at (sp .type) (sp .string) st)
+          (omega arith) in-s,
+      sp .kinds,
+    )
     (string-back depth (sp .kind) s (at + length (sp .type)) end after (sp .second) (sp .good) deep
     (stands-right s at (sp .type) (sp .string) st) (omega arith) in-s)
 

@@ -66,7 +66,8 @@ pub element-back :
 element-back depth tag contents s at end deep low small st fit in-s =
     let n : ℕ = length contents in
     let a : at + suc (suc (lengthFewest n)) ≡ at + length (headOctets tag n) = omega (arith, length-head tag n) in
-    let b : at + length (headOctets tag n) + n ≡ at + length (element tag contents) = omega (arith, length-element tag contents, length-head tag n) in
+    let b : at + length (headOctets tag n) + n ≡ at + length (element tag contents) = omega
+    (arith, length-element tag contents, length-head tag n) in
     rw (
       head-back (lengthFewest n) depth tag n s at end deep low (shortest-most n) (shortest-holds n small)
           (stands-left s at (headOctets tag n) contents st) (omega (arith, length-element tag contents)) in-s,

@@ -18,8 +18,10 @@ use Rattle.laws.proofs.Walks.{every-at}
 use Rattle.codes.specs.Codes.{serviceCode}
 use Rattle.numbers.specs.Number.{most, digitsOf, numberGood, tidyNumber}
 use Rattle.numbers.specs.declared.number.Number.{Number}
-use Rattle.profile.specs.Profile.{numbersMost, servicesMost, prefixesMost, servedNumbers, subscribedServices, sameDigits, sameNumber, same, placeIn, noNumber}
-use Rattle.profile.specs.Profile.{numbersGood, noPrefix, prefixGood, rising, servicesGood, flag, subscriptionsGood, prefixesGood, profileRules, profileGood}
+use Rattle.profile.specs.Profile.{numbersMost, servicesMost, prefixesMost, servedNumbers, subscribedServices, sameDigits, sameNumber}
+use Rattle.profile.specs.Profile.{same, placeIn, noNumber}
+use Rattle.profile.specs.Profile.{numbersGood, noPrefix, prefixGood, rising, servicesGood, flag, subscriptionsGood, prefixesGood}
+use Rattle.profile.specs.Profile.{profileRules, profileGood}
 use Rattle.profile.specs.declared.profile.Prefix.{Prefix}
 use Rattle.profile.specs.declared.profile.Profile.{Profile}
 

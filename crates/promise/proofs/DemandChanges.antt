@@ -58,13 +58,15 @@ module _ (p : Profile) (sel : Selection) where
       ∙ ap (merged (map tidyInstance (made a))) (L.held-spared q sel is)
 
   put-twice :
-      (a : Address) (b : ℕ) (is : List Instance) → Up keyOf b is → heldOf q (activated p sel a (heldOf q is)) ≡ heldOf q (activated p sel a is)
+      (a : Address) (b : ℕ) (is : List Instance) → Up keyOf b is → heldOf q (activated p sel a (heldOf q is)) ≡ heldOf q
+      (activated p sel a is)
   put-twice a b is u =
       activated-held a b (heldOf q is) (L.held-up q b is u)
       ∙ (ap (λ m. merged (map tidyInstance (made a)) (those (spared sel) m)) (L.held-twice q is) ∙ sym (activated-held a b is u))
 
   put-tidied :
-      (a : Address) (b : ℕ) (is : List Instance) → Up keyOf b is → heldOf q (activated p sel (tidyAddress a) is) ≡ heldOf q (activated p sel a is)
+      (a : Address) (b : ℕ) (is : List Instance) → Up keyOf b is → heldOf q (activated p sel (tidyAddress a) is) ≡ heldOf q
+      (activated p sel a is)
   put-tidied a b is u =
       activated-held (tidyAddress a) b is u
       ∙ (ap (λ m. merged m (those (spared sel) (heldOf q is))) (L.made-tidy q a (placesOf p sel)) ∙ sym (activated-held a b is u))
@@ -106,7 +108,8 @@ module _ (p : Profile) (r : Request) where
       let kept = L.held-kept o (spared sel) (L.spared-others sel o not) is in
       changed-ind p r is (λ l. heldOf o l ≡ heldOf o is) operation
       (λ _.
-      L.held-past o (made p sel (r .to .address)) (deactivated sel is) (L.made-past (sel .procedure) o (r .to .address) (placesOf p sel) not)
+      L.held-past o (made p sel (r .to .address)) (deactivated sel is)
+      (L.made-past (sel .procedure) o (r .to .address) (placesOf p sel) not)
       ∙ kept)
       (λ _. kept)
       refl
@@ -144,7 +147,8 @@ module _ (p : Profile) (operation : ℕ) (r : Request) (goes : sendable operatio
       ap (λ o. selectionOf p (tidyRequest o r)) (sym e) ∙ selection-tidied p operation r goes sizes in
       rw (changed-activation p r is, changed-activation p (tidyRequest activation r) is, same)
       (subst
-      (λ q. heldOf q (activated p (selectionOf p r) (tidyAddress (r .to .address)) is) ≡ heldOf q (activated p (selectionOf p r) (r .to .address) is))
+      (λ q. heldOf q (activated p (selectionOf p r) (tidyAddress (r .to .address)) is) ≡ heldOf q
+      (activated p (selectionOf p r) (r .to .address) is))
       (selection-procedure p r)
       (put-tidied p (selectionOf p r) (r .to .address) b is u))
 

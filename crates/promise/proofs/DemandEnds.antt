@@ -42,7 +42,8 @@ use Rattle.promise.proofs.DemandLists.{heldOf}
 use Rattle.rules.proofs.Tidied.{Sized}
 use Rattle.promise.proofs.DemandReads.{readOn}
 use Rattle.promise.proofs.DemandParts.{asking, aboutOf, Said, saidOctets, Proper, markOf, waitingOf, numberUp, sending, Sound}
-use Rattle.promise.proofs.DemandParts.{topic, customer, clash, mark-known, known-mark, asks-is, changes-is, waits-idle, waits-busy, Busy, busy-is}
+use Rattle.promise.proofs.DemandParts.{topic, customer, clash, mark-known, known-mark, asks-is, changes-is, waits-idle, waits-busy}
+use Rattle.promise.proofs.DemandParts.{Busy, busy-is}
 use Rattle.promise.proofs.DemandReplies.{one-identifier, not-dropped, core-why, core-closes}
 
 -- arrays have their places
@@ -137,7 +138,8 @@ module _ (access : List ℕ) (ok : accessRead access .ok ≡ true) where
 
   hear-grows : (e : End) (n : ℕ) (b : Said) → suc (e .used) ≤ suc (takes access e (saidOctets n b) .end .used)
   hear-grows e n b =
-      ⊎-elim (λ same. omega (arith, ap (λ (x : End). x .used) same)) (λ shut. omega (arith, shut .used)) (takes-closes access e (saidOctets n b))
+      ⊎-elim (λ same. omega (arith, ap (λ (x : End). x .used) same)) (λ shut. omega (arith, shut .used))
+      (takes-closes access e (saidOctets n b))
 
   -- ---- sending
 

@@ -268,7 +268,8 @@ module _ (access : List ℕ) (ok : accessRead access .ok ≡ true) (counted : ac
     served : t .last < n → ServedBy (step p t s)
     served new =
         subst ServedBy (sym (step-new new))
-        (handled-ind p t (pos n) op read ServedBy failed-served (λ _ asks. listed-served asks) (λ passes other. changed-served new passes other))
+        (handled-ind p t (pos n) op read ServedBy failed-served (λ _ asks. listed-served asks)
+        (λ passes other. changed-served new passes other))
 
     -- ---- its octets
 
@@ -282,7 +283,8 @@ module _ (access : List ℕ) (ok : accessRead access .ok ≡ true) (counted : ac
         rw (e, answers size (leb-true outputLeast size e))
         (ap (λ (o : Option (List ℕ)). (step p t s .next, o))
         (forms
-        (λ y. goesDown (answerOctets (y .answer) (y .entries)) (tells (answeredBy (y .answer))) ≡ some (saidOctets n (saidBy (y .answer) (y .entries))))
+        (λ y. goesDown (answerOctets (y .answer) (y .entries)) (tells (answeredBy (y .answer))) ≡ some
+        (saidOctets n (saidBy (y .answer) (y .entries))))
         (λ _. refl) (λ _. refl) (λ _. refl) refl)))
         (λ e. rw (e, done-short access t s size (leb-false outputLeast size e)))
 

@@ -46,7 +46,8 @@ module _ {A : Type 0} where
       let P : Type 0 = those f (those g (x ∷ l)) ≡ those g (those f (x ∷ l)) in
       by-bool P (f x)
       (λ e. by-bool P (g x)
-      (λ d. rw (those-yes g x l d, those-yes f x l e, those-yes f x (those g l) e, those-yes g x (those f l) d) (ap (λ m. x ∷ m) (those-both f g l)))
+      (λ d. rw (those-yes g x l d, those-yes f x l e, those-yes f x (those g l) e, those-yes g x (those f l) d)
+      (ap (λ m. x ∷ m) (those-both f g l)))
       (λ d. rw (those-no g x l d, those-yes f x l e, those-no g x (those f l) d) (those-both f g l)))
       (λ e. by-bool P (g x)
       (λ d. rw (those-yes g x l d, those-no f x l e, those-no f x (those g l) e) (those-both f g l))

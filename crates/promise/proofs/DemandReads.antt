@@ -81,7 +81,8 @@ module _ (access : List ℕ) (ok : accessRead access .ok ≡ true) where
   -- a number of the profile stands at its own place
   placed : (k : ℕ) → k < p .numbercount → placeIn p (getD (p .numbers) k noNumber) (servedNumbers p) ≡ k
   placed k h =
-      let fit : numbersFit p (p .numbercount) ≡ true = sym (numbers-fair p (fair .some) (fair .few)) ∙ rule-at p 0 (access-good access ok) in
+      let fit : numbersFit p (p .numbercount) ≡ true = sym (numbers-fair p (fair .some) (fair .few))
+      ∙ rule-at p 0 (access-good access ok) in
       let one = every-at (numberFits p (p .numbercount) (p .numbers)) (p .numbercount) k h fit in
       let number = getD (p .numbers) k noNumber in
       eqb-true (placeIn p number (servedNumbers p)) k
@@ -91,7 +92,8 @@ module _ (access : List ℕ) (ok : accessRead access .ok ≡ true) where
   place-back k h =
       let most = fair .few in
       rw (served-own (p .numbers) k (omega (arith, h, most)))
-      (place-tidied (getD (p .numbers) k noNumber) (fair .numbers k h) (access-numbers access ok k (omega (arith, h, most))) p (servedNumbers p)
+      (place-tidied (getD (p .numbers) k noNumber) (fair .numbers k h) (access-numbers access ok k (omega (arith, h, most))) p
+      (servedNumbers p)
       ∙ placed k h)
 
   abbrev entryOn : Instance → Entry

@@ -229,7 +229,8 @@ module _ (access : List ℕ) (ok : accessRead access .ok ≡ true) where
       why-of o (marks.restored own _ before value is pic) =
           let x = is-failed (e .used) (e .operation) s b (fit .back) value is in
           rules.by-error asked (x .0) (before-known before)
-          (subst (λ q. (aboutOf asked ≡ rules.changes q) ⊎ (aboutOf asked ≡ rules.asks-for q)) (sym own) (about-one asked)) (x .1) (same-pic o pic)
+          (subst (λ q. (aboutOf asked ≡ rules.changes q) ⊎ (aboutOf asked ≡ rules.asks-for q)) (sym own) (about-one asked)) (x .1)
+          (same-pic o pic)
       why-of o (marks.applies own _ before is passes pic) =
           let x = is-done (e .used) (e .operation) s b (fit .back) is in
           let not : e .operation ≡ interrogation → ⊥ = λ z. ⊎-elim (λ y. omega (arith, y, z)) (λ y. omega (arith, y, z)) (x .1) in

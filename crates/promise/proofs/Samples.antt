@@ -27,13 +27,15 @@ use Rattle.requests.specs.Request.{noRequest, codeAt, serviceAt, servedAt, priv
 use Rattle.requests.specs.Sent.{servedGood, toGood, partsGood, sendable, servedOctets, toOctets, requestOctets}
 use Rattle.laws.specs.Places.{everyTo, eachFrom, gathered}
 use Rattle.profile.specs.Access.{numberFrom, prefixFrom, prefixesFrom, profileFrom, accessRead}
-use Rattle.profile.specs.Profile.{sameDigits, sameNumber, same, placeIn, numbersGood, rising, servicesGood, prefixGood, prefixesGood, subscriptionsGood, usesGood, diversionGood, profileGood}
+use Rattle.profile.specs.Profile.{sameDigits, sameNumber, same, placeIn, numbersGood, rising, servicesGood, prefixGood, prefixesGood}
+use Rattle.profile.specs.Profile.{subscriptionsGood, usesGood, diversionGood, profileGood}
 use Rattle.laws.specs.Those.{those}
 use Rattle.instances.specs.Instance.{key, named, selected, concerns, chosen, isAt, among, instanceFits}
 use Rattle.instances.specs.Places.{placesFrom, placesOf}
 use Rattle.instances.specs.Run.{servedNumber, forwardedTo, merged, ascending, eachGood, fewOfEach, runGood}
 use Rattle.rules.specs.Prefix.{begins, beginsAny}
-use Rattle.rules.specs.Judge.{isSubscribed, hasAllNumbers, servedInvalid, notProvided, otherKind, selectedSame, fits, afterwards, judge, changed, applied}
+use Rattle.rules.specs.Judge.{isSubscribed, hasAllNumbers, servedInvalid, notProvided, otherKind, selectedSame, fits, afterwards, judge}
+use Rattle.rules.specs.Judge.{changed, applied}
 use Rattle.rules.specs.Selection.{numberAsked, selectionOf}
 use Rattle.exchange.specs.Table.{tableGood}
 use Rattle.exchange.specs.Question.{notAbove, duplicate, knownOperation, invoked, question}
@@ -83,7 +85,8 @@ unfolding fewestFrom wordAt wordOctets spanOf lengthAt headAt lengthHolds length
     instancesOctets sheetOctets instancesFrom inOrder sheetIn decimalIn decimal procedureName kindText hexOf hexText subText lineOf
     headerLine instanceLine instanceLines listing listedSheet refusedLine printedSheet wroteSheet saidAt markAt marked closed
     marksGood waitingGood endGood servedGood toGood partsGood sendable marksSent sent sends learned took takes shown
-    sorted instancesListed listGood entryOctets blanks contentsText elementLine siblings elementLines linesIn signedText numberText servedText
+    sorted instancesListed listGood entryOctets blanks contentsText elementLine siblings elementLines linesIn signedText numberText
+    servedText
     octetsWord subWord toText operationText argumentText requestLine replyWord valueText replyText replyOf operationNo isOperation
     askedText said explained
 each-sample =
@@ -153,7 +156,8 @@ resultOctets = 0xA2 ∷ 0x03 ∷ 0x02 ∷ 0x01 ∷ 0x02 ∷ []
 
 abbrev listingOctets : List ℕ
 listingOctets =
-    0xA2 ∷ 0x22 ∷ 0x02 ∷ 0x01 ∷ 0x03 ∷ 0x30 ∷ 0x1D ∷ 0x02 ∷ 0x01 ∷ 0x0B ∷ 0x31 ∷ 0x18 ∷ 0x30 ∷ 0x16 ∷ 0x80 ∷ 0x05 ∷ 0x31 ∷ 0x33 ∷ 0x35 ∷ 0x37 ∷ 0x39
+    0xA2 ∷ 0x22 ∷ 0x02 ∷ 0x01 ∷ 0x03 ∷ 0x30 ∷ 0x1D ∷ 0x02 ∷ 0x01 ∷ 0x0B ∷ 0x31 ∷ 0x18 ∷ 0x30 ∷ 0x16 ∷ 0x80 ∷ 0x05 ∷ 0x31 ∷ 0x33 ∷ 0x35 ∷
+    0x37 ∷ 0x39
     ∷ 0x0A ∷ 0x01 ∷ 0x01 ∷ 0x0A ∷ 0x01 ∷ 0x01 ∷ 0x30 ∷ 0x07 ∷ 0x80 ∷ 0x05 ∷ 0x32 ∷ 0x34 ∷ 0x36 ∷ 0x38 ∷ 0x30 ∷ []
 
 abbrev M : Machine
@@ -184,7 +188,9 @@ abbrev w6 : World M
 w6 = moment activatedTable (waitsFor 3 0 interrogates) (thirdOctets ∷ activationOctets ∷ firstOctets ∷ []) (resultOctets ∷ [])
 
 abbrev w7 : World M
-w7 = moment interrogatedTable (waitsFor 3 0 interrogates) (thirdOctets ∷ activationOctets ∷ firstOctets ∷ []) (listingOctets ∷ resultOctets ∷ [])
+w7 =
+    moment interrogatedTable (waitsFor 3 0 interrogates) (thirdOctets ∷ activationOctets ∷ firstOctets ∷ [])
+    (listingOctets ∷ resultOctets ∷ [])
 
 abbrev w8 : World M
 w8 =
@@ -217,7 +223,8 @@ unfolding fewestFrom wordAt wordOctets spanOf lengthAt headAt lengthHolds length
     prefixGood prefixesGood subscriptionsGood usesGood diversionGood profileGood those key named selected concerns chosen isAt among
     instanceFits placesFrom placesOf servedNumber forwardedTo merged ascending eachGood fewOfEach runGood isSubscribed hasAllNumbers
     servedInvalid notProvided otherKind begins beginsAny selectedSame fits afterwards judge changed applied numberAsked selectionOf
-    tableGood notAbove duplicate knownOperation invoked question lastAfter resultOf handled step done saidAt sendable partsGood toGood servedGood
+    tableGood notAbove duplicate knownOperation invoked question lastAfter resultOf handled step done saidAt sendable partsGood toGood
+    servedGood
     sized markAt marked closed marksGood waitingGood endGood sorted instancesListed listGood marksSent sent sends learned took gaveUp
     takes givesUp shown entryOctets entryAt fieldsIn codesIn lastField kept
     machine.sending machine.replying machine.ending machine.after machine.start

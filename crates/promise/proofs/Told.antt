@@ -60,7 +60,8 @@ asked-told p last s identifier operation at end =
   where
     twice :
         (again is : Bool) →
-        Told (pick is (arguedText identifier (operationNo (operation .value)) (argumentAt operation s at end)) (rowLine rowSeven identifier))
+        Told (pick is (arguedText identifier (operationNo (operation .value)) (argumentAt operation s at end))
+        (rowLine rowSeven identifier))
         (pick again (rejects (Own identifier) (Invoke 0))
         (pick is (argued identifier operation (argumentAt operation s at end)) (rejects (Own identifier) (Invoke 1))))
     twice true is = inr (identifier, refl)

@@ -6,14 +6,16 @@ use native.Mathlib.Omega.{arith}
 use lib.ListN.{getD}
 use Rattle.refusals.specs.Refusal.{refusalNo, Told, refuses, tells}
 use Rattle.refusals.specs.declared.refusal.Refusal.{Refusal}
-use Rattle.refusals.specs.declared.refusal.Refusal.the-variants.{ShortOutput, LongComponent, BadProfile, BadTable, BadCall, LimitReached, Outstanding, Exhausted, BadSheet, BadRequest}
+use Rattle.refusals.specs.declared.refusal.Refusal.the-variants.{ShortOutput, LongComponent, BadProfile, BadTable, BadCall}
+use Rattle.refusals.specs.declared.refusal.Refusal.the-variants.{LimitReached, Outstanding, Exhausted, BadSheet, BadRequest}
 
 -- ---- refusals
 
 -- each at the place of its number; none has the number 0
 abbrev inOrder : List Refusal
 inOrder =
-    ShortOutput ∷ ShortOutput ∷ LongComponent ∷ BadProfile ∷ BadTable ∷ BadCall ∷ LimitReached ∷ Outstanding ∷ Exhausted ∷ BadSheet ∷ BadRequest ∷ []
+    ShortOutput ∷ ShortOutput ∷ LongComponent ∷ BadProfile ∷ BadTable ∷ BadCall ∷ LimitReached ∷ Outstanding ∷ Exhausted ∷ BadSheet ∷
+    BadRequest ∷ []
 
 refusal-at : (a : Refusal) → a ≡ getD inOrder (refusalNo a) ShortOutput
 refusal-at ShortOutput = refl

@@ -2,7 +2,8 @@
 use Prim.Native.Nat.{ℕ}
 use mathlib.Core.Path.{_≡_}
 use Rattle.refusals.specs.declared.refusal.Refusal.{Refusal}
-use Rattle.refusals.specs.declared.refusal.Refusal.the-variants.{ShortOutput, LongComponent, BadProfile, BadTable, BadCall, LimitReached, Outstanding, Exhausted, BadSheet, BadRequest}
+use Rattle.refusals.specs.declared.refusal.Refusal.the-variants.{ShortOutput, LongComponent, BadProfile, BadTable, BadCall}
+use Rattle.refusals.specs.declared.refusal.Refusal.the-variants.{LimitReached, Outstanding, Exhausted, BadSheet, BadRequest}
 
 -- the numbers of "Local refusals"
 abbrev pub refusalNo : Refusal → ℕ

@@ -29,7 +29,8 @@ use Rattle.instances.specs.declared.instance.Instance.{Instance}
 use Rattle.instances.specs.declared.instance.Selection.{Selection}
 use Rattle.rules.specs.Prefix.{beginsAny}
 use Rattle.rules.specs.Selection.{numberAsked, selectionOf}
-use Rattle.rules.specs.Judge.{firstError, everyTests, notInUse, isSubscribed, hasAllNumbers, servedInvalid, notProvided, userSpecified, otherKind, selectedSame, afterwards, testsOf, judge}
+use Rattle.rules.specs.Judge.{firstError, everyTests, notInUse, isSubscribed, hasAllNumbers, servedInvalid, notProvided}
+use Rattle.rules.specs.Judge.{userSpecified, otherKind, selectedSame, afterwards, testsOf, judge}
 use Rattle.rules.proofs.Judges.{count-afterwards}
 
 -- ---- numbers
@@ -127,7 +128,8 @@ module _ (p : Profile) (operation : ℕ) (r : Request) (goes : sendable operatio
       ∙ (ap count selection-tidied ∙ count-afterwards p r is (selectionOf p r) refl (count (selectionOf p r)) refl)
 
   to-number : eqb operation activation ≡ true → numberGood (r .to .address .number) ≡ true
-  to-number e = good-address (r .to .address) (good-to (r .to) (good-request operation r goes .to (eqb-true operation activation e)) .address) .number
+  to-number e =
+      good-address (r .to .address) (good-to (r .to) (good-request operation r goes .to (eqb-true operation activation e)) .address) .number
 
   user-tidied : eqb operation activation ≡ true → userSpecified r′ ≡ userSpecified r
   user-tidied e = rw (e, good-to (r .to) (good-request operation r goes .to (eqb-true operation activation e)) .user)

@@ -37,7 +37,8 @@ module _ (access : List ℕ) (t : Table) (size : ℕ) (done : wroteSheet access 
   written-room : sheetMost form1 ≤ size
   written-room =
       by-bool (sheetMost form1 ≤ size) (ltb size (sheetMost form1))
-      (λ e. absurd (refuses-not _ tt (sym (ap (λ (w : Made). w .told) (writes-short access t size (ltb-true size (sheetMost form1) e))) ∙ done)))
+      (λ e. absurd (refuses-not _ tt
+      (sym (ap (λ (w : Made). w .told) (writes-short access t size (ltb-true size (sheetMost form1) e))) ∙ done)))
       (λ e. ltb-false size (sheetMost form1) e)
 
   written-ok : accessRead access .ok ≡ true
@@ -47,7 +48,8 @@ module _ (access : List ℕ) (t : Table) (size : ℕ) (done : wroteSheet access 
 
   written-good : tableGood instancesMost (accessRead access .profile) t ≡ true
   written-good =
-      by-bool (tableGood instancesMost (accessRead access .profile) t ≡ true) (tableGood instancesMost (accessRead access .profile) t) (λ e. e)
+      by-bool (tableGood instancesMost (accessRead access .profile) t ≡ true) (tableGood instancesMost (accessRead access .profile) t)
+      (λ e. e)
       (λ e. absurd (refuses-not _ tt (sym (ap (λ (w : Made). w .told) (writes-table access t size written-room written-ok e)) ∙ done)))
 
   written-octets : wroteSheet access t size .octets ≡ sheetOctets form1 (t .last) (instancesOf (t .run))

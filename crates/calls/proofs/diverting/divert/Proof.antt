@@ -21,7 +21,8 @@ returns : tie.Need-returns
 returns c =
     let a = c .before .before .before .before .before .before .args in
     let read = c .before .before .before .read-access .ensures in
-    rw (comes-profile (a .access .now) (a .table) (a .call .now) (ap (λ (r : AccessRead). r .ok) (sym read) ∙ not-true _ (c .before .if1 .taken)))
+    rw (comes-profile (a .access .now) (a .table) (a .call .now)
+    (ap (λ (r : AccessRead). r .ok) (sym read) ∙ not-true _ (c .before .if1 .taken)))
     (c .refuses .ensures)
 
 good-requires : tie.Need-good-requires
@@ -35,7 +36,8 @@ returns-2 c =
     let a = c .before .before .before .before .before .before .before .before .before .args in
     let read = c .before .before .before .before .before .before .read-access .ensures in
     let ok = ap (λ (r : AccessRead). r .ok) (sym read) ∙ not-false _ (c .before .before .before .before .if1 .left) in
-    rw (comes-table (a .access .now) (a .table) (a .call .now) ok (rw read at (sym (c .before .before .good2 .ensures) ∙ not-true _ (c .before .if2 .taken))))
+    rw (comes-table (a .access .now) (a .table) (a .call .now) ok
+    (rw read at (sym (c .before .before .good2 .ensures) ∙ not-true _ (c .before .if2 .taken))))
     (c .refuses2 .ensures)
 
 call-good-requires : tie.Need-call-good-requires
@@ -50,7 +52,8 @@ returns-3 c =
     let read = c .before .before .before .before .before .before .before .before .read-access .ensures in
     let ok = ap (λ (r : AccessRead). r .ok) (sym read) ∙ not-false _ (c .before .before .before .before .before .before .if1 .left) in
     let good = rw read at (sym (c .before .before .before .before .good2 .ensures) ∙ not-false _ (c .before .before .before .if2 .left)) in
-    rw (comes-call (a .access .now) (a .table) (a .call .now) ok good (rw read at (sym (c .before .before .call-good .ensures) ∙ not-true _ (c .before .if3 .taken))))
+    rw (comes-call (a .access .now) (a .table) (a .call .now) ok good
+    (rw read at (sym (c .before .before .call-good .ensures) ∙ not-true _ (c .before .if3 .taken))))
     (c .refuses3 .ensures)
 
 call-of-requires : tie.Need-call-of-requires
@@ -62,8 +65,10 @@ divert-by-requires : tie.Need-divert-by-requires
 divert-by-requires c κs =
     let a = c .before .before .before .before .before .before .before .before .before .before .before .before .args in
     let read = c .before .before .before .before .before .before .before .before .before .read-access .ensures in
-    let profile = access-good (a .access .now) (ap (λ (r : AccessRead). r .ok) (sym read) ∙ not-false _ (c .before .before .before .before .before .before .before .if1 .left)) in
-    let call = good-call _ (a .call .now) (rw read at (sym (c .before .before .before .call-good .ensures) ∙ not-false _ (c .before .before .if3 .left))) in
+    let profile = access-good (a .access .now)
+    (ap (λ (r : AccessRead). r .ok) (sym read) ∙ not-false _ (c .before .before .before .before .before .before .before .if1 .left)) in
+    let call = good-call _ (a .call .now)
+    (rw read at (sym (c .before .before .before .call-good .ensures) ∙ not-false _ (c .before .before .if3 .left))) in
     rw (read, c .before .call-of .ensures)
     (options-most _ _ _ profile, omega (arith, call .number, good-profile _ profile .few))
 
@@ -71,9 +76,12 @@ returns-4 : tie.Need-returns-4
 returns-4 c =
     let a = c .before .before .before .before .before .before .before .before .before .before .before .before .before .args in
     let read = c .before .before .before .before .before .before .before .before .before .before .read-access .ensures in
-    let ok = ap (λ (r : AccessRead). r .ok) (sym read) ∙ not-false _ (c .before .before .before .before .before .before .before .before .if1 .left) in
-    let good = rw read at (sym (c .before .before .before .before .before .before .good2 .ensures) ∙ not-false _ (c .before .before .before .before .before .if2 .left)) in
-    rw (comes-by (a .access .now) (a .table) (a .call .now) ok good (rw read at (sym (c .before .before .before .before .call-good .ensures) ∙ not-false _ (c .before .before .before .if3 .left))))
+    let ok = ap (λ (r : AccessRead). r .ok) (sym read)
+    ∙ not-false _ (c .before .before .before .before .before .before .before .before .if1 .left) in
+    let good = rw read at (sym (c .before .before .before .before .before .before .good2 .ensures)
+    ∙ not-false _ (c .before .before .before .before .before .if2 .left)) in
+    rw (comes-by (a .access .now) (a .table) (a .call .now) ok good
+    (rw read at (sym (c .before .before .before .before .call-good .ensures) ∙ not-false _ (c .before .before .before .if3 .left))))
     (rw (read, c .before .before .call-of .ensures) at (c .divert-by .ensures))
 
 pub divert-spec : {M : Type 1} → statement M

@@ -41,13 +41,22 @@ returns-3 c =
     let a = k .before .before .before .before .args in
     let used = k .before .before .if1 .left in
     let event = k .before .procedure-of .ensures in
-    let some = found-some (a .p) (instancesOf (a .run)) (a .c) used _ _ event (k .find .ensures) (not-false _ (c .before .before .before .before .if2 .left)) in
+    let some = found-some (a .p) (instancesOf (a .run)) (a .c) used _ _ event (k .find .ensures)
+    (not-false _ (c .before .before .before .before .if2 .left)) in
     rw (some, le-ltb _ _ (c .before .if3 .taken)) (c .refuses .ensures)
 
 go-on-requires : tie.Need-go-on-requires
 go-on-requires c κs =
-    let k = c .before .before .before .before .before .before .before .before .before .before in
-    (k .pre .0, k .pre .1, omega (arith, c .before .if3 .left, c .before .before .struct-known4 .given, c .before .before .before .struct-known3 .given))
+    let k = c .before .before .before .before .before .before .before .before .before .before in (
+      k .pre .0,
+      k .pre .1,
+      omega (
+        arith,
+        c .before .if3 .left,
+        c .before .before .struct-known4 .given,
+        c .before .before .before .struct-known3 .given,
+      ),
+    )
 
 returns-4 : tie.Need-returns-4
 returns-4 c =
@@ -55,7 +64,8 @@ returns-4 c =
     let a = k .before .before .before .before .args in
     let used = k .before .before .if1 .left in
     let event = k .before .procedure-of .ensures in
-    let some = found-some (a .p) (instancesOf (a .run)) (a .c) used _ _ event (k .find .ensures) (not-false _ (c .before .before .before .before .before .if2 .left)) in
+    let some = found-some (a .p) (instancesOf (a .run)) (a .c) used _ _ event (k .find .ensures)
+    (not-false _ (c .before .before .before .before .before .if2 .left)) in
     rw (some, lt-ltb _ _ (c .before .before .if3 .left)) (c .go-on .ensures)
 
 pub divert-by-spec : {M : Type 1} → statement M

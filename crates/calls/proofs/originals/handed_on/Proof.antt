@@ -37,13 +37,15 @@ part-result-start c = search needs
 part-result-end : tie.Need-part-result-end
 part-result-end c =
     let k = c .before .before .before .before .before .before .before in
-    rw (c .before .before .before .before .call-of .ensures, k .pre .redirecting) (served-within (k .args .access .now) (k .args .call .now) (k .pre .ok) (k .pre .good))
+    rw (c .before .before .before .before .call-of .ensures, k .pre .redirecting)
+    (served-within (k .args .access .now) (k .args .call .now) (k .pre .ok) (k .pre .good))
 
 returns : tie.Need-returns
 returns c =
     let k = c .before .before .before .before .before .before .before .before in
     rw (c .before .before .before .before .before .call-of .ensures, k .pre .redirecting)
-    (original-first (k .args .access .now) (k .args .call .now) (rw (c .before .before .before .before .before .call-of .ensures) at (c .before .before .before .if1 .taken)))
+    (original-first (k .args .access .now) (k .args .call .now)
+    (rw (c .before .before .before .before .before .call-of .ensures) at (c .before .before .before .if1 .taken)))
 
 cast-result-2 : tie.Need-cast-result-2
 cast-result-2 c = search needs
@@ -67,7 +69,8 @@ returns-2 : tie.Need-returns-2
 returns-2 c =
     let k = c .before .before .before .before .before .before .before in
     rw (c .before .before .before .before .call-of .ensures)
-    (original-later (k .args .access .now) (k .args .call .now) (rw (c .before .before .before .before .call-of .ensures) at (c .before .before .if1 .left)))
+    (original-later (k .args .access .now) (k .args .call .now)
+    (rw (c .before .before .before .before .call-of .ensures) at (c .before .before .if1 .left)))
 
 pub handed-on-spec : {M : Type 1} → statement M
 handed-on-spec =

@@ -22,7 +22,9 @@ array-read-if1 : tie.Need-array-read-if1 Inv-loop μ-loop
 array-read-if1 c = search needs
 
 returns : tie.Need-returns Inv-loop μ-loop
-returns c = let l = c .before .before in place-here (l .before .args .code) services (l .loop .i) (omega arith) (c .if1 .taken) (l .loop .inv .1)
+returns c =
+    let l = c .before .before in
+    place-here (l .before .args .code) services (l .loop .i) (omega arith) (c .if1 .taken) (l .loop .inv .1)
 
 add-i : tie.Need-add-i Inv-loop μ-loop
 add-i c = search needs
@@ -31,10 +33,15 @@ loop-less : tie.Need-loop-less Inv-loop μ-loop
 loop-less c = search needs
 
 loop-again : tie.Need-loop-again Inv-loop μ-loop
-loop-again c = let l = c .before .before in (omega arith, place-next (l .before .args .code) services (l .loop .i) (omega arith) (c .if1 .left) (l .loop .inv .1))
+loop-again c =
+    let l = c .before .before in
+    (omega arith, place-next (l .before .args .code) services (l .loop .i) (omega arith) (c .if1 .left) (l .loop .inv .1))
 
 returns-2 : tie.Need-returns-2 Inv-loop μ-loop
-returns-2 c = let l = c .before in let e : l .loop .i ≡ length services = omega arith in rw e (place-none (l .before .args .code) services (rw e at (l .loop .inv .1)))
+returns-2 c =
+    let l = c .before in
+    let e : l .loop .i ≡ length services = omega arith in
+    rw e (place-none (l .before .args .code) services (rw e at (l .loop .inv .1)))
 
 pub service-place-spec : {M : Type 1} → statement M
 service-place-spec =

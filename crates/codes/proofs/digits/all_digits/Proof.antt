@@ -22,7 +22,9 @@ shared-slice-read-c : tie.Need-shared-slice-read-c Inv-loop μ-loop
 shared-slice-read-c c = search needs
 
 returns : tie.Need-returns Inv-loop μ-loop
-returns c = let l = c .before .before .before in rw (l .loop .inv .1, digits-step (l .before .args .s .now) (l .loop .i) (omega arith), lt-ltb _ _ (c .if1 .taken))
+returns c =
+    let l = c .before .before .before in
+    rw (l .loop .inv .1, digits-step (l .before .args .s .now) (l .loop .i) (omega arith), lt-ltb _ _ (c .if1 .taken))
 
 returns-2 : tie.Need-returns-2 Inv-loop μ-loop
 returns-2 c =
@@ -45,11 +47,19 @@ loop-again c =
     let l = c .before .before .before .before in (
       search needs,
       l .loop .inv .1
-          ∙ rw (digits-step (l .before .args .s .now) (l .loop .i) (omega arith), le-ltb _ _ (c .before .if1 .left), le-ltb _ _ (c .if2 .left)),
+          ∙ rw (
+            digits-step (l .before .args .s .now) (l .loop .i) (omega arith),
+            le-ltb _ _ (c .before .if1 .left),
+            le-ltb _ _
+                (c .if2 .left),
+          ),
     )
 
 returns-3 : tie.Need-returns-3 Inv-loop μ-loop
-returns-3 c = let l = c .before in let e : l .loop .i ≡ length (l .before .args .s .now) = omega arith in sym (l .loop .inv .1 ∙ rw e (digits-end (l .before .args .s .now)))
+returns-3 c =
+    let l = c .before in
+    let e : l .loop .i ≡ length (l .before .args .s .now) = omega arith in
+    sym (l .loop .inv .1 ∙ rw e (digits-end (l .before .args .s .now)))
 
 pub all-digits-spec : {M : Type 1} → statement M
 all-digits-spec =

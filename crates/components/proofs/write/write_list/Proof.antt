@@ -13,7 +13,8 @@ refuses-requires c κs = search needs
 returns : tie.Need-returns
 returns c =
     let a = c .before .before .before .args in
-    refused-made _ (a .out .now) ShortOutput _ (list-short _ (a .list) (length (a .out .now)) (omega (arith, c .before .if1 .taken))) (c .refuses .ensures)
+    refused-made _ (a .out .now) ShortOutput _ (list-short _ (a .list) (length (a .out .now)) (omega (arith, c .before .if1 .taken)))
+    (c .refuses .ensures)
 
 cast-if2 : tie.Need-cast-if2
 cast-if2 c = search needs
@@ -24,7 +25,9 @@ refuses-requires-2 c κs = search needs
 returns-2 : tie.Need-returns-2
 returns-2 c =
     let a = c .before .before .before .before .before .args in
-    refused-made _ (a .out .now) BadTable _ (list-many _ (a .list) (length (a .out .now)) (omega (arith, c .before .before .before .if1 .left)) (omega (arith, c .before .if2 .taken)))
+    refused-made _ (a .out .now) BadTable _
+    (list-many _ (a .list) (length (a .out .now)) (omega (arith, c .before .before .before .if1 .left))
+    (omega (arith, c .before .if2 .taken)))
     (c .refuses2 .ensures)
 
 put-list-requires : tie.Need-put-list-requires
@@ -39,8 +42,11 @@ same-length c = search needs
 returns-3 : tie.Need-returns-3
 returns-3 c =
     let a = c .before .before .before .before .before .before .before .before .before .args in
-    written-made _ (a .out .now) _ _ _ _ (list-few _ (a .list) (length (a .out .now)) (omega (arith, c .before .before .before .before .before .before .before .if1 .left)) (omega (arith, c .before .before .before .before .before .if2 .left)))
-    (c .done .ensures) (rw (toZ-ofZ (c .before .before .before .before .before .before .before .before .before .fits .identifier)) at (c .before .before .before .put-list .ensures))
+    written-made _ (a .out .now) _ _ _ _
+    (list-few _ (a .list) (length (a .out .now)) (omega (arith, c .before .before .before .before .before .before .before .if1 .left))
+    (omega (arith, c .before .before .before .before .before .if2 .left)))
+    (c .done .ensures) (rw (toZ-ofZ (c .before .before .before .before .before .before .before .before .before .fits .identifier)) at
+    (c .before .before .before .put-list .ensures))
 
 pub write-list-spec : {M : Type 1} → statement M
 write-list-spec =

@@ -17,7 +17,8 @@ refuses-requires c κs = search needs
 returns : tie.Need-returns
 returns c =
     let a = c .before .before .before .args in
-    refused-made _ (a .out .now) ShortOutput _ (request-short _ (a .operation) (a .r) (length (a .out .now)) (omega (arith, c .before .if1 .taken))) (c .refuses .ensures)
+    refused-made _ (a .out .now) ShortOutput _
+    (request-short _ (a .operation) (a .r) (length (a .out .now)) (omega (arith, c .before .if1 .taken))) (c .refuses .ensures)
 
 is-sendable-requires : tie.Need-is-sendable-requires
 is-sendable-requires c κs = search needs
@@ -29,7 +30,8 @@ returns-2 : tie.Need-returns-2
 returns-2 c =
     let a = c .before .before .before .before .before .args in
     refused-made _ (a .out .now) BadRequest _
-    (request-unfit _ (a .operation) (a .r) (length (a .out .now)) (omega (arith, c .before .before .before .if1 .left)) (sym (c .before .before .is-sendable .ensures) ∙ not-true _ (c .before .if2 .taken)))
+    (request-unfit _ (a .operation) (a .r) (length (a .out .now)) (omega (arith, c .before .before .before .if1 .left))
+    (sym (c .before .before .is-sendable .ensures) ∙ not-true _ (c .before .if2 .taken)))
     (c .refuses2 .ensures)
 
 put-request-requires : tie.Need-put-request-requires
@@ -46,9 +48,11 @@ returns-3 c =
     let a = c .before .before .before .before .before .before .before .before .before .args in
     let range = c .before .before .before .before .before .before .before .before .before .fits .identifier in
     let enough : outputLeast ≤ length (a .out .now) = omega (arith, c .before .before .before .before .before .before .before .if1 .left) in
-    let fit = sym (c .before .before .before .before .before .before .is-sendable .ensures) ∙ not-false _ (c .before .before .before .before .before .if2 .left) in
+    let fit = sym (c .before .before .before .before .before .before .is-sendable .ensures)
+    ∙ not-false _ (c .before .before .before .before .before .if2 .left) in
     written-made _ (a .out .now) _ _ _ _ (request-fit _ (a .operation) (a .r) (length (a .out .now)) enough fit) (c .done .ensures)
-    (request-put (a .out .now) _ (a .operation) (a .r) _ _ (range .sfits) enough fit (rw (toZ-ofZ range) at (c .before .before .before .put-request .ensures)))
+    (request-put (a .out .now) _ (a .operation) (a .r) _ _ (range .sfits) enough fit
+    (rw (toZ-ofZ range) at (c .before .before .before .put-request .ensures)))
 
 pub write-request-spec : {M : Type 1} → statement M
 write-request-spec =

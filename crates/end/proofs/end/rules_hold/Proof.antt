@@ -29,19 +29,56 @@ marks-good-requires c κs = search needs
 
 -- src/end.rt:76:9
 returns-3 : tie.Need-returns-3
-returns-3 c = rw (le-leb _ _ (c .before .before .before .before .before .if1 .left), le-leb _ _ (c .before .before .before .if2 .left), sym (c .before .marks-good .ensures) ∙ not-true _ (c .if3 .taken))
+returns-3 c =
+    rw (
+      le-leb _ _ (c .before .before .before .before .before .if1 .left),
+      le-leb _ _ (c .before .before .before .if2 .left),
+      sym
+          (c .before .marks-good .ensures) ∙ not-true _ (c .if3 .taken),
+    )
 
 -- src/end.rt:79:9
 returns-4 : tie.Need-returns-4
-returns-4 c = rw (le-leb _ _ (c .before .before .before .before .before .before .before .if1 .left), le-leb _ _ (c .before .before .before .before .before .if2 .left), sym (c .before .before .before .marks-good .ensures) ∙ not-false _ (c .before .before .if3 .left), waiting-none (c .before .before .before .before .before .before .before .before .before .args .e) (c .if4 .taken))
+returns-4 c =
+    rw (
+      le-leb _ _ (c .before .before .before .before .before .before .before .if1 .left),
+      le-leb _ _
+          (c .before .before .before .before .before .if2 .left),
+      sym (c .before .before .before .marks-good .ensures)
+          ∙ not-false _ (c .before .before .if3 .left),
+      waiting-none
+          (c .before .before .before .before .before .before .before .before .before .args .e) (c .if4 .taken),
+    )
 
 -- src/end.rt:82:9
 returns-5 : tie.Need-returns-5
-returns-5 c = rw (le-leb _ _ (c .before .before .before .before .before .before .before .before .before .if1 .left), le-leb _ _ (c .before .before .before .before .before .before .before .if2 .left), sym (c .before .before .before .before .before .marks-good .ensures) ∙ not-false _ (c .before .before .before .before .if3 .left), waiting-unused (c .before .before .before .before .before .before .before .before .before .before .before .args .e) (c .before .before .if4 .left) (c .if5 .taken))
+returns-5 c =
+    rw (
+      le-leb _ _ (c .before .before .before .before .before .before .before .before .before .if1 .left),
+      le-leb _ _
+          (c .before .before .before .before .before .before .before .if2 .left),
+      sym
+          (c .before .before .before .before .before .marks-good .ensures)
+          ∙ not-false _ (c .before .before .before .before .if3 .left),
+      waiting-unused
+          (c .before .before .before .before .before .before .before .before .before .before .before .args .e) (c .before .before .if4 .left)
+          (c .if5 .taken),
+    )
 
 -- src/end.rt:85:9
 returns-6 : tie.Need-returns-6
-returns-6 c = rw (le-leb _ _ (c .before .before .before .before .before .before .before .before .before .before .before .if1 .left), le-leb _ _ (c .before .before .before .before .before .before .before .before .before .if2 .left), sym (c .before .before .before .before .before .before .before .marks-good .ensures) ∙ not-false _ (c .before .before .before .before .before .before .if3 .left), waiting-mark (c .before .before .before .before .before .before .before .before .before .before .before .before .before .args .e) (c .before .before .before .before .if4 .left) (c .before .before .if5 .left) (c .if6 .taken))
+returns-6 c =
+    rw (
+      le-leb _ _ (c .before .before .before .before .before .before .before .before .before .before .before .if1 .left),
+      le-leb _ _
+          (c .before .before .before .before .before .before .before .before .before .if2 .left),
+      sym
+          (c .before .before .before .before .before .before .before .marks-good .ensures)
+          ∙ not-false _ (c .before .before .before .before .before .before .if3 .left),
+      waiting-mark
+          (c .before .before .before .before .before .before .before .before .before .before .before .before .before .args .e)
+          (c .before .before .before .before .if4 .left) (c .before .before .if5 .left) (c .if6 .taken),
+    )
 
 -- src/end.rt:88:5
 is-sendable-requires : tie.Need-is-sendable-requires
@@ -49,7 +86,20 @@ is-sendable-requires c κs = search needs
 
 -- src/end.rt:65:1
 returns-7 : tie.Need-returns-7
-returns-7 c = rw (le-leb _ _ (c .before .before .before .before .before .before .before .before .before .before .before .before .before .if1 .left), le-leb _ _ (c .before .before .before .before .before .before .before .before .before .before .before .if2 .left), sym (c .before .before .before .before .before .before .before .before .before .marks-good .ensures) ∙ not-false _ (c .before .before .before .before .before .before .before .before .if3 .left), waiting-sends (c .before .before .before .before .before .before .before .before .before .before .before .before .before .before .before .args .e) (c .before .before .before .before .before .before .if4 .left) (c .before .before .before .before .if5 .left) (c .before .before .if6 .left)) (c .is-sendable .ensures ∙ sym (pick-last (sendable (c .before .before .before .before .before .before .before .before .before .before .before .before .before .before .before .args .e .operation) (c .before .before .before .before .before .before .before .before .before .before .before .before .before .before .before .args .e .request))))
+returns-7 c =
+    rw (
+      le-leb _ _ (c .before .before .before .before .before .before .before .before .before .before .before .before .before .if1 .left),
+      le-leb _ _ (c .before .before .before .before .before .before .before .before .before .before .before .if2 .left),
+      sym
+          (c .before .before .before .before .before .before .before .before .before .marks-good .ensures)
+          ∙ not-false _ (c .before .before .before .before .before .before .before .before .if3 .left),
+      waiting-sends
+          (c .before .before .before .before .before .before .before .before .before .before .before .before .before .before .before .args .e)
+          (c .before .before .before .before .before .before .if4 .left) (c .before .before .before .before .if5 .left)
+          (c .before .before .if6 .left),
+    )
+    (c .is-sendable .ensures ∙ sym
+    (pick-last (sendable (c .before .before .before .before .before .before .before .before .before .before .before .before .before .before .before .args .e .operation) (c .before .before .before .before .before .before .before .before .before .before .before .before .before .before .before .args .e .request))))
 
 pub rules-hold-spec : {M : Type 1} → statement M
 rules-hold-spec =

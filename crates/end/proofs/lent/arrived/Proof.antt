@@ -128,7 +128,8 @@ module _ {M : Type 1} (𝓤 : URA M) (H : Heap 𝓤) (A : Atoms 𝓤) (W : Given
 
   asked : ent 𝓤 (onEntry 𝓤 H A taken.signature (κ₁, (κ₂, tt)) (q₁, (q₂, tt)) (h, (s₁, (s₂, tt))) (vals h, (v₁ ∷ [], (v₂ ∷ [], tt))))
       (Step 𝓤 H A at-mem run .pre to)
-  asked = qed W ((‵ (flft κ₁ q₁) ⊛ ‵ (flft κ₂ q₂) ⊛ ‵ ftrue) ∷ ‵ (owns (T.the-row ∷ ShrSlice (named 0) κ₁ u8 ∷ ShrSlice (named 1) κ₂ u8 ∷ [])
+  asked =
+      qed W ((‵ (flft κ₁ q₁) ⊛ ‵ (flft κ₂ q₂) ⊛ ‵ ftrue) ∷ ‵ (owns (T.the-row ∷ ShrSlice (named 0) κ₁ u8 ∷ ShrSlice (named 1) κ₂ u8 ∷ [])
       (h, (s₁, (s₂, tt))) (vals h, (v₁ ∷ [], (v₂ ∷ [], tt)))) ∷ []) ∵ join ! $ frame ! $ done !
 
   -- the tokens and a copy of the slices go to it, with an end made anew
@@ -201,11 +202,14 @@ module _ {M : Type 1} (𝓤 : URA M) (H : Heap 𝓤) (A : Atoms 𝓤) (W : Given
         -- the borrow is closed at the new end
         move ! (2 ∷ []) $ use1 W (‵ (cellAt fullShare (T.the-row .mir) (vals (r .end)) b o))
         (W .laws .at-raw fullShare T′.mir b o (T′.lowered (r .end))) $
-        owned ! T.the-row (Is T.the-row) (LL.makes T.the-type T′.the-plain 𝓤 H A) (r .end) _ (end-is r _ is′) $ move ! (1 ∷ 0 ∷ 4 ∷ 5 ∷ 6 ∷ []) $
+        owned ! T.the-row (Is T.the-row) (LL.makes T.the-type T′.the-plain 𝓤 H A) (r .end) _ (end-is r _ is′) $ move !
+        (1 ∷ 0 ∷ 4 ∷ 5 ∷ 6 ∷ []) $
         closes ! tt T.the-row (r .end) (vals (r .end)) b o $
         -- [obs; the borrow; its token; the slices' tokens; the slices; _5; …; _4; …; _3; …; _2; …; _1; …; _0; …]
-        returns ! (look ! 15 refl) $ forget ! 5 refl $ forget ! 7 refl $ forget ! 9 refl $ forget ! 11 refl $ forget ! 13 refl $ forget ! 15 refl $
-        move ! (15 ∷ 16 ∷ []) $ free1 ! $ move ! (13 ∷ 14 ∷ []) $ free1 ! $ move ! (11 ∷ 12 ∷ []) $ free1 ! $ move ! (9 ∷ 10 ∷ []) $ free1 ! $
+        returns ! (look ! 15 refl) $ forget ! 5 refl $ forget ! 7 refl $ forget ! 9 refl $ forget ! 11 refl $ forget ! 13 refl $ forget ! 15
+        refl $
+        move ! (15 ∷ 16 ∷ []) $ free1 ! $ move ! (13 ∷ 14 ∷ []) $ free1 ! $ move ! (11 ∷ 12 ∷ []) $ free1 ! $ move !
+        (9 ∷ 10 ∷ []) $ free1 ! $
         move ! (7 ∷ 8 ∷ []) $ free1 ! $ move ! (5 ∷ 6 ∷ []) $ free1 ! $ free0 ! $
         keep ! (0 ∷ 1 ∷ 2 ∷ 3 ∷ 4 ∷ []) $ by ! (exits r (outcome-is r _ is′) e)))))))))))))
 
@@ -214,8 +218,12 @@ module _ {M : Type 1} (𝓤 : URA M) (H : Heap 𝓤) (A : Atoms 𝓤) (W : Given
       → Walks 𝓤 H A arrived.ended stayed (WpFn 𝓤 H C Λ code.function) (arrived.clauses 𝓤 H A mem run)
   arrived-walks C Λ fm known = walked 𝓤 H A arrived.ended stayed (arrived.clauses 𝓤 H A mem run) (WpFn 𝓤 H C Λ code.function)
       (λ κs. (ptr-vals, (slice-vals, (slice-vals, tt))))
-      (λ κs. (mut-tells (named 0) (κs .0) T.the-row, (shr-slice-tells (named 1) (κs .1 .0) u8, (shr-slice-tells (named 2) (κs .1 .1 .0) u8, tt))))
-      (λ κs qs bounds a g are. via 𝓤 _ (fst∗ 𝓤 _ (emp 𝓤)) (walk 𝓤 H A W mem run κs (qs .0) (qs .1 .0) (qs .1 .1 .0) (a .0 .ptr .0) (a .0 .ptr .1)
+      (λ κs. (
+        mut-tells (named 0) (κs .0) T.the-row,
+        (shr-slice-tells (named 1) (κs .1 .0) u8, (shr-slice-tells (named 2) (κs .1 .1 .0) u8, tt)),
+      ))
+      (λ κs qs bounds a g are. via 𝓤 _ (fst∗ 𝓤 _ (emp 𝓤))
+      (walk 𝓤 H A W mem run κs (qs .0) (qs .1 .0) (qs .1 .1 .0) (a .0 .ptr .0) (a .0 .ptr .1)
       (a .0 .name) (a .0 .now) (a .1 .0) (a .1 .1 .0) C Λ fm known (are .1 .0) (are .1 .1 .0)))
 
 arrived-meets : {M : Type 1} (𝓤 : URA M) (H : Heap 𝓤) (A : Atoms 𝓤) → Given 𝓤 H A

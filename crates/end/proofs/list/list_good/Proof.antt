@@ -37,7 +37,8 @@ returns-2 c =
     c .good2 .ensures
     ∙ sym
     (list-by instancesMost (a .p) (a .procedure) (a .run) (c .before .before .before .before .before .pre) long
-    (rw (← c .before .before .before .before .every-of .ensures) (sym (c .before .before .before .chosen-count .ensures) ∙ c .before .if1 .left)))
+    (rw (← c .before .before .before .before .every-of .ensures)
+    (sym (c .before .before .before .chosen-count .ensures) ∙ c .before .if1 .left)))
 
 pub list-good-spec : {M : Type 1} → statement M
 list-good-spec =

@@ -105,11 +105,25 @@ loop-again-2 c =
     let test = sym (c .before .is-before .ensures) in
     ⊎-elim
     (λ v.
-    let turn = turn-lower (a .t3) (a .t1) (a .procedure) _ _ (l .m) (l .i) new old (omega arith) other (omega arith) (ltb-true _ _ (test ∙ v .0 .taken)) in
-    rw (v .1, v .2, v .3) (new, met-next _ _ _ old (omega arith), omega arith, filled-next _ _ _ _ _ _ _ (omega arith) (rw turn at (l .inv .3))))
+    let turn = turn-lower (a .t3) (a .t1) (a .procedure) _ _ (l .m) (l .i) new old (omega arith) other (omega arith)
+    (ltb-true _ _ (test ∙ v .0 .taken)) in
+    rw (v .1, v .2, v .3) (
+      new,
+      met-next _ _ _ old (omega arith),
+      omega arith,
+      filled-next _ _ _ _ _ _ _ (omega arith)
+          (rw turn at (l .inv .3)),
+    ))
     (λ v.
-    let turn = turn-higher (a .t3) (a .t1) (a .procedure) _ _ (l .m) (l .i) new old (omega arith) other (omega arith) (ltb-false _ _ (test ∙ v .0 .left)) in
-    rw (v .1, v .2, v .3) (met-next _ _ _ new (omega arith), old, omega arith, filled-next _ _ _ _ _ _ _ (omega arith) (rw turn at (l .inv .3))))
+    let turn = turn-higher (a .t3) (a .t1) (a .procedure) _ _ (l .m) (l .i) new old (omega arith) other (omega arith)
+    (ltb-false _ _ (test ∙ v .0 .left)) in
+    rw (v .1, v .2, v .3) (
+      met-next _ _ _ new (omega arith),
+      old,
+      omega arith,
+      filled-next _ _ _ _ _ _ _ (omega arith)
+          (rw turn at (l .inv .3)),
+    ))
     (c .if4 .came)
 
 mul-x-3 : tie.Need-mul-x-3 Inv-loop μ-loop

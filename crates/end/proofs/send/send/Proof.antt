@@ -17,7 +17,8 @@ use Rattle.profile.specs.declared.access.AccessRead.{AccessRead}
 use Rattle.lists.specs.Entries.{instancesMost}
 use Rattle.end.specs.End.{usedMost, endRules, endGood}
 use Rattle.end.proofs.Ends.{rules-fail, rules-pass, used-most}
-use Rattle.end.proofs.Sendings.{sends-short, sends-profile, sends-end, sends-waiting, sends-last, sends-unfit, sends-all, refused-sends, all-sends}
+use Rattle.end.proofs.Sendings.{sends-short, sends-profile, sends-end, sends-waiting, sends-last, sends-unfit, sends-all}
+use Rattle.end.proofs.Sendings.{refused-sends, all-sends}
 use borrow.Author.Needs.{needs}
 use Rattle.end.proofs.send.send.Statement.{statement}
 use Rattle.end.proofs.send.send.Tie as tie
@@ -146,7 +147,8 @@ returns-6 c =
     let d = c .before .before .before .before .before in
     let k = from3 (from4 d) in
     refused-sends _ _ _ Exhausted _
-    (sends-last _ _ _ _ _ (room (from2 k)) (ok k) (good d) (c .before .before .before .if5 .left) (c .before .if6 .taken)) (c .refuses6 .ensures)
+    (sends-last _ _ _ _ _ (room (from2 k)) (ok k) (good d) (c .before .before .before .if5 .left) (c .before .if6 .taken))
+    (c .refuses6 .ensures)
 
 -- src/send.rt:134:9
 is-sendable-requires : tie.Need-is-sendable-requires
@@ -163,7 +165,8 @@ returns-7 c =
     let k = from3 (from4 d) in
     let unfit = sym (c .before .before .is-sendable .ensures) ∙ not-true _ (c .before .if7 .taken) in
     refused-sends _ _ _ BadRequest _
-    (sends-unfit _ _ _ _ _ (room (from2 k)) (ok k) (good d) (c .before .before .before .before .before .if5 .left) (c .before .before .before .if6 .left) unfit) (c .refuses7 .ensures)
+    (sends-unfit _ _ _ _ _ (room (from2 k)) (ok k) (good d) (c .before .before .before .before .before .if5 .left)
+    (c .before .before .before .if6 .left) unfit) (c .refuses7 .ensures)
 
 -- src/send.rt:137:22
 add-identifier : tie.Need-add-identifier
@@ -189,7 +192,8 @@ returns-8 c =
     let k = from3 (from4 d) in
     let used = entry4 d .args .e .used in
     let id : SFits w16 (pos (used + 1)) = omega (arith, below m) in
-    let fit = sym (c .before .before .before .before .before .before .is-sendable .ensures) ∙ not-false _ (c .before .before .before .before .before .if7 .left) in
+    let fit = sym (c .before .before .before .before .before .before .is-sendable .ensures)
+    ∙ not-false _ (c .before .before .before .before .before .if7 .left) in
     let is = sends-all _ _ _ _ _ (room (from2 k)) (ok k) (good d) (m .before .before .if5 .left) (m .if6 .left) fit in
     let put = rw (add-one used) at (rw (toZ-ofZ id) at (c .before .before .put-request .ensures)) in
     all-sends _ _ _ _ _ _ _ is (below m) (room (from2 k)) fit put

@@ -36,11 +36,18 @@ closed-requires c κs = search needs
 
 -- src/take.rt:65:1
 returns : tie.Need-returns
-returns c = let a = c .before .before .before .before .before .before .args in c .doubted .ensures ∙ applied-fails (a .p) (a .e) _ (c .before .before .before .judge-request .ensures .verdict) _ (c .before .enum-told .given .1)
+returns c =
+    let a = c .before .before .before .before .before .before .args in
+    c .doubted .ensures ∙ applied-fails (a .p) (a .e) _ (c .before .before .before .judge-request .ensures .verdict) _
+    (c .before .enum-told .given .1)
 
 -- src/take.rt:65:1
 returns-2 : tie.Need-returns-2
-returns-2 c = let a = c .before .before .before .before .before .before .before .args in rw (c .before .apply-request .ensures) at (c .closed .ensures) ∙ applied-passes (a .p) (a .e) _ (c .before .before .before .before .judge-request .ensures .verdict) _ (c .before .before .enum-told2 .given .1)
+returns-2 c =
+    let a = c .before .before .before .before .before .before .before .args in
+    rw (c .before .apply-request .ensures) at (c .closed .ensures)
+    ∙ applied-passes (a .p) (a .e) _ (c .before .before .before .before .judge-request .ensures .verdict) _
+    (c .before .before .enum-told2 .given .1)
 
 pub applied-spec : {M : Type 1} → statement M
 applied-spec =

@@ -23,7 +23,12 @@ run-from-requires c κs = search needs
 list-good-requires : tie.Need-list-good-requires
 list-good-requires c κs =
     rw (c .run-from .ensures)
-    (omega (arith, length-take runMost (instancesListed (c .before .before .before .before .before .before .args .p) (entriesIn (c .before .before .before .before .entries-at .result .list)))))
+    (omega (
+      arith,
+      length-take runMost
+          (instancesListed (c .before .before .before .before .before .before .args .p)
+          (entriesIn (c .before .before .before .before .entries-at .result .list))),
+    ))
 
 doubted-requires-2 : tie.Need-doubted-requires-2
 doubted-requires-2 c κs = search needs
@@ -64,7 +69,8 @@ returns-3 c =
     search (unmapped, needs, c .before .before .before .before .before .before .before .before .before .entries-at .ok) in
     c .closed .ensures ∙
     learned-good (a .p) (a .e) (got .es) _ (got .is) long _ (c .before .before .before .before .before .run-from .ensures)
-    (sym (c .before .before .before .before .list-good .ensures) ∙ not-false _ (c .before .before .before .if2 .left)) _ (c .before .replaced-by .ensures) ∙
+    (sym (c .before .before .before .before .list-good .ensures) ∙ not-false _ (c .before .before .before .if2 .left)) _
+    (c .before .replaced-by .ensures) ∙
     got .by
 
 pub learned-spec : {M : Type 1} → statement M

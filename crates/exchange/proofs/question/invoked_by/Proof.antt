@@ -34,7 +34,8 @@ unfolding invoked
 returns-2 c =
     let id = toZ-ofZ (c .before .before .before .before .before .before .before .fits .identifier) in
     let operation : SFits w16 (c .before .before .before .before .before .before .before .args .operation .value) = search needs in
-    let fresh = sym (rw id at (c .before .before .before .before .before .is-duplicate .ensures)) ∙ c .before .before .before .before .if1 .left in
+    let fresh = sym (rw id at (c .before .before .before .before .before .is-duplicate .ensures))
+    ∙ c .before .before .before .before .if1 .left in
     let unknown = sym (rw (toZ-ofZ operation) at (c .before .before .is-known .ensures)) ∙ not-true _ (c .before .if2 .taken) in
     rw (fresh, unknown) (rw id at (c .says-at-once2 .ensures))
 
@@ -49,8 +50,10 @@ unfolding invoked
 returns-3 c =
     let id = toZ-ofZ (c .before .before .before .before .before .before .before .before .before .before .fits .identifier) in
     let operation : SFits w16 (c .before .before .before .before .before .before .before .before .before .before .args .operation .value) = search needs in
-    let fresh = sym (rw id at (c .before .before .before .before .before .before .before .before .is-duplicate .ensures)) ∙ c .before .before .before .before .before .before .before .if1 .left in
-    let is-known = sym (rw (toZ-ofZ operation) at (c .before .before .before .before .before .is-known .ensures)) ∙ not-false _ (c .before .before .before .before .if2 .left) in
+    let fresh = sym (rw id at (c .before .before .before .before .before .before .before .before .is-duplicate .ensures))
+    ∙ c .before .before .before .before .before .before .before .if1 .left in
+    let is-known = sym (rw (toZ-ofZ operation) at (c .before .before .before .before .before .is-known .ensures))
+    ∙ not-false _ (c .before .before .before .before .if2 .left) in
     rw (fresh, is-known)
     (rw id at (c .says-at-once3 .ensures)
     ∙ argued-none _ _ (argumentAt _ _ _ _) _ (c .before .before .before .argument-at .ensures) (not-true _ (c .before .if3 .taken)))
@@ -58,21 +61,25 @@ returns-3 c =
 cast-t21 : tie.Need-cast-t21
 cast-t21 c =
     let operation : SFits w16 (c .before .before .before .before .before .before .before .before .before .before .before .before .args .operation .value) = search needs in
-    let is-known = sym (rw (toZ-ofZ operation) at (c .before .before .before .before .before .before .before .is-known .ensures)) ∙ not-false _
+    let is-known = sym (rw (toZ-ofZ operation) at (c .before .before .before .before .before .before .before .is-known .ensures))
+    ∙ not-false _
     (c .before .before .before .before .before .before .if2 .left) in
     code-fits _ operation is-known
 
 returns-4 : tie.Need-returns-4
 unfolding invoked
 returns-4 c =
-    let id = toZ-ofZ (c .before .before .before .before .before .before .before .before .before .before .before .before .fits .identifier) in
+    let id = toZ-ofZ (c .before .before .before .before .before .before .before .before .before .before .before .before .fits .identifier)
+    in
     let operation : SFits w16 (c .before .before .before .before .before .before .before .before .before .before .before .before .args .operation .value) = search needs in
     let fresh = sym (rw id at (c .before .before .before .before .before .before .before .before .before .before .is-duplicate .ensures))
     ∙ c .before .before .before .before .before .before .before .before .before .if1 .left in
-    let is-known = sym (rw (toZ-ofZ operation) at (c .before .before .before .before .before .before .before .is-known .ensures)) ∙ not-false _
+    let is-known = sym (rw (toZ-ofZ operation) at (c .before .before .before .before .before .before .before .is-known .ensures))
+    ∙ not-false _
     (c .before .before .before .before .before .before .if2 .left) in
     rw (id, code-cast _ operation is-known, fresh, is-known)
-    (argued-found _ _ (argumentAt _ _ _ _) _ (c .before .before .before .before .before .argument-at .ensures) (not-false _ (c .before .before .before .if3 .left)))
+    (argued-found _ _ (argumentAt _ _ _ _) _ (c .before .before .before .before .before .argument-at .ensures)
+    (not-false _ (c .before .before .before .if3 .left)))
 
 pub invoked-by-spec : {M : Type 1} → statement M
 invoked-by-spec =

@@ -67,13 +67,15 @@ returns-5 : tie.Need-returns-5
 unfolding question
 returns-5 c =
     let id : SFits w16 (c .before .before .identifier .given .0 .0) = search needs in
-    (rw (sym (hears-is (c .before .before .before .before .hear .ensures)) ∙ c .before .before .identifier .given .1) (rw (toZ-ofZ id) at (c .says-at-once2 .ensures)))
+    (rw (sym (hears-is (c .before .before .before .before .hear .ensures)) ∙ c .before .before .identifier .given .1)
+    (rw (toZ-ofZ id) at (c .says-at-once2 .ensures)))
 
 returns-6 : tie.Need-returns-6
 unfolding question
 returns-6 c =
     let id : SFits w16 (c .before .before .identifier2 .given .0 .0) = search needs in
-    (rw (sym (hears-is (c .before .before .before .before .hear .ensures)) ∙ c .before .before .identifier2 .given .1) (rw (toZ-ofZ id) at (c .invoked-by .ensures)))
+    (rw (sym (hears-is (c .before .before .before .before .hear .ensures)) ∙ c .before .before .identifier2 .given .1)
+    (rw (toZ-ofZ id) at (c .invoked-by .ensures)))
 
 pub question-of-spec : {M : Type 1} → statement M
 question-of-spec =

@@ -217,7 +217,8 @@ write-element-returns-2 : (t : ℕ) → write-element-lts.Need-returns-2 (
   write-unread-reads.Learnt,
 ) (write-element-at t) write-element.Post
 write-element-returns-2 t c =
-    let a = c .before .before .before .before .before .before .before .before .before .before .before .before .before .before .before .args in
+    let a = c .before .before .before .before .before .before .before .before .before .before .before .before .before .before .before .args
+    in
     let found = sym (c .before .before .before .before .before .before .before .before .before .before .before .before .head-at .ensures)
     ∙ c .before .before .before .before .before .before .before .before .before .before .tag .given .1 in
     rw (element-lines (a .depth) (a .s .now) (a .at) (a .end), found, ne-eqb _ _ (c .before .before .before .before .if1 .left)) (

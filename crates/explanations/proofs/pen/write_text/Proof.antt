@@ -32,7 +32,8 @@ loop-again : tie.Need-loop-again Inv-loop μ-loop
 loop-again c =
     let l = c .before .before .before .before .before .before .loop in (
       search needs,
-      going-next (l .inv .1) _ _ (text-step (c .before .before .before .before .before .before .before .before .before .args .src .now) (l .i)
+      going-next (l .inv .1) _ _ (text-step (c .before .before .before .before .before .before .before .before .before .args .src .now)
+          (l .i)
           (c .before .before .before .before .before .loop-test .taken)) (c .before .before .pen .ensures),
     )
 

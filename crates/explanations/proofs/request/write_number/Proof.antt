@@ -40,7 +40,8 @@ slice-aggregate-write-text-2 c =
     let long : length (c .before .before .before .before .before .before .before .before .before .before
     .before .args .number .digits) ≡ most = search
     (needs, c .before .before .before .before .before .before .before .before .before .before .before .good) in
-    sym (length-take-le _ (c .before .before .before .before .before .before .before .before .before .before .before .args .number .digits) (omega
+    sym (length-take-le _ (c .before .before .before .before .before .before .before .before .before .before .before .args .number .digits)
+    (omega
     (arith, long, c .before .before .before .before .before .before .stored .ensures)))
 
 write-text-requires-2 : tie.Need-write-text-requires-2

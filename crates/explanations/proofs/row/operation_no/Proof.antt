@@ -9,7 +9,8 @@ returns : tie.Need-returns
 returns c = number-negative _ (c .before .fits .value) (c .if1 .taken)
 
 cast-result : tie.Need-cast-result
-cast-result c = rw (machine-positive _ (c .before .fits .value) (c .if1 .left)) (tt, record { fits = omega (arith, c .before .fits .value) })
+cast-result c =
+    rw (machine-positive _ (c .before .fits .value) (c .if1 .left)) (tt, record { fits = omega (arith, c .before .fits .value) })
 
 returns-2 : tie.Need-returns-2
 returns-2 c = rw (machine-positive _ (c .before .fits .value) (c .if1 .left)) (number-positive _ (c .before .fits .value) (c .if1 .left))

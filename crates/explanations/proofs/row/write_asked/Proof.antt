@@ -57,9 +57,11 @@ returns-2 c =
     let operation : SFits w16 (a .operation .value) = search needs in
     let number = rw (toZ-ofZ operation) at
     (c .before .before .before .before .before .before .before .before .before .before .operation-no .ensures) in
-    let known = rw number at (sym (c .before .before .before .before .before .before .before .before .before .is-operation .ensures) ∙ not-false _
+    let known = rw number at (sym (c .before .before .before .before .before .before .before .before .before .is-operation .ensures)
+    ∙ not-false _
     (c .before .before .before .before .before .before .before .before .if1 .left)) in
-    let none = argument-untold (a .identifier) (operationNo (a .operation .value)) (argumentAt (a .operation) (a .s .now) (a .at) (a .end)) _
+    let none = argument-untold (a .identifier) (operationNo (a .operation .value))
+    (argumentAt (a .operation) (a .s .now) (a .at) (a .end)) _
     (c .before .before .before .before .before .before .before .argument-at .ensures) (not-true _
     (c .before .before .before .before .before .if2 .taken)) in
     rw (known, none) (rw id at (c .before .before .write-row2 .ensures))
@@ -79,7 +81,8 @@ returns-3 c =
     let operation : SFits w16 (a .operation .value) = search needs in
     let number = rw (toZ-ofZ operation) at
     (c .before .before .before .before .before .before .before .before .before .before .operation-no .ensures) in
-    let known = rw number at (sym (c .before .before .before .before .before .before .before .before .before .is-operation .ensures) ∙ not-false _
+    let known = rw number at (sym (c .before .before .before .before .before .before .before .before .before .is-operation .ensures)
+    ∙ not-false _
     (c .before .before .before .before .before .before .before .before .if1 .left)) in
     let found = argument-told (a .identifier) (operationNo (a .operation .value)) (argumentAt (a .operation) (a .s .now) (a .at) (a .end)) _
     (c .before .before .before .before .before .before .before .argument-at .ensures) (not-false _

@@ -44,7 +44,8 @@ returns c =
     let found = sym (c .before .before .before .before .before .before .before .before .before .before .before .before .before .before .before
     .before .ident-at .ensures)
     ∙ c .before .before .before .before .before .before .before .before .before .before .before .before .before .before .value .given .1 in
-    rw found (pen-then (c .before .before .before .before .before .before .before .before .before .before .write-text .ensures) (pen-then (rw
+    rw found (pen-then (c .before .before .before .before .before .before .before .before .before .before .write-text .ensures)
+    (pen-then (rw
     (toZ-ofZ id) at (c .before .before .before .before .before .before .write-signed .ensures)) (c .before .before .write-value .ensures)))
 
 same-length-2 : tie.Need-same-length-2

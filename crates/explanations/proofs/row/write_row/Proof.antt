@@ -23,7 +23,8 @@ returns : tie.Need-returns
 returns c =
     let id = toZ-ofZ (c .before .before .before .before .before .before .before .before .before .before .before .before .before .before
     .before .fits .identifier) in
-    pen-then (pen-then (c .before .before .before .before .before .before .before .before .before .before .before .write-text .ensures) (rw id at
+    pen-then (pen-then (c .before .before .before .before .before .before .before .before .before .before .before .write-text .ensures)
+    (rw id at
     (c .before .before .before .before .before .before .before .write-signed .ensures))) (c .before .before .write-text2 .ensures)
 
 pub write-row-spec : {M : Type 1} → statement M

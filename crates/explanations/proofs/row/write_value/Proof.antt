@@ -43,10 +43,14 @@ same-length c = search needs
 returns-2 : tie.Need-returns-2
 unfolding valueText
 returns-2 c =
-    let id : SFits w16 (c .before .before .before .before .before .before .before .before .before .before .value .given .0 .0) = search needs in
+    let id : SFits w16 (c .before .before .before .before .before .before .before .before .before .before .value .given .0 .0) = search
+    needs in
     let found = sym (c .before .before .before .before .before .before .before .before .before .before .before .before .ident-at .ensures)
     ∙ c .before .before .before .before .before .before .before .before .before .before .value .given .1 in
-    rw (eq-eqb _ _ (c .before .before .before .before .before .before .before .before .before .before .before .before .before .if1 .left), found)
+    rw (
+      eq-eqb _ _ (c .before .before .before .before .before .before .before .before .before .before .before .before .before .if1 .left),
+      found,
+    )
     (pen-then (c .before .before .before .before .before .before .write-text .ensures) (rw (toZ-ofZ id) at
     (c .before .before .write-signed .ensures)))
 
@@ -58,7 +62,8 @@ unfolding valueText
 returns-3 c =
     let found = sym (c .before .before .before .before .before .before .before .ident-at .ensures)
     ∙ c .before .before .before .before .before .enum-told .given .1 in
-    rw (eq-eqb _ _ (c .before .before .before .before .before .before .before .before .if1 .left), found) (c .before .before .write-text2 .ensures)
+    rw (eq-eqb _ _ (c .before .before .before .before .before .before .before .before .if1 .left), found)
+    (c .before .before .write-text2 .ensures)
 
 pub write-value-spec : {M : Type 1} → statement M
 write-value-spec =

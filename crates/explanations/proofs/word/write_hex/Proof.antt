@@ -33,7 +33,8 @@ loop-again : tie.Need-loop-again Inv-loop μ-loop
 loop-again c =
     let l = c .before .before .before .before .before .before .loop in (
       search needs,
-      going-next (l .inv .1) _ _ (hex-step (c .before .before .before .before .before .before .before .before .before .args .octets .now) (l .i)
+      going-next (l .inv .1) _ _ (hex-step (c .before .before .before .before .before .before .before .before .before .args .octets .now)
+          (l .i)
           (c .before .before .before .before .before .loop-test .taken)) (c .before .before .write-pair .ensures),
     )
 
@@ -42,7 +43,8 @@ same-length c = search needs
 
 returns : tie.Need-returns Inv-loop μ-loop
 returns c =
-    going-last (c .before .loop .inv .1) (hex-past (c .before .before .before .before .args .octets .now) (c .before .loop .i) (c .loop-test .left))
+    going-last (c .before .loop .inv .1)
+    (hex-past (c .before .before .before .before .args .octets .now) (c .before .loop .i) (c .loop-test .left))
 
 pub write-hex-spec : {M : Type 1} → statement M
 write-hex-spec =

@@ -23,17 +23,21 @@ no-field-requires-2 : tie.Need-no-field-requires-2
 no-field-requires-2 c κs = search needs
 
 returns : tie.Need-returns
-returns c = let a = c .before .before .before .before .before .args in rw (field-is (a .s .now) (a .at) _ _ (sym (c .before .before .before .groups-at .ensures) ∙ c .before .value .given .1))
+returns c =
+    let a = c .before .before .before .before .before .args in
+    rw (field-is (a .s .now) (a .at) _ _ (sym (c .before .before .before .groups-at .ensures) ∙ c .before .value .given .1))
 
 returns-2 : tie.Need-returns-2
 returns-2 c =
     let a = c .before .before .before .before .before .args in
-    rw (field-large (a .s .now) (a .at) _ (sym (c .before .before .before .groups-at .ensures) ∙ c .before .enum-told .given .1)) (c .no-field .ensures)
+    rw (field-large (a .s .now) (a .at) _ (sym (c .before .before .before .groups-at .ensures) ∙ c .before .enum-told .given .1))
+    (c .no-field .ensures)
 
 returns-3 : tie.Need-returns-3
 returns-3 c =
     let a = c .before .before .before .before .before .args in
-    rw (field-bad (a .s .now) (a .at) (sym (c .before .before .before .groups-at .ensures) ∙ c .before .enum-told2 .given .1)) (c .no-field2 .ensures)
+    rw (field-bad (a .s .now) (a .at) (sym (c .before .before .before .groups-at .ensures) ∙ c .before .enum-told2 .given .1))
+    (c .no-field2 .ensures)
 
 pub field-at-spec : {M : Type 1} → statement M
 field-at-spec =

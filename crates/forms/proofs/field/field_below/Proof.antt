@@ -16,7 +16,8 @@ returns : tie.Need-returns
 returns c =
     let a = c .before .before .before .before .before .args in
     rw (below-none (a .s .now) (a .at) (a .below)
-    (field-none (anyField _ _) _ (c .before .before .before .field-at .ensures) (not-true _ (c .before .if1 .taken)))) (c .no-field .ensures)
+    (field-none (anyField _ _) _ (c .before .before .before .field-at .ensures) (not-true _ (c .before .if1 .taken))))
+    (c .no-field .ensures)
 
 no-field-requires-2 : tie.Need-no-field-requires-2
 no-field-requires-2 c κs = search needs
@@ -25,14 +26,16 @@ returns-2 : tie.Need-returns-2
 returns-2 c =
     let a = c .before .before .before .before .before .before .args in
     rw (below-not (a .s .now) (a .at) (a .below) _ _
-    (field-found (anyField _ _) _ (c .before .before .before .before .field-at .ensures) (not-false _ (c .before .before .if1 .left))) (c .before .if2 .taken))
+    (field-found (anyField _ _) _ (c .before .before .before .before .field-at .ensures) (not-false _ (c .before .before .if1 .left)))
+    (c .before .if2 .taken))
     (c .no-field2 .ensures)
 
 returns-3 : tie.Need-returns-3
 returns-3 c =
     let a = c .before .before .before .before .before .args in
     let found = field-found (anyField _ _) _ (c .before .before .before .field-at .ensures) (not-false _ (c .before .if1 .left)) in
-    c .before .before .before .field-at .ensures ∙ ap fieldRead (found ∙ sym (below-is (a .s .now) (a .at) (a .below) _ _ found (c .if2 .left)))
+    c .before .before .before .field-at .ensures
+    ∙ ap fieldRead (found ∙ sym (below-is (a .s .now) (a .at) (a .below) _ _ found (c .if2 .left)))
 
 pub field-below-spec : {M : Type 1} → statement M
 field-below-spec =

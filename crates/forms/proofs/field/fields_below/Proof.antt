@@ -58,14 +58,16 @@ loop-again c =
     let a = c .before .before .before .before .before .before .before .args in
     let l = c .before .before .before .before .before .loop in
     let found = field-found (fieldBelow _ _ _) _ (c .before .before .before .field-below .ensures) (not-false _ (c .before .if1 .left)) in
-    come-next (a .below) (a .base) (a .count) (a .s .now) (a .at) (l .i) (l .here) (l .octets) (l .inv) (c .before .before .before .before .loop-test .taken) _ _
+    come-next (a .below) (a .base) (a .count) (a .s .now) (a .at) (l .i) (l .here) (l .octets) (l .inv)
+    (c .before .before .before .before .loop-test .taken) _ _
     (c .before .before .before .before .before .before .before .pre .0) found
 
 returns-2 : tie.Need-returns-2 Inv-loop μ-loop
 returns-2 c =
     let a = c .before .before .before .args in
     let l = c .before .loop in
-    come-all (a .below) (a .base) (a .count) (a .s .now) (a .at) (l .i) (l .here) (l .octets) (l .inv) (c .loop-test .left) (c .before .before .before .pre .0)
+    come-all (a .below) (a .base) (a .count) (a .s .now) (a .at) (l .i) (l .here) (l .octets) (l .inv) (c .loop-test .left)
+    (c .before .before .before .pre .0)
 
 pub fields-below-spec : {M : Type 1} → statement M
 fields-below-spec =

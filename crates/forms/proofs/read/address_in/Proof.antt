@@ -49,17 +49,20 @@ no-forwarded-requires-3 c κs = search needs
 returns-3 : tie.Need-returns-3
 returns-3 c =
     let a = c .before .before .before .before .before .before .before .before .before .before .before .before .args in
-    let number = number-found (numberFromFields _ _) _ (c .before .before .before .before .before .before .before .before .before .before .number-in .ensures)
+    let number = number-found (numberFromFields _ _) _
+    (c .before .before .before .before .before .before .before .before .before .before .number-in .ensures)
     (not-false _ (c .before .before .before .before .before .before .before .before .if1 .left)) in
     let count = field-found (fieldBelow _ _ _) _ (c .before .before .before .before .before .before .before .field-below .ensures)
     (not-false _ (c .before .before .before .before .before .if2 .left)) in
-    let none = fields-none 0 (fieldsBelow _ _ _ _) _ (c .before .before .before .fields-below .ensures) (not-true _ (c .before .if3 .taken)) in
+    let none = fields-none 0 (fieldsBelow _ _ _ _) _ (c .before .before .before .fields-below .ensures)
+    (not-true _ (c .before .if3 .taken)) in
     rw (address-no-octets (a .s .now) (a .at) _ _ number _ _ count none) (c .no-forwarded3 .ensures)
 
 cast-t10 : tie.Need-cast-t10
 cast-t10 c =
     let a = c .before .before .before .before .before .before .before .before .before .before .before .before .before .before .args in
-    let count = field-found (fieldBelow _ _ _) _ (c .before .before .before .before .before .before .before .before .before .field-below .ensures)
+    let count = field-found (fieldBelow _ _ _) _
+    (c .before .before .before .before .before .before .before .before .before .field-below .ensures)
     (not-false _ (c .before .before .before .before .before .before .before .if2 .left)) in
     omega (arith, below-small (a .s .now) _ 21 _ _ count)
 
@@ -69,7 +72,8 @@ returns-4 c =
     let number = number-found (numberFromFields _ _) _
     (c .before .before .before .before .before .before .before .before .before .before .before .before .number-in .ensures)
     (not-false _ (c .before .before .before .before .before .before .before .before .before .before .if1 .left)) in
-    let count = field-found (fieldBelow _ _ _) _ (c .before .before .before .before .before .before .before .before .before .field-below .ensures)
+    let count = field-found (fieldBelow _ _ _) _
+    (c .before .before .before .before .before .before .before .before .before .field-below .ensures)
     (not-false _ (c .before .before .before .before .before .before .before .if2 .left)) in
     let octets = fields-found 0 (fieldsBelow _ _ _ _) _ (c .before .before .before .before .before .fields-below .ensures)
     (not-false _ (c .before .before .before .if3 .left)) in

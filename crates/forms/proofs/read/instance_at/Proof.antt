@@ -20,7 +20,9 @@ not-instance-requires c κs = search needs
 
 returns : tie.Need-returns
 unfolding instanceFrom
-returns c = let none = field-none (fieldBelow _ _ _) _ (c .before .before .before .field-below .ensures) (not-true _ (c .before .if1 .taken)) in rw none (c .not-instance .ensures)
+returns c =
+    let none = field-none (fieldBelow _ _ _) _ (c .before .before .before .field-below .ensures) (not-true _ (c .before .if1 .taken)) in
+    rw none (c .not-instance .ensures)
 
 cast-field-below-2 : tie.Need-cast-field-below-2
 cast-field-below-2 c = search needs
@@ -48,7 +50,8 @@ not-instance-requires-3 c κs = search needs
 returns-3 : tie.Need-returns-3
 unfolding instanceFrom
 returns-3 c =
-    let procedure = field-found (fieldBelow _ _ _) _ (c .before .before .before .before .before .before .before .before .before .before .field-below .ensures)
+    let procedure = field-found (fieldBelow _ _ _) _
+    (c .before .before .before .before .before .before .before .before .before .before .field-below .ensures)
     (not-false _ (c .before .before .before .before .before .before .before .before .if1 .left)) in
     let number = field-found (fieldBelow _ _ _) _ (c .before .before .before .before .before .before .field-below2 .ensures)
     (not-false _ (c .before .before .before .before .if2 .left)) in
@@ -67,7 +70,8 @@ returns-4 c =
     let procedure = field-found (fieldBelow _ _ _) _
     (c .before .before .before .before .before .before .before .before .before .before .before .before .before .field-below .ensures)
     (not-false _ (c .before .before .before .before .before .before .before .before .before .before .before .if1 .left)) in
-    let number = field-found (fieldBelow _ _ _) _ (c .before .before .before .before .before .before .before .before .before .field-below2 .ensures)
+    let number = field-found (fieldBelow _ _ _) _
+    (c .before .before .before .before .before .before .before .before .before .field-below2 .ensures)
     (not-false _ (c .before .before .before .before .before .before .before .if2 .left)) in
     let service = field-found (fieldAt serviceOf _ _) _ (c .before .before .before .before .before .before .service-at .ensures)
     (not-false _ (c .before .before .before .before .if3 .left)) in
@@ -102,7 +106,8 @@ cast-t13 : tie.Need-cast-t13
 cast-t13 c =
     let a = c .before .before .before .before .before .before .before .before .before .before .before .before .before .before .before .before .before .before
     .before .args in
-    let service = field-found (fieldAt serviceOf _ _) _ (c .before .before .before .before .before .before .before .before .before .service-at .ensures)
+    let service = field-found (fieldAt serviceOf _ _) _
+    (c .before .before .before .before .before .before .before .before .before .service-at .ensures)
     (not-false _ (c .before .before .before .before .before .before .before .if3 .left)) in
     omega (arith, service-octet (a .s .now) _ _ _ service)
 
@@ -115,7 +120,8 @@ returns-5 c =
     let number = field-found (fieldBelow _ _ _) _
     (c .before .before .before .before .before .before .before .before .before .before .before .before .field-below2 .ensures)
     (not-false _ (c .before .before .before .before .before .before .before .before .before .before .if2 .left)) in
-    let service = field-found (fieldAt serviceOf _ _) _ (c .before .before .before .before .before .before .before .before .before .service-at .ensures)
+    let service = field-found (fieldAt serviceOf _ _) _
+    (c .before .before .before .before .before .before .before .before .before .service-at .ensures)
     (not-false _ (c .before .before .before .before .before .before .before .if3 .left)) in
     let address = forwarded-found (addressFrom _ _) _ (c .before .before .before .before .before .before .address-in .ensures)
     (not-false _ (c .before .before .before .before .if4 .left)) in

@@ -43,7 +43,8 @@ no-number-requires-3 c κs = search needs
 returns-3 : tie.Need-returns-3
 returns-3 c =
     let a = c .before .before .before .before .before .before .before .before .before .before .before .args in
-    let form = field-found (fieldBelow _ _ _) _ (c .before .before .before .before .before .before .before .before .before .field-below .ensures)
+    let form = field-found (fieldBelow _ _ _) _
+    (c .before .before .before .before .before .before .before .before .before .field-below .ensures)
     (not-false _ (c .before .before .before .before .before .before .before .if1 .left)) in
     let kind = field-found (fieldBelow _ _ _) _ (c .before .before .before .before .before .before .field-below2 .ensures)
     (not-false _ (c .before .before .before .before .if2 .left)) in
@@ -64,15 +65,18 @@ no-number-requires-4 c κs = search needs
 
 returns-4 : tie.Need-returns-4
 returns-4 c =
-    let a = c .before .before .before .before .before .before .before .before .before .before .before .before .before .before .before .args in
+    let a = c .before .before .before .before .before .before .before .before .before .before .before .before .before .before .before .args
+    in
     let form = field-found (fieldBelow _ _ _) _
     (c .before .before .before .before .before .before .before .before .before .before .before .before .before .field-below .ensures)
     (not-false _ (c .before .before .before .before .before .before .before .before .before .before .before .if1 .left)) in
-    let kind = field-found (fieldBelow _ _ _) _ (c .before .before .before .before .before .before .before .before .before .before .field-below2 .ensures)
+    let kind = field-found (fieldBelow _ _ _) _
+    (c .before .before .before .before .before .before .before .before .before .before .field-below2 .ensures)
     (not-false _ (c .before .before .before .before .before .before .before .before .if2 .left)) in
     let count = field-found (fieldBelow _ _ _) _ (c .before .before .before .before .before .before .before .field-below3 .ensures)
     (not-false _ (c .before .before .before .before .before .if3 .left)) in
-    let none = fields-none 48 (fieldsBelow _ _ _ _) _ (c .before .before .before .fields-below .ensures) (not-true _ (c .before .if4 .taken)) in
+    let none = fields-none 48 (fieldsBelow _ _ _ _) _ (c .before .before .before .fields-below .ensures)
+    (not-true _ (c .before .if4 .taken)) in
     rw (number-no-digits (a .s .now) (a .at) _ _ form _ _ kind _ _ count none) (c .no-number4 .ensures)
 
 cast-t11 : tie.Need-cast-t11
@@ -95,7 +99,8 @@ cast-t13 : tie.Need-cast-t13
 cast-t13 c =
     let a = c .before .before .before .before .before .before .before .before .before .before .before .before .before .before .before .before .before
     .before .args in
-    let count = field-found (fieldBelow _ _ _) _ (c .before .before .before .before .before .before .before .before .before .before .field-below3 .ensures)
+    let count = field-found (fieldBelow _ _ _) _
+    (c .before .before .before .before .before .before .before .before .before .before .field-below3 .ensures)
     (not-false _ (c .before .before .before .before .before .before .before .before .if3 .left)) in
     omega (arith, below-small (a .s .now) _ 21 _ _ count)
 
@@ -120,7 +125,8 @@ returns-5 c =
     let count = field-found (fieldBelow _ _ _) _
     (c .before .before .before .before .before .before .before .before .before .before .before .before .before .field-below3 .ensures)
     (not-false _ (c .before .before .before .before .before .before .before .before .before .before .before .if3 .left)) in
-    let digits = fields-found 48 (fieldsBelow _ _ _ _) _ (c .before .before .before .before .before .before .before .before .before .fields-below .ensures)
+    let digits = fields-found 48 (fieldsBelow _ _ _ _) _
+    (c .before .before .before .before .before .before .before .before .before .fields-below .ensures)
     (not-false _ (c .before .before .before .before .before .before .before .if4 .left)) in
     rw (number-refused (a .s .now) (a .at) _ _ form _ _ kind _ _ count _ digits
     (sym (c .before .before .number-good .ensures) ∙ not-true _ (c .before .if5 .taken))) (c .no-number5 .ensures)
@@ -139,9 +145,11 @@ returns-6 c =
     let count = field-found (fieldBelow _ _ _) _
     (c .before .before .before .before .before .before .before .before .before .before .before .before .field-below3 .ensures)
     (not-false _ (c .before .before .before .before .before .before .before .before .before .before .if3 .left)) in
-    let digits = fields-found 48 (fieldsBelow _ _ _ _) _ (c .before .before .before .before .before .before .before .before .fields-below .ensures)
+    let digits = fields-found 48 (fieldsBelow _ _ _ _) _
+    (c .before .before .before .before .before .before .before .before .fields-below .ensures)
     (not-false _ (c .before .before .before .before .before .before .if4 .left)) in
-    rw (number-found (a .s .now) (a .at) _ _ form _ _ kind _ _ count _ digits (sym (c .before .number-good .ensures) ∙ not-false _ (c .if5 .left)))
+    rw (number-found (a .s .now) (a .at) _ _ form _ _ kind _ _ count _ digits
+    (sym (c .before .number-good .ensures) ∙ not-false _ (c .if5 .left)))
 
 pub number-in-spec : {M : Type 1} → statement M
 number-in-spec =

@@ -1,5 +1,6 @@
 use Rattle.forms.proofs.Instances.{instances-found, instances-none}
-use Rattle.forms.proofs.Sheets.{opening-found, opening-none, sheet-no-opening, sheet-many, sheet-no-instances, sheet-after, sheet-disordered, sheet-read}
+use Rattle.forms.proofs.Sheets.{opening-found, opening-none, sheet-no-opening, sheet-many, sheet-no-instances, sheet-after}
+use Rattle.forms.proofs.Sheets.{sheet-disordered, sheet-read}
 use Rattle.forms.specs.Sheet.{instancesFrom}
 use Rattle.forms.specs.inner.Reading.{openingIn}
 use borrow.Author.Tests.{not-true, not-false}
@@ -30,7 +31,8 @@ returns-2 c =
     let a = c .before .before .before .before .before .before .before .args in
     let opened = opening-found (openingIn (a .f) _) _ (c .before .before .before .before .before .opening-of .ensures)
     (not-false _ (c .before .before .before .if1 .left)) in
-    rw (sheet-many (a .f) (a .s .now) _ _ opened (c .before .before .before .before .before .before .before .pre) (c .before .if2 .taken)) (c .no-form2 .ensures)
+    rw (sheet-many (a .f) (a .s .now) _ _ opened (c .before .before .before .before .before .before .before .pre) (c .before .if2 .taken))
+    (c .no-form2 .ensures)
 
 instances-from-requires : tie.Need-instances-from-requires
 instances-from-requires c κs = search needs
@@ -41,9 +43,11 @@ no-form-requires-3 c κs = search needs
 returns-3 : tie.Need-returns-3
 returns-3 c =
     let a = c .before .before .before .before .before .before .before .before .before .before .args in
-    let opened = opening-found (openingIn (a .f) _) _ (c .before .before .before .before .before .before .before .before .opening-of .ensures)
+    let opened = opening-found (openingIn (a .f) _) _
+    (c .before .before .before .before .before .before .before .before .opening-of .ensures)
     (not-false _ (c .before .before .before .before .before .before .if1 .left)) in
-    let none = instances-none (instancesFrom (a .f) _ _ _) _ (c .before .before .before .instances-from .ensures) (not-true _ (c .before .if3 .taken)) in
+    let none = instances-none (instancesFrom (a .f) _ _ _) _ (c .before .before .before .instances-from .ensures)
+    (not-true _ (c .before .if3 .taken)) in
     rw (sheet-no-instances (a .f) (a .s .now) _ _ opened none) (c .no-form3 .ensures)
 
 no-form-requires-4 : tie.Need-no-form-requires-4
@@ -52,7 +56,8 @@ no-form-requires-4 c κs = search needs
 returns-4 : tie.Need-returns-4
 returns-4 c =
     let a = c .before .before .before .before .before .before .before .before .before .before .before .before .args in
-    let opened = opening-found (openingIn (a .f) _) _ (c .before .before .before .before .before .before .before .before .before .before .opening-of .ensures)
+    let opened = opening-found (openingIn (a .f) _) _
+    (c .before .before .before .before .before .before .before .before .before .before .opening-of .ensures)
     (not-false _ (c .before .before .before .before .before .before .before .before .if1 .left)) in
     let found = instances-found (instancesFrom (a .f) _ _ _) _ (c .before .before .before .before .before .instances-from .ensures)
     (not-false _ (c .before .before .before .if3 .left)) in
@@ -66,22 +71,29 @@ no-form-requires-5 c κs = search needs
 
 returns-5 : tie.Need-returns-5
 returns-5 c =
-    let a = c .before .before .before .before .before .before .before .before .before .before .before .before .before .before .before .args in
-    let opened = opening-found (openingIn (a .f) _) _ (c .before .before .before .before .before .before .before .before .before .before .before .before .before .opening-of .ensures)
+    let a = c .before .before .before .before .before .before .before .before .before .before .before .before .before .before .before .args
+    in
+    let opened = opening-found (openingIn (a .f) _) _
+    (c .before .before .before .before .before .before .before .before .before .before .before .before .before .opening-of .ensures)
     (not-false _ (c .before .before .before .before .before .before .before .before .before .before .before .if1 .left)) in
-    let found = instances-found (instancesFrom (a .f) _ _ _) _ (c .before .before .before .before .before .before .before .before .instances-from .ensures)
+    let found = instances-found (instancesFrom (a .f) _ _ _) _
+    (c .before .before .before .before .before .before .before .before .instances-from .ensures)
     (not-false _ (c .before .before .before .before .before .before .if3 .left)) in
-    rw (sheet-disordered (a .f) (a .s .now) _ _ opened _ _ (found .is) _ (found .run) (c .before .before .before .before .before .before .before .before .before .if2 .left) _
+    rw (sheet-disordered (a .f) (a .s .now) _ _ opened _ _ (found .is) _ (found .run)
+    (c .before .before .before .before .before .before .before .before .before .if2 .left) _
     (c .before .before .ordered .ensures) (not-true _ (c .before .if5 .taken))) (c .no-form5 .ensures)
 
 returns-6 : tie.Need-returns-6
 returns-6 c =
     let a = c .before .before .before .before .before .before .before .before .before .before .before .before .before .before .args in
-    let opened = opening-found (openingIn (a .f) _) _ (c .before .before .before .before .before .before .before .before .before .before .before .before .opening-of .ensures)
+    let opened = opening-found (openingIn (a .f) _) _
+    (c .before .before .before .before .before .before .before .before .before .before .before .before .opening-of .ensures)
     (not-false _ (c .before .before .before .before .before .before .before .before .before .before .if1 .left)) in
-    let found = instances-found (instancesFrom (a .f) _ _ _) _ (c .before .before .before .before .before .before .before .instances-from .ensures)
+    let found = instances-found (instancesFrom (a .f) _ _ _) _
+    (c .before .before .before .before .before .before .before .instances-from .ensures)
     (not-false _ (c .before .before .before .before .before .if3 .left)) in
-    sheet-read (a .f) (a .s .now) _ _ opened _ _ (found .is) _ (found .run) (c .before .before .before .before .before .before .before .before .if2 .left) _
+    sheet-read (a .f) (a .s .now) _ _ opened _ _ (found .is) _ (found .run)
+    (c .before .before .before .before .before .before .before .before .if2 .left) _
     (c .before .ordered .ensures) (c .before .before .before .if4 .left) (not-false _ (c .if5 .left))
 
 pub form-in-spec : {M : Type 1} → statement M

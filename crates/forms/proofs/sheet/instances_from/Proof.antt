@@ -31,7 +31,8 @@ returns : tie.Need-returns Inv-loop μ-loop
 returns c =
     let a = c .before .before .before .before .before .before .before .before .args in
     let l = c .before .before .before .before .before .loop in
-    let none = instance-none (instanceFrom _ _ _) _ (c .before .before .before .instance-at .ensures) (not-true _ (c .before .if1 .taken)) in
+    let none = instance-none (instanceFrom _ _ _) _ (c .before .before .before .instance-at .ensures)
+    (not-true _ (c .before .if1 .taken)) in
     rw (going-wrong (a .f) (a .s .now) (a .at) (a .count) (l .i) (l .here) (l .run .run) (l .inv)
     (c .before .before .before .before .loop-test .taken) none) (c .no-instances .ensures)
 
@@ -51,8 +52,10 @@ loop-again : tie.Need-loop-again Inv-loop μ-loop
 loop-again c =
     let a = c .before .before .before .before .before .before .before .before .args in
     let l = c .before .before .before .before .before .loop in
-    let found = instance-found (instanceFrom _ _ _) _ (c .before .before .before .instance-at .ensures) (not-false _ (c .before .if1 .left)) in
-    going-next (a .f) (a .s .now) (a .at) (a .count) (l .i) (l .here) (l .run .run) (l .inv) (c .before .before .before .before .loop-test .taken) _ _
+    let found = instance-found (instanceFrom _ _ _) _ (c .before .before .before .instance-at .ensures)
+    (not-false _ (c .before .if1 .left)) in
+    going-next (a .f) (a .s .now) (a .at) (a .count) (l .i) (l .here) (l .run .run) (l .inv)
+    (c .before .before .before .before .loop-test .taken) _ _
     (c .before .before .before .before .before .before .before .before .pre) found
 
 cast-run : tie.Need-cast-run Inv-loop μ-loop

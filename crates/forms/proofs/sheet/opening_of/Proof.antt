@@ -17,7 +17,8 @@ no-opening-requires c κs = search needs
 returns : tie.Need-returns
 returns c =
     let a = c .before .before .before .before .before .args in
-    rw (opening-no-form (a .f) (a .s .now) (field-none (anyField _ _) _ (c .before .before .before .field-at .ensures) (not-true _ (c .before .if1 .taken))))
+    rw (opening-no-form (a .f) (a .s .now)
+    (field-none (anyField _ _) _ (c .before .before .before .field-at .ensures) (not-true _ (c .before .if1 .taken))))
     (c .no-opening .ensures)
 
 cast-code : tie.Need-cast-code
@@ -48,7 +49,8 @@ no-opening-requires-3 c κs = search needs
 returns-3 : tie.Need-returns-3
 returns-3 c =
     let a = c .before .before .before .before .before .before .before .before .before .before .before .before .args in
-    let form = field-found (anyField _ _) _ (c .before .before .before .before .before .before .before .before .before .before .field-at .ensures)
+    let form = field-found (anyField _ _) _
+    (c .before .before .before .before .before .before .before .before .before .before .field-at .ensures)
     (not-false _ (c .before .before .before .before .before .before .before .before .if1 .left)) in
     let none = field-none (fieldBelow _ _ _) _ (c .before .before .before .field-below .ensures) (not-true _ (c .before .if3 .taken)) in
     rw (opening-no-last (a .f) (a .s .now) _ _ form (c .before .before .before .before .before .if2 .left) none) (c .no-opening3 .ensures)
@@ -61,35 +63,41 @@ no-opening-requires-4 c κs = search needs
 
 returns-4 : tie.Need-returns-4
 returns-4 c =
-    let a = c .before .before .before .before .before .before .before .before .before .before .before .before .before .before .before .args in
+    let a = c .before .before .before .before .before .before .before .before .before .before .before .before .before .before .before .args
+    in
     let form = field-found (anyField _ _) _
     (c .before .before .before .before .before .before .before .before .before .before .before .before .before .field-at .ensures)
     (not-false _ (c .before .before .before .before .before .before .before .before .before .before .before .if1 .left)) in
     let last = field-found (fieldBelow _ _ _) _ (c .before .before .before .before .before .before .field-below .ensures)
     (not-false _ (c .before .before .before .before .if3 .left)) in
     let none = field-none (anyField _ _) _ (c .before .before .before .field-at2 .ensures) (not-true _ (c .before .if4 .taken)) in
-    rw (opening-no-count (a .f) (a .s .now) _ _ form (c .before .before .before .before .before .before .before .before .if2 .left) _ _ last none)
+    rw (opening-no-count (a .f) (a .s .now) _ _ form
+    (c .before .before .before .before .before .before .before .before .if2 .left) _ _ last none)
     (c .no-opening4 .ensures)
 
 cast-t10 : tie.Need-cast-t10
 cast-t10 c =
-    let a = c .before .before .before .before .before .before .before .before .before .before .before .before .before .before .before .args in
+    let a = c .before .before .before .before .before .before .before .before .before .before .before .before .before .before .before .args
+    in
     let last = field-found (fieldBelow _ _ _) _ (c .before .before .before .before .before .before .field-below .ensures)
     (not-false _ (c .before .before .before .before .if3 .left)) in
     let few : a .f .lastmost < 65536 = search
-    (needs, c .before .before .before .before .before .before .before .before .before .before .before .before .before .before .before .good) in
+    (needs, c .before .before .before .before .before .before .before .before .before .before .before .before .before .before .before .good)
+    in
     omega (arith, few, below-small (a .s .now) _ (a .f .lastmost + 1) _ _ last)
 
 returns-5 : tie.Need-returns-5
 returns-5 c =
-    let a = c .before .before .before .before .before .before .before .before .before .before .before .before .before .before .before .args in
+    let a = c .before .before .before .before .before .before .before .before .before .before .before .before .before .before .before .args
+    in
     let form = field-found (anyField _ _) _
     (c .before .before .before .before .before .before .before .before .before .before .before .before .before .field-at .ensures)
     (not-false _ (c .before .before .before .before .before .before .before .before .before .before .before .if1 .left)) in
     let last = field-found (fieldBelow _ _ _) _ (c .before .before .before .before .before .before .field-below .ensures)
     (not-false _ (c .before .before .before .before .if3 .left)) in
     let count = field-found (anyField _ _) _ (c .before .before .before .field-at2 .ensures) (not-false _ (c .before .if4 .left)) in
-    rw (opening-is (a .f) (a .s .now) _ _ form (c .before .before .before .before .before .before .before .before .if2 .left) _ _ last _ _ count)
+    rw (opening-is (a .f) (a .s .now) _ _ form
+    (c .before .before .before .before .before .before .before .before .if2 .left) _ _ last _ _ count)
 
 pub opening-of-spec : {M : Type 1} → statement M
 opening-of-spec =

@@ -18,7 +18,8 @@ is-selected-requires c κs = search needs
 
 returns-2 : tie.Need-returns-2
 unfolding chosen
-returns-2 c = rw (sym (c .before .before .is-concerned .ensures) ∙ not-false _ (c .before .if1 .left), pick-last _) (c .is-selected .ensures)
+returns-2 c =
+    rw (sym (c .before .before .is-concerned .ensures) ∙ not-false _ (c .before .if1 .left), pick-last _) (c .is-selected .ensures)
 
 pub is-chosen-spec : {M : Type 1} → statement M
 is-chosen-spec = tie.close (tie.spec is-concerned-requires returns is-selected-requires returns-2)

@@ -15,19 +15,37 @@ number-size-requires c κs = search needs
 add-size : tie.Need-add-size
 add-size c = let a = c .before .before .before .before .before .args in
     let e = entryOf (a .served) (a .x .service) (a .x .procedure) (a .x .address) in
-    let whole : Whole e = record { own = search (needs, c .before .before .before .before .before .good .1 .1 .0); digits = search (needs, c .before .before .before .before .before .good .1 .1 .1 .0); sub = search (needs, c .before .before .before .before .before .good .1 .1 .1 .0) } in
+    let whole : Whole e = record {
+      own = search (needs, c .before .before .before .before .before .good .1 .1 .0);
+      digits = search
+          (needs, c .before .before .before .before .before .good .1 .1 .1 .0);
+      sub = search
+          (needs, c .before .before .before .before .before .good .1 .1 .1 .0);
+    } in
     omega (arith, c .number-size .ensures, number-few e whole)
 
 add-size-2 : tie.Need-add-size-2
 add-size-2 c = let a = c .before .before .before .before .before .args in
     let e = entryOf (a .served) (a .x .service) (a .x .procedure) (a .x .address) in
-    let whole : Whole e = record { own = search (needs, c .before .before .before .before .before .good .1 .1 .0); digits = search (needs, c .before .before .before .before .before .good .1 .1 .1 .0); sub = search (needs, c .before .before .before .before .before .good .1 .1 .1 .0) } in
+    let whole : Whole e = record {
+      own = search (needs, c .before .before .before .before .before .good .1 .1 .0);
+      digits = search
+          (needs, c .before .before .before .before .before .good .1 .1 .1 .0);
+      sub = search
+          (needs, c .before .before .before .before .before .good .1 .1 .1 .0);
+    } in
     omega (arith, c .number-size .ensures, c .before .address-size .ensures, number-few e whole, address-few e whole)
 
 cast-put-head : tie.Need-cast-put-head
 cast-put-head c = let a = c .before .before .before .before .before .before .args in
     let e = entryOf (a .served) (a .x .service) (a .x .procedure) (a .x .address) in
-    let whole : Whole e = record { own = search (needs, c .before .before .before .before .before .before .good .1 .1 .0); digits = search (needs, c .before .before .before .before .before .before .good .1 .1 .1 .0); sub = search (needs, c .before .before .before .before .before .before .good .1 .1 .1 .0) } in
+    let whole : Whole e = record {
+      own = search (needs, c .before .before .before .before .before .before .good .1 .1 .0);
+      digits = search
+          (needs, c .before .before .before .before .before .before .good .1 .1 .1 .0);
+      sub = search
+          (needs, c .before .before .before .before .before .before .good .1 .1 .1 .0);
+    } in
     omega (arith, c .before .number-size .ensures, c .before .before .address-size .ensures, number-few e whole, address-few e whole)
 
 put-head-requires : tie.Need-put-head-requires
@@ -43,15 +61,27 @@ put-enumerated-requires-2 : tie.Need-put-enumerated-requires-2
 put-enumerated-requires-2 c κs = search needs
 
 sub-put-head : tie.Need-sub-put-head
-sub-put-head c = let a = c .before .before .before .before .before .before .before .before .before .before .before .before .before .before .before .before .before .before .before .before .before .before .args in
+sub-put-head c =
+    let a = c .before .before .before .before .before .before .before .before .before .before .before .before .before .before .before .before .before .before .before .before .before .before .args in
     let e = entryOf (a .served) (a .x .service) (a .x .procedure) (a .x .address) in
-    let whole : Whole e = record { own = search (needs, c .before .before .before .before .before .before .before .before .before .before .before .before .before .before .before .before .before .before .before .before .before .before .good .1 .1 .0); digits = search (needs, c .before .before .before .before .before .before .before .before .before .before .before .before .before .before .before .before .before .before .before .before .before .before .good .1 .1 .1 .0); sub = search (needs, c .before .before .before .before .before .before .before .before .before .before .before .before .before .before .before .before .before .before .before .before .before .before .good .1 .1 .1 .0) } in
+    let whole : Whole e = record {
+      own = search
+          (needs, c .before .before .before .before .before .before .before .before .before .before .before .before .before .before .before .before .before .before .before .before .before .before .good .1 .1 .0);
+      digits = search (needs, c .before .before .before .before .before .before .before .before .before .before .before .before .before .before .before .before .before .before .before .before .before .before .good .1 .1 .1 .0);
+      sub = search (needs, c .before .before .before .before .before .before .before .before .before .before .before .before .before .before .before .before .before .before .before .before .before .before .good .1 .1 .1 .0);
+    } in
     omega (arith, c .before .before .before .before .before .before .before .before .before .before .before .before .before .before .before .before .before .before .address-size .ensures, rest-size e whole)
 
 cast-put-head-2 : tie.Need-cast-put-head-2
-cast-put-head-2 c = let a = c .before .before .before .before .before .before .before .before .before .before .before .before .before .before .before .before .before .before .before .before .before .before .args in
+cast-put-head-2 c =
+    let a = c .before .before .before .before .before .before .before .before .before .before .before .before .before .before .before .before .before .before .before .before .before .before .args in
     let e = entryOf (a .served) (a .x .service) (a .x .procedure) (a .x .address) in
-    let whole : Whole e = record { own = search (needs, c .before .before .before .before .before .before .before .before .before .before .before .before .before .before .before .before .before .before .before .before .before .before .good .1 .1 .0); digits = search (needs, c .before .before .before .before .before .before .before .before .before .before .before .before .before .before .before .before .before .before .before .before .before .before .good .1 .1 .1 .0); sub = search (needs, c .before .before .before .before .before .before .before .before .before .before .before .before .before .before .before .before .before .before .before .before .before .before .good .1 .1 .1 .0) } in
+    let whole : Whole e = record {
+      own = search
+          (needs, c .before .before .before .before .before .before .before .before .before .before .before .before .before .before .before .before .before .before .before .before .before .before .good .1 .1 .0);
+      digits = search (needs, c .before .before .before .before .before .before .before .before .before .before .before .before .before .before .before .before .before .before .before .before .before .before .good .1 .1 .1 .0);
+      sub = search (needs, c .before .before .before .before .before .before .before .before .before .before .before .before .before .before .before .before .before .before .before .before .before .before .good .1 .1 .1 .0);
+    } in
     omega (arith, c .before .before .before .before .before .before .before .before .before .before .before .before .before .before .before .before .before .before .address-size .ensures, address-few e whole)
 
 put-head-requires-2 : tie.Need-put-head-requires-2
@@ -67,9 +97,15 @@ same-length : tie.Need-same-length
 same-length c = search needs
 
 returns : tie.Need-returns
-returns c = let a = c .before .before .before .before .before .before .before .before .before .before .before .before .before .before .before .before .before .before .before .before .before .before .before .before .before .before .before .before .before .before .before .before .before .args in
+returns c =
+    let a = c .before .before .before .before .before .before .before .before .before .before .before .before .before .before .before .before .before .before .before .before .before .before .before .before .before .before .before .before .before .before .before .before .before .args in
     let e = entryOf (a .served) (a .x .service) (a .x .procedure) (a .x .address) in
-    let whole : Whole e = record { own = search (needs, c .before .before .before .before .before .before .before .before .before .before .before .before .before .before .before .before .before .before .before .before .before .before .before .before .before .before .before .before .before .before .before .before .before .good .1 .1 .0); digits = search (needs, c .before .before .before .before .before .before .before .before .before .before .before .before .before .before .before .before .before .before .before .before .before .before .before .before .before .before .before .before .before .before .before .before .before .good .1 .1 .1 .0); sub = search (needs, c .before .before .before .before .before .before .before .before .before .before .before .before .before .before .before .before .before .before .before .before .before .before .before .before .before .before .before .before .before .before .before .before .before .good .1 .1 .1 .0) } in
+    let whole : Whole e = record {
+      own = search
+          (needs, c .before .before .before .before .before .before .before .before .before .before .before .before .before .before .before .before .before .before .before .before .before .before .before .before .before .before .before .before .before .before .before .before .before .good .1 .1 .0);
+      digits = search (needs, c .before .before .before .before .before .before .before .before .before .before .before .before .before .before .before .before .before .before .before .before .before .before .before .before .before .before .before .before .before .before .before .before .before .good .1 .1 .1 .0);
+      sub = search (needs, c .before .before .before .before .before .before .before .before .before .before .before .before .before .before .before .before .before .before .before .before .before .before .before .before .before .before .before .before .before .before .before .before .before .good .1 .1 .1 .0);
+    } in
     entry-wrote e (c .before .before .before .before .before .before .before .before .before .before .before .before .before .before .before .before .before .before .before .before .before .before .before .before .before .before .before .before .before .before .before .before .before .pre) (omega (arith, c .before .before .before .before .before .before .before .before .before .before .before .before .before .before .before .before .before .before .before .before .before .before .before .before .before .before .before .before .number-size .ensures, c .before .before .before .before .before .before .before .before .before .before .before .before .before .before .before .before .before .before .before .before .before .before .before .before .before .before .before .before .before .address-size .ensures, fields-size e)) (omega (arith, c .before .before .before .before .before .before .before .before .before .before .before .before .before .before .before .before .before .before .before .before .before .before .before .before .before .before .before .before .before .address-size .ensures, rest-size e whole))
     (c .before .before .before .before .before .before .before .before .before .before .before .before .before .before .before .before .before .before .before .before .before .before .before .before .before .before .put-head .ensures) (c .before .before .before .before .before .before .before .before .before .before .before .before .before .before .before .before .before .before .before .before .before .before .put-number .ensures) (c .before .before .before .before .before .before .before .before .before .before .before .before .before .before .before .before .before .before .put-enumerated .ensures) (c .before .before .before .before .before .before .before .before .before .before .before .before .before .before .put-enumerated2 .ensures) (c .before .before .before .before .before .before .before .before .before .before .put-head2 .ensures) (c .before .before .before .before .before .before .put-number2 .ensures) (c .before .before .put-sub .ensures)
 

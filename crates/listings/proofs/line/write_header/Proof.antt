@@ -25,7 +25,8 @@ write-number-requires-2 c κs =
     let s = c .before .before .before .before .before .before .before .before .before .before .before .before .before .before .before .before in
     count-room (s .args .last) (s .args .count) (s .args .out .now) (s .pre)
     (c .before .before .before .before .before .before .before .before .before .before .before .before .put-all .ensures)
-    (c .before .before .before .before .before .before .before .before .write-number .ensures) (c .before .before .before .put-all2 .ensures)
+    (c .before .before .before .before .before .before .before .before .write-number .ensures)
+    (c .before .before .before .put-all2 .ensures)
 
 same-length : tie.Need-same-length
 same-length c = search needs

@@ -24,14 +24,16 @@ write-number-requires-2 : tie.Need-write-number-requires-2
 write-number-requires-2 c κs =
     let s = c .before .before .before .before .before .before .before .before .before .before .before .before .before .before .before .before in
     service-room (s .args .i) (s .args .out .now) (s .args .at) (s .pre .1)
-    (c .before .before .before .before .before .before .before .before .before .write-name .ensures) (c .before .before .before .before .write-number .ensures)
+    (c .before .before .before .before .before .before .before .before .before .write-name .ensures)
+    (c .before .before .before .before .write-number .ensures)
 
 write-kind-requires : tie.Need-write-kind-requires
 write-kind-requires c κs =
     let s = c .before .before .before .before .before .before .before .before .before .before .before .before .before .before .before .before .before .before .before .before in
     kind-room (s .args .i) (s .args .out .now) (s .args .at) (s .pre .1)
     (c .before .before .before .before .before .before .before .before .before .before .before .before .before .write-name .ensures)
-    (c .before .before .before .before .before .before .before .before .write-number .ensures) (c .before .before .before .write-number2 .ensures)
+    (c .before .before .before .before .before .before .before .before .write-number .ensures)
+    (c .before .before .before .write-number2 .ensures)
 
 cast-write-digits : tie.Need-cast-write-digits
 cast-write-digits c = search needs
@@ -62,7 +64,8 @@ write-sub-requires c κs =
           (c .before .before .before .before .before .before .before .before .before .before .before .before .before .before .before .before .before
           .before .write-number .ensures)
           (c .before .before .before .before .before .before .before .before .before .before .before .before .before .write-number2 .ensures)
-          (c .before .before .before .before .before .before .before .before .before .write-kind .ensures) (c .before .before .before .before .write-digits .ensures),
+          (c .before .before .before .before .before .before .before .before .before .write-kind .ensures)
+          (c .before .before .before .before .write-digits .ensures),
     )
 
 all-wrote : tie.Need-returns

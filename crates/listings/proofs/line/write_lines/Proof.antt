@@ -61,7 +61,8 @@ loop-again c =
     let long : length (s .args .t3 .run) ≡ runMost = search (unmapped, needs, s .good) in (
       search needs,
       run-next (s .args .t3) long (s .args .out .now) (s .args .at) (l .i) (l .inv .1)
-          (omega (arith, c .before .before .before .before .before .if1 .left)) (c .before .before .before .before .before .before .loop-test .taken)
+          (omega (arith, c .before .before .before .before .before .if1 .left))
+          (c .before .before .before .before .before .before .loop-test .taken)
           (c .before .before .write-line .ensures),
     )
 

@@ -29,7 +29,8 @@ returns-2 c =
 write-listing-requires : tie.Need-write-listing-requires
 write-listing-requires c κs =
     let a = c .before .before .before .before .before .before .before .before .args in
-    listing-asks (a .s .now) _ (c .before .before .before .before .read-form .ensures) (not-false _ (c .before .before .if2 .left)) (a .out .now)
+    listing-asks (a .s .now) _ (c .before .before .before .before .read-form .ensures) (not-false _ (c .before .before .if2 .left))
+    (a .out .now)
     (omega (arith, listing-octets, c .before .before .before .before .before .if1 .left))
 
 same-length : tie.Need-same-length
@@ -38,8 +39,10 @@ same-length c = wrote-length (c .before .before .write-listing .ensures)
 returns-3 : tie.Need-returns-3
 returns-3 c =
     let a = c .before .before .before .before .before .before .before .before .before .before .before .args in
-    lists-sheet (a .s .now) (a .out .now) (omega (arith, listing-octets, c .before .before .before .before .before .before .before .before .if1 .left)) _
-    (c .before .before .before .before .before .before .before .read-form .ensures) (not-false _ (c .before .before .before .before .before .if2 .left))
+    lists-sheet (a .s .now) (a .out .now)
+    (omega (arith, listing-octets, c .before .before .before .before .before .before .before .before .if1 .left)) _
+    (c .before .before .before .before .before .before .before .read-form .ensures)
+    (not-false _ (c .before .before .before .before .before .if2 .left))
     (c .before .before .write-listing .ensures)
 
 pub list-sheet-spec : {M : Type 1} → statement M

@@ -26,14 +26,17 @@ same-length c = search needs
 returns-2 : tie.Need-returns-2
 returns-2 c =
     let a = c .before .before .before .before .before .before .before .before .before .before .before .args in
-    prints-none (a .s .now) (a .out .now) (omega (arith, listing-octets, c .before .before .before .before .before .before .before .before .if1 .left)) _
-    (c .before .before .before .before .before .before .before .read-form .ensures) (not-true _ (c .before .before .before .before .before .if2 .taken))
+    prints-none (a .s .now) (a .out .now)
+    (omega (arith, listing-octets, c .before .before .before .before .before .before .before .before .if1 .left)) _
+    (c .before .before .before .before .before .before .before .read-form .ensures)
+    (not-true _ (c .before .before .before .before .before .if2 .taken))
     (c .before .before .put-all .ensures)
 
 write-listing-requires : tie.Need-write-listing-requires
 write-listing-requires c κs =
     let a = c .before .before .before .before .before .before .before .before .args in
-    listing-asks (a .s .now) _ (c .before .before .before .before .read-form .ensures) (not-false _ (c .before .before .if2 .left)) (a .out .now)
+    listing-asks (a .s .now) _ (c .before .before .before .before .read-form .ensures) (not-false _ (c .before .before .if2 .left))
+    (a .out .now)
     (omega (arith, listing-octets, c .before .before .before .before .before .if1 .left))
 
 same-length-2 : tie.Need-same-length-2
@@ -42,8 +45,10 @@ same-length-2 c = wrote-length (c .before .before .write-listing .ensures)
 returns-3 : tie.Need-returns-3
 returns-3 c =
     let a = c .before .before .before .before .before .before .before .before .before .before .before .args in
-    prints-sheet (a .s .now) (a .out .now) (omega (arith, listing-octets, c .before .before .before .before .before .before .before .before .if1 .left)) _
-    (c .before .before .before .before .before .before .before .read-form .ensures) (not-false _ (c .before .before .before .before .before .if2 .left))
+    prints-sheet (a .s .now) (a .out .now)
+    (omega (arith, listing-octets, c .before .before .before .before .before .before .before .before .if1 .left)) _
+    (c .before .before .before .before .before .before .before .read-form .ensures)
+    (not-false _ (c .before .before .before .before .before .if2 .left))
     (c .before .before .write-listing .ensures)
 
 pub print-sheet-spec : {M : Type 1} → statement M

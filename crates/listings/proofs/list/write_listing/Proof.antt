@@ -22,7 +22,8 @@ write-lines-requires c κs =
     let s = c .before .before .before .before .before .before .before in
     let long : length (s .args .run .run) ≡ runMost = search (unmapped, needs, s .good) in (
       s .pre .2,
-      lines-room (s .args .last) (s .args .run) (s .pre .0) long (s .args .out .now) (s .pre .1) (c .before .before .before .write-header .ensures),
+      lines-room (s .args .last) (s .args .run) (s .pre .0) long (s .args .out .now) (s .pre .1)
+          (c .before .before .before .write-header .ensures),
     )
 
 all-wrote : tie.Need-returns

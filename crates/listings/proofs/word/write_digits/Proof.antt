@@ -24,7 +24,8 @@ put-all-requires c κs = search needs
 slice-write-out : tie.Need-slice-write-out
 slice-write-out c =
     mark-room 32 (c .before .before .before .before .before .before .pre .1)
-    (wrote (word-room (take (c .before .before .before .before .before .before .args .count) (c .before .before .before .before .before .before .args .t3)) 32 _ _
+    (wrote (word-room (take (c .before .before .before .before .before .before .args .count)
+    (c .before .before .before .before .before .before .args .t3)) 32 _ _
     (c .before .before .before .before .before .before .pre .1)) (c .before .before .put-all .ensures))
 
 add-result : tie.Need-add-result
@@ -32,7 +33,8 @@ add-result c =
     omega (
       arith,
       mark-room 32 (c .before .before .before .before .before .before .pre .1)
-          (wrote (word-room (take (c .before .before .before .before .before .before .args .count) (c .before .before .before .before .before .before .args .t3)) 32 _ _
+          (wrote (word-room (take (c .before .before .before .before .before .before .args .count)
+          (c .before .before .before .before .before .before .args .t3)) 32 _ _
           (c .before .before .before .before .before .before .pre .1)) (c .before .before .put-all .ensures)),
     )
 
@@ -42,7 +44,8 @@ same-length c = search needs
 returns : tie.Need-returns
 returns c =
     mark-wrote 32 (wrote (word-room
-    (take (c .before .before .before .before .before .before .args .count) (c .before .before .before .before .before .before .args .t3)) 32 _ _
+    (take (c .before .before .before .before .before .before .args .count) (c .before .before .before .before .before .before .args .t3)) 32
+    _ _
     (c .before .before .before .before .before .before .pre .1)) (c .before .before .put-all .ensures))
 
 pub write-digits-spec : {M : Type 1} → statement M

@@ -15,7 +15,8 @@ same-length c = search needs
 
 returns : tie.Need-returns
 returns c =
-    text-wrote _ (kind-unknown _ _ (c .before .before .before .before .before .if1 .taken)) (c .before .before .before .before .before .before .before .pre)
+    text-wrote _ (kind-unknown _ _ (c .before .before .before .before .before .if1 .taken))
+    (c .before .before .before .before .before .before .before .pre)
     (c .before .before .put-all .ensures)
 
 slice-write-out : tie.Need-slice-write-out
@@ -25,7 +26,8 @@ add-write-number : tie.Need-add-write-number
 add-write-number c = search needs
 
 write-number-requires : tie.Need-write-number-requires
-write-number-requires c κs = kind-room _ _ (c .before .if1 .left) (c .before .before .before .args .out .now) _ (c .before .before .before .pre)
+write-number-requires c κs =
+    kind-room _ _ (c .before .if1 .left) (c .before .before .before .args .out .now) _ (c .before .before .before .pre)
 
 all-wrote : tie.Need-returns-2
 all-wrote c = kind-wrote _ _ (c .before .before .before .before .if1 .left) (c .before .before .write-number .ensures)

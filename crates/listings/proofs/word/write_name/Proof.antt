@@ -13,7 +13,9 @@ same-length : tie.Need-same-length
 same-length c = search needs
 
 returns : tie.Need-returns
-returns c = text-wrote _ (name-cfu _ (c .before .before .before .before .before .if1 .taken)) (c .before .before .before .before .before .before .before .pre) (c .before .before .put-all .ensures)
+returns c =
+    text-wrote _ (name-cfu _ (c .before .before .before .before .before .if1 .taken))
+    (c .before .before .before .before .before .before .before .pre) (c .before .before .put-all .ensures)
 
 slice-aggregate-put-all-2 : tie.Need-slice-aggregate-put-all-2
 slice-aggregate-put-all-2 c = search needs
@@ -26,7 +28,8 @@ same-length-2 c = search needs
 
 returns-2 : tie.Need-returns-2
 returns-2 c =
-    text-wrote _ (name-cfb _ (c .before .before .before .before .before .before .if1 .left) (c .before .before .before .before .before .if2 .taken))
+    text-wrote _ (name-cfb _ (c .before .before .before .before .before .before .if1 .left)
+    (c .before .before .before .before .before .if2 .taken))
     (c .before .before .before .before .before .before .before .before .pre) (c .before .before .put-all2 .ensures)
 
 slice-aggregate-put-all-3 : tie.Need-slice-aggregate-put-all-3
@@ -40,7 +43,8 @@ same-length-3 c = search needs
 
 returns-3 : tie.Need-returns-3
 returns-3 c =
-    text-wrote _ (name-cfnr _ (c .before .before .before .before .before .before .if1 .left) (c .before .before .before .before .before .if2 .left))
+    text-wrote _ (name-cfnr _ (c .before .before .before .before .before .before .if1 .left)
+    (c .before .before .before .before .before .if2 .left))
     (c .before .before .before .before .before .before .before .before .pre) (c .before .before .put-all3 .ensures)
 
 pub write-name-spec : {M : Type 1} → statement M

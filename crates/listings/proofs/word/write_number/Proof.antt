@@ -9,10 +9,17 @@ write-decimal-requires : tie.Need-write-decimal-requires
 write-decimal-requires c κs = word-room (decimal (c .before .before .args .n)) (c .before .before .args .mark) _ _ (c .before .before .pre)
 
 slice-write-out : tie.Need-slice-write-out
-slice-write-out c = mark-room (c .before .before .before .before .before .args .mark) (c .before .before .before .before .before .pre) (c .before .before .write-decimal .ensures)
+slice-write-out c =
+    mark-room (c .before .before .before .before .before .args .mark) (c .before .before .before .before .before .pre)
+    (c .before .before .write-decimal .ensures)
 
 add-result : tie.Need-add-result
-add-result c = omega (arith, mark-room (c .before .before .before .before .before .args .mark) (c .before .before .before .before .before .pre) (c .before .before .write-decimal .ensures))
+add-result c =
+    omega (
+      arith,
+      mark-room (c .before .before .before .before .before .args .mark) (c .before .before .before .before .before .pre)
+          (c .before .before .write-decimal .ensures),
+    )
 
 same-length : tie.Need-same-length
 same-length c = search needs

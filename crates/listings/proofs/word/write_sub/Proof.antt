@@ -17,7 +17,8 @@ same-length c = search needs
 
 returns : tie.Need-returns
 returns c =
-    text-wrote _ (sub-none _ _ (c .before .before .before .before .before .if1 .taken)) (c .before .before .before .before .before .before .before .pre .1)
+    text-wrote _ (sub-none _ _ (c .before .before .before .before .before .if1 .taken))
+    (c .before .before .before .before .before .before .before .pre .1)
     (c .before .before .put-all .ensures)
 
 write-hex-requires : tie.Need-write-hex-requires
@@ -29,14 +30,16 @@ write-hex-requires c κs = (
 
 slice-write-out : tie.Need-slice-write-out
 slice-write-out c =
-    mark-room 10 (rw (sub-some _ _ (c .before .before .before .before .if1 .left)) at (c .before .before .before .before .before .before .pre .1))
+    mark-room 10 (rw (sub-some _ _ (c .before .before .before .before .if1 .left)) at
+    (c .before .before .before .before .before .before .pre .1))
     (c .before .before .write-hex .ensures)
 
 add-result : tie.Need-add-result
 add-result c =
     omega (
       arith,
-      mark-room 10 (rw (sub-some _ _ (c .before .before .before .before .if1 .left)) at (c .before .before .before .before .before .before .pre .1))
+      mark-room 10 (rw (sub-some _ _ (c .before .before .before .before .if1 .left)) at
+          (c .before .before .before .before .before .before .pre .1))
           (c .before .before .write-hex .ensures),
     )
 

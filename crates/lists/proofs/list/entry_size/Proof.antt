@@ -15,7 +15,13 @@ number-size-requires c κs = search needs
 -- src/list.rt:59:5
 add-result : tie.Need-add-result
 add-result c = let e = c .before .before .before .args .e in
-    let whole : Whole e = record { own = search (needs, c .before .before .before .good .0); digits = search (needs, c .before .before .before .good .0 .1 .1 .1 .1 .1 .0); sub = search (needs, c .before .before .before .good .0 .1 .1 .1 .1 .1 .0) } in
+    let whole : Whole e = record {
+      own = search (needs, c .before .before .before .good .0);
+      digits = search
+          (needs, c .before .before .before .good .0 .1 .1 .1 .1 .1 .0);
+      sub = search
+          (needs, c .before .before .before .good .0 .1 .1 .1 .1 .1 .0);
+    } in
     omega (arith, c .number-size .ensures, number-few e whole)
 
 -- src/list.rt:59:31
@@ -25,14 +31,29 @@ address-size-requires c κs = search needs
 -- src/list.rt:59:5
 add-result-2 : tie.Need-add-result-2
 add-result-2 c = let e = c .before .before .before .before .args .e in
-    let whole : Whole e = record { own = search (needs, c .before .before .before .before .good .0); digits = search (needs, c .before .before .before .before .good .0 .1 .1 .1 .1 .1 .0); sub = search (needs, c .before .before .before .before .good .0 .1 .1 .1 .1 .1 .0) } in
+    let whole : Whole e = record {
+      own = search (needs, c .before .before .before .before .good .0);
+      digits = search
+          (needs, c .before .before .before .before .good .0 .1 .1 .1 .1 .1 .0);
+      sub = search
+          (needs, c .before .before .before .before .good .0 .1 .1 .1 .1 .1 .0);
+    } in
     omega (arith, c .address-size .ensures, c .before .number-size .ensures, number-few e whole, address-few e whole)
 
 -- src/list.rt:54:1
 returns : tie.Need-returns
 returns c = let e = c .before .before .before .before .args .e in
-    let whole : Whole e = record { own = search (needs, c .before .before .before .before .good .0); digits = search (needs, c .before .before .before .before .good .0 .1 .1 .1 .1 .1 .0); sub = search (needs, c .before .before .before .before .good .0 .1 .1 .1 .1 .1 .0) } in
-    (omega (arith, c .address-size .ensures, c .before .number-size .ensures, entry-long e whole), omega (arith, c .address-size .ensures, c .before .number-size .ensures, number-few e whole, address-few e whole))
+    let whole : Whole e = record {
+      own = search (needs, c .before .before .before .before .good .0);
+      digits = search
+          (needs, c .before .before .before .before .good .0 .1 .1 .1 .1 .1 .0);
+      sub = search
+          (needs, c .before .before .before .before .good .0 .1 .1 .1 .1 .1 .0);
+    } in (
+      omega (arith, c .address-size .ensures, c .before .number-size .ensures, entry-long e whole),
+      omega
+          (arith, c .address-size .ensures, c .before .number-size .ensures, number-few e whole, address-few e whole),
+    )
 
 pub entry-size-spec : {M : Type 1} → statement M
 entry-size-spec =

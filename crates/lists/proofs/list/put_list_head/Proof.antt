@@ -57,19 +57,46 @@ head-size-requires-2 c κs = search needs
 add-inside : tie.Need-add-inside
 add-inside c = let same = toZ-ofZ (c .before .before .before .before .before .fits .identifier) in
     let count = rw same at (c .before .ident-size .ensures) in
-    omega (arith, c .before .before .before .if1 .left, head-most _ (c .before .before .head-size .ensures), count, ident-most (c .before .before .before .before .before .args .identifier) (c .before .before .before .before .before .fits .identifier .sfits), head-most _ (c .head-size2 .ensures))
+    omega (
+      arith,
+      c .before .before .before .if1 .left,
+      head-most _ (c .before .before .head-size .ensures),
+      count,
+      ident-most
+          (c .before .before .before .before .before .args .identifier)
+          (c .before .before .before .before .before .fits .identifier .sfits),
+      head-most _ (c .head-size2 .ensures),
+    )
 
 -- src/list.rt:105:18
 add-inside-2 : tie.Need-add-inside-2
 add-inside-2 c = let same = toZ-ofZ (c .before .before .before .before .before .fits .identifier) in
     let count = rw same at (c .before .ident-size .ensures) in
-    omega (arith, c .before .before .before .if1 .left, head-most _ (c .before .before .head-size .ensures), count, ident-most (c .before .before .before .before .before .args .identifier) (c .before .before .before .before .before .fits .identifier .sfits), head-most _ (c .head-size2 .ensures))
+    omega (
+      arith,
+      c .before .before .before .if1 .left,
+      head-most _ (c .before .before .head-size .ensures),
+      count,
+      ident-most
+          (c .before .before .before .before .before .args .identifier)
+          (c .before .before .before .before .before .fits .identifier .sfits),
+      head-most _ (c .head-size2 .ensures),
+    )
 
 -- src/list.rt:106:30
 cast-head-size-3 : tie.Need-cast-head-size-3
 cast-head-size-3 c = let same = toZ-ofZ (c .before .before .before .before .before .fits .identifier) in
     let count = rw same at (c .before .ident-size .ensures) in
-    omega (arith, c .before .before .before .if1 .left, head-most _ (c .before .before .head-size .ensures), count, ident-most (c .before .before .before .before .before .args .identifier) (c .before .before .before .before .before .fits .identifier .sfits), head-most _ (c .head-size2 .ensures))
+    omega (
+      arith,
+      c .before .before .before .if1 .left,
+      head-most _ (c .before .before .head-size .ensures),
+      count,
+      ident-most
+          (c .before .before .before .before .before .args .identifier)
+          (c .before .before .before .before .before .fits .identifier .sfits),
+      head-most _ (c .head-size2 .ensures),
+    )
 
 -- src/list.rt:106:20
 head-size-requires-3 : tie.Need-head-size-requires-3
@@ -79,21 +106,46 @@ head-size-requires-3 c κs = search needs
 add-if2 : tie.Need-add-if2
 add-if2 c = let same = toZ-ofZ (c .before .before .before .before .before .before .fits .identifier) in
     let count = rw same at (c .before .before .ident-size .ensures) in
-    omega (arith, c .before .before .before .before .if1 .left, head-most _ (c .before .before .before .head-size .ensures), count, ident-most (c .before .before .before .before .before .before .args .identifier) (c .before .before .before .before .before .before .fits .identifier .sfits), head-most _ (c .before .head-size2 .ensures), head-most _ (c .head-size3 .ensures))
+    omega (
+      arith,
+      c .before .before .before .before .if1 .left,
+      head-most _
+          (c .before .before .before .head-size .ensures),
+      count,
+      ident-most (c .before .before .before .before .before .before .args .identifier)
+          (c .before .before .before .before .before .before .fits .identifier .sfits),
+      head-most _ (c .before .head-size2 .ensures),
+      head-most _
+          (c .head-size3 .ensures),
+    )
 
 -- src/list.rt:107:9
 returns-2 : tie.Need-returns-2
 returns-2 c = let same = toZ-ofZ (c .before .before .before .before .before .before .before .fits .identifier) in
     let count = rw same at (c .before .before .before .ident-size .ensures) in
-    let known = lengths (c .before .before .before .before .before .before .before .args .identifier) (c .before .before .before .before .before .before .before .args .size) (c .before .before .before .before .head-size .ensures) count (c .before .before .head-size2 .ensures) in
-    let long = list-long (c .before .before .before .before .before .before .before .args .identifier) (c .before .before .before .before .before .before .before .args .size) known (c .before .head-size3 .ensures) in
+    let known = lengths (c .before .before .before .before .before .before .before .args .identifier)
+    (c .before .before .before .before .before .before .before .args .size) (c .before .before .before .before .head-size .ensures) count
+    (c .before .before .head-size2 .ensures) in
+    let long = list-long (c .before .before .before .before .before .before .before .args .identifier)
+    (c .before .before .before .before .before .before .before .args .size) known (c .before .head-size3 .ensures) in
     head-none (omega (arith, c .before .before .before .before .before .if1 .left)) (omega (arith, long, c .if2 .taken))
 
 -- src/list.rt:109:36
 cast-put-head : tie.Need-cast-put-head
 cast-put-head c = let same = toZ-ofZ (c .before .before .before .before .before .before .before .before .fits .identifier) in
     let count = rw same at (c .before .before .before .before .ident-size .ensures) in
-    omega (arith, c .before .before .before .before .before .before .if1 .left, head-most _ (c .before .before .before .before .before .head-size .ensures), count, ident-most (c .before .before .before .before .before .before .before .before .args .identifier) (c .before .before .before .before .before .before .before .before .fits .identifier .sfits), head-most _ (c .before .before .before .head-size2 .ensures))
+    omega (
+      arith,
+      c .before .before .before .before .before .before .if1 .left,
+      head-most _
+          (c .before .before .before .before .before .head-size .ensures),
+      count,
+      ident-most
+          (c .before .before .before .before .before .before .before .before .args .identifier)
+          (c .before .before .before .before .before .before .before .before .fits .identifier .sfits),
+      head-most _
+          (c .before .before .before .head-size2 .ensures),
+    )
 
 -- src/list.rt:109:9
 put-head-requires : tie.Need-put-head-requires
@@ -105,7 +157,8 @@ put-ident-requires c κs = search needs
 
 -- src/list.rt:111:36
 cast-put-head-2 : tie.Need-cast-put-head-2
-cast-put-head-2 c = omega (arith, c .before .before .before .before .before .before .before .before .before .before .before .before .before .before .if1 .left, head-most _ (c .before .before .before .before .before .before .before .before .before .before .before .before .before .head-size .ensures))
+cast-put-head-2 c =
+    omega (arith, c .before .before .before .before .before .before .before .before .before .before .before .before .before .before .if1 .left, head-most _ (c .before .before .before .before .before .before .before .before .before .before .before .before .before .head-size .ensures))
 
 -- src/list.rt:111:9
 put-head-requires-2 : tie.Need-put-head-requires-2
@@ -113,14 +166,16 @@ put-head-requires-2 c κs = search needs
 
 -- src/list.rt:112:9
 write-one-requires : tie.Need-write-one-requires
-write-one-requires c κs = let same = toZ-ofZ (c .before .before .before .before .before .before .before .before .before .before .before .before .before .before .before .before .before .before .before .before .fits .identifier) in
+write-one-requires c κs =
+    let same = toZ-ofZ (c .before .before .before .before .before .before .before .before .before .before .before .before .before .before .before .before .before .before .before .before .fits .identifier) in
     let count = rw same at (c .before .before .before .before .before .before .before .before .before .before .before .before .before .before .before .before .ident-size .ensures) in
     let known = lengths (c .before .before .before .before .before .before .before .before .before .before .before .before .before .before .before .before .before .before .before .before .args .identifier) (c .before .before .before .before .before .before .before .before .before .before .before .before .before .before .before .before .before .before .before .before .args .size) (c .before .before .before .before .before .before .before .before .before .before .before .before .before .before .before .before .before .head-size .ensures) count (c .before .before .before .before .before .before .before .before .before .before .before .before .before .before .before .head-size2 .ensures) in
     let long = list-long (c .before .before .before .before .before .before .before .before .before .before .before .before .before .before .before .before .before .before .before .before .args .identifier) (c .before .before .before .before .before .before .before .before .before .before .before .before .before .before .before .before .before .before .before .before .args .size) known (c .before .before .before .before .before .before .before .before .before .before .before .before .before .before .head-size3 .ensures) in
     omega (
       arith,
       ident-one (pos interrogation) (omega arith),
-      length-append (identOctets (pos interrogation)) (headOctets 0x31 (c .before .before .before .before .before .before .before .before .before .before .before .before .before .before .before .before .before .before .before .before .args .size)),
+      length-append (identOctets (pos interrogation))
+          (headOctets 0x31 (c .before .before .before .before .before .before .before .before .before .before .before .before .before .before .before .before .before .before .before .before .args .size)),
       head-room (c .before .before .before .before .before .before .before .before .before .before .before .before .before .before .before .before .before .before .before .before .args .identifier) (c .before .before .before .before .before .before .before .before .before .before .before .before .before .before .before .before .before .before .before .before .args .size) known (omega (arith, long, c .before .before .before .before .before .before .before .before .before .before .before .before .before .if2 .left)) (c .before .before .before .before .before .before .before .before .before .before .before .put-head .ensures) (rw same at (c .before .before .before .before .before .before .before .put-ident .ensures)) (c .before .before .before .put-head2 .ensures),
     )
 
@@ -138,7 +193,8 @@ same-length c = search needs
 
 -- src/list.rt:98:1
 returns-3 : tie.Need-returns-3
-returns-3 c = let same = toZ-ofZ (c .before .before .before .before .before .before .before .before .before .before .before .before .before .before .before .before .before .before .before .before .before .before .before .before .before .before .before .fits .identifier) in
+returns-3 c =
+    let same = toZ-ofZ (c .before .before .before .before .before .before .before .before .before .before .before .before .before .before .before .before .before .before .before .before .before .before .before .before .before .before .before .fits .identifier) in
     let count = rw same at (c .before .before .before .before .before .before .before .before .before .before .before .before .before .before .before .before .before .before .before .before .before .before .before .ident-size .ensures) in
     let known = lengths (c .before .before .before .before .before .before .before .before .before .before .before .before .before .before .before .before .before .before .before .before .before .before .before .before .before .before .before .args .identifier) (c .before .before .before .before .before .before .before .before .before .before .before .before .before .before .before .before .before .before .before .before .before .before .before .before .before .before .before .args .size) (c .before .before .before .before .before .before .before .before .before .before .before .before .before .before .before .before .before .before .before .before .before .before .before .before .head-size .ensures) count (c .before .before .before .before .before .before .before .before .before .before .before .before .before .before .before .before .before .before .before .before .before .before .head-size2 .ensures) in
     let long = list-long (c .before .before .before .before .before .before .before .before .before .before .before .before .before .before .before .before .before .before .before .before .before .before .before .before .before .before .before .args .identifier) (c .before .before .before .before .before .before .before .before .before .before .before .before .before .before .before .before .before .before .before .before .before .before .before .before .before .before .before .args .size) known (c .before .before .before .before .before .before .before .before .before .before .before .before .before .before .before .before .before .before .before .before .before .head-size3 .ensures) in

@@ -26,7 +26,14 @@ add-out-2 c = search needs
 
 -- src/list.rt:49:5
 slice-write-out-3 : tie.Need-slice-write-out-3
-slice-write-out-3 c = omega (arith, c .pre, length-set (c .args .out .now) (c .args .at) (c .args .tag), length-set (set (c .args .out .now) (c .args .at) (c .args .tag)) (c .args .at + 1) 1)
+slice-write-out-3 c =
+    omega (
+      arith,
+      c .pre,
+      length-set (c .args .out .now) (c .args .at) (c .args .tag),
+      length-set
+          (set (c .args .out .now) (c .args .at) (c .args .tag)) (c .args .at + 1) 1,
+    )
 
 -- src/list.rt:50:5
 add-result : tie.Need-add-result

@@ -14,13 +14,25 @@ add-need : tie.Need-add-need
 add-need c = omega (arith, c .length-fewest .ensures, shortest-most (c .before .before .args .n))
 
 returns : tie.Need-returns
-returns c = puts-none (omega (arith, c .before .length-fewest .ensures, length-head (c .before .before .before .args .tag) (c .before .before .before .args .n)))
+returns c =
+    puts-none (omega (
+      arith,
+      c .before .length-fewest .ensures,
+      length-head (c .before .before .before .args .tag)
+          (c .before .before .before .args .n),
+    ))
 
 sub-if2 : tie.Need-sub-if2
 sub-if2 c = search needs
 
 returns-2 : tie.Need-returns-2
-returns-2 c = puts-none (omega (arith, c .before .before .length-fewest .ensures, length-head (c .before .before .before .before .args .tag) (c .before .before .before .before .args .n)))
+returns-2 c =
+    puts-none (omega (
+      arith,
+      c .before .before .length-fewest .ensures,
+      length-head (c .before .before .before .before .args .tag)
+          (c .before .before .before .before .args .n),
+    ))
 
 write-head-requires : tie.Need-write-head-requires
 write-head-requires c κs = let n = c .before .before .before .before .before .args .n in

@@ -23,7 +23,9 @@ same-length c = search needs
 
 returns : tie.Need-returns
 unfolding lengthWith
-returns c = rw (c .before .before .before .before .if1 .taken) (then (c .before .before .before .before .before .before .before .write-octet .ensures) (c .before .before .write-octet2 .ensures))
+returns c =
+    rw (c .before .before .before .before .if1 .taken)
+    (then (c .before .before .before .before .before .before .before .write-octet .ensures) (c .before .before .write-octet2 .ensures))
 
 add-write-octet : tie.Need-add-write-octet
 add-write-octet c = search needs

@@ -35,7 +35,9 @@ loop-less : tie.Need-loop-less Inv-loop μ-loop
 loop-less c = search needs
 
 loop-again : tie.Need-loop-again Inv-loop μ-loop
-loop-again c = let l = c .before .loop in (search needs, simp length-set (l .inv .1), word-turn (l .out) (c .before .before .args .at) (l .i) (l .rest) (omega arith) ∙ l .inv .2)
+loop-again c =
+    let l = c .before .loop in
+    (search needs, simp length-set (l .inv .1), word-turn (l .out) (c .before .before .args .at) (l .i) (l .rest) (omega arith) ∙ l .inv .2)
 
 add-result : tie.Need-add-result Inv-loop μ-loop
 add-result c = search needs

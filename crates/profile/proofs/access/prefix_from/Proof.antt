@@ -13,7 +13,9 @@ shared-slice-read-t6 : tie.Need-shared-slice-read-t6
 shared-slice-read-t6 c = search needs
 
 returns : tie.Need-returns
-returns c = prefix-made (c .before .before .before .args .s .now) (c .before .before .before .args .at) (c .before .digits-from .result) (c .before .digits-from .ensures)
+returns c =
+    prefix-made (c .before .before .before .args .s .now) (c .before .before .before .args .at) (c .before .digits-from .result)
+    (c .before .digits-from .ensures)
 
 pub prefix-from-spec : {M : Type 1} → statement M
 prefix-from-spec =

@@ -33,7 +33,13 @@ returns-2 c =
 
 returns-3 : tie.Need-returns-3
 unfolding accessRead
-returns-3 c = rw (eq-eqb _ _ (c .before .before .before .if1 .left), ← c .before .before .profile-from .ensures, sym (c .before .profile-good .ensures) ∙ not-false _ (c .if2 .left))
+returns-3 c =
+    rw (
+      eq-eqb _ _ (c .before .before .before .if1 .left),
+      ← c .before .before .profile-from .ensures,
+      sym
+          (c .before .profile-good .ensures) ∙ not-false _ (c .if2 .left),
+    )
 
 pub read-access-spec : {M : Type 1} → statement M
 read-access-spec =

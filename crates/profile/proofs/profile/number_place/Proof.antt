@@ -22,7 +22,10 @@ loop-holds : tie.Need-loop-holds Inv-loop μ-loop
 loop-holds c = (omega arith, omega arith)
 
 returns : tie.Need-returns Inv-loop μ-loop
-returns c = let l = c .before .before in let s = l .before .before .before .args in number-none (s .p) (s .n) (s .p .numbercount) (s .p .numbers) (l .loop .k) (omega arith) (l .loop .inv .1)
+returns c =
+    let l = c .before .before in
+    let s = l .before .before .before .args in
+    number-none (s .p) (s .n) (s .p .numbercount) (s .p .numbers) (l .loop .k) (omega arith) (l .loop .inv .1)
 
 mul-x : tie.Need-mul-x Inv-loop μ-loop
 mul-x c = search needs
@@ -38,7 +41,8 @@ returns-2 c =
     let l = c .before .before .before .before .before in
     let s = l .before .before .before .args in
     let long : length (s .p .numbers) ≡ numbersMost = search (unmapped, needs) in
-    number-here (s .p) (s .n) (s .p .numbercount) (s .p .numbers) (l .loop .k) (omega arith) (omega arith) (sym (c .before .same .ensures) ∙ c .if2 .taken) (l .loop .inv .1)
+    number-here (s .p) (s .n) (s .p .numbercount) (s .p .numbers) (l .loop .k) (omega arith) (omega arith)
+    (sym (c .before .same .ensures) ∙ c .if2 .taken) (l .loop .inv .1)
 
 add-k : tie.Need-add-k Inv-loop μ-loop
 add-k c = search needs
@@ -52,7 +56,8 @@ loop-again c =
     let s = l .before .before .before .args in
     let long : length (s .p .numbers) ≡ numbersMost = search (unmapped, needs) in (
       omega arith,
-      number-next (s .p) (s .n) (s .p .numbercount) (s .p .numbers) (l .loop .k) (omega arith) (omega arith) (sym (c .before .same .ensures) ∙ c .if2 .left) (l .loop .inv .1),
+      number-next (s .p) (s .n) (s .p .numbercount) (s .p .numbers) (l .loop .k) (omega arith) (omega arith)
+          (sym (c .before .same .ensures) ∙ c .if2 .left) (l .loop .inv .1),
     )
 
 returns-3 : tie.Need-returns-3 Inv-loop μ-loop

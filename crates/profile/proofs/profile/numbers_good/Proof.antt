@@ -52,7 +52,8 @@ returns-3 c =
     let s = l .before .before .before .before .before .args .p in
     sym
     (numbers-fair s (omega arith) (omega arith)
-    ∙ every-fails (numberFits s (s .numbercount) (s .numbers)) (s .numbercount) (l .loop .k) (omega arith) (rw (sym (c .before .number-good .ensures) ∙ not-true _ (c .if3 .taken))))
+    ∙ every-fails (numberFits s (s .numbercount) (s .numbers)) (s .numbercount) (l .loop .k) (omega arith)
+    (rw (sym (c .before .number-good .ensures) ∙ not-true _ (c .if3 .taken))))
 
 same-before-requires : tie.Need-same-before-requires Inv-loop μ-loop
 same-before-requires c κs = search needs

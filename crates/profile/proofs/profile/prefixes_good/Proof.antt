@@ -49,7 +49,8 @@ returns-3 c =
     let s = l .before .before .before .before .before .args .p in
     sym
     (prefixes-fair s (omega arith)
-    ∙ every-fails (prefixFits (s .prefixes)) (s .prefixcount) (l .loop .k) (omega arith) (sym (c .before .prefix-good .ensures) ∙ not-true _ (c .if3 .taken)))
+    ∙ every-fails (prefixFits (s .prefixes)) (s .prefixcount) (l .loop .k) (omega arith)
+    (sym (c .before .prefix-good .ensures) ∙ not-true _ (c .if3 .taken)))
 
 add-k : tie.Need-add-k Inv-loop μ-loop
 add-k c = search needs
@@ -60,8 +61,11 @@ loop-less c = search needs
 loop-again : tie.Need-loop-again Inv-loop μ-loop
 loop-again c =
     let l = c .before .before .before .before in
-    let s = l .before .before .before .before .before .args .p in
-    (omega arith, every-more (prefixFits (s .prefixes)) (l .loop .k) (l .loop .inv .1) (sym (c .before .prefix-good .ensures) ∙ not-false _ (c .if3 .left)))
+    let s = l .before .before .before .before .before .args .p in (
+      omega arith,
+      every-more (prefixFits (s .prefixes)) (l .loop .k) (l .loop .inv .1)
+          (sym (c .before .prefix-good .ensures) ∙ not-false _ (c .if3 .left)),
+    )
 
 returns-4 : tie.Need-returns-4 Inv-loop μ-loop
 returns-4 c =

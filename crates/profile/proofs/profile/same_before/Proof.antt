@@ -53,7 +53,8 @@ returns-2 c =
     let l = c .before in
     let s = l .before .before .args in
     let all : l .loop .k ≡ s .count = omega arith in
-    let none : 0 ≡ countTo (sameAt (s .p) (s .p .numbers) (s .n)) (s .count) = l .loop .inv .1 ∙ ap (countTo (sameAt (s .p) (s .p .numbers) (s .n))) all in
+    let none : 0 ≡ countTo (sameAt (s .p) (s .p .numbers) (s .n)) (s .count) = l .loop .inv .1
+    ∙ ap (countTo (sameAt (s .p) (s .p .numbers) (s .n))) all in
     sym (le-ltb 0 (countTo (sameAt (s .p) (s .p .numbers) (s .n)) (s .count)) (omega arith))
 
 pub same-before-spec : {M : Type 1} → statement M

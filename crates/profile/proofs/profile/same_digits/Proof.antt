@@ -33,7 +33,12 @@ returns c =
     let s = l .before .args in
     let long : length (s .t1) ≡ most = search needs in
     let long2 : length (s .t2) ≡ most = search needs in
-    rw (l .loop .inv .1, same-step (s .t1) (s .t2) (s .n) (l .loop .i) (omega arith) (omega arith) (omega arith), ne-eqb _ _ (c .if1 .taken))
+    rw (
+      l .loop .inv .1,
+      same-step (s .t1) (s .t2) (s .n) (l .loop .i) (omega arith) (omega arith) (omega arith),
+      ne-eqb _ _
+          (c .if1 .taken),
+    )
 
 add-i : tie.Need-add-i Inv-loop μ-loop
 add-i c = search needs
@@ -46,11 +51,18 @@ loop-again c =
     let l = c .before .before in
     let s = l .before .args in
     let long : length (s .t1) ≡ most = search needs in
-    let long2 : length (s .t2) ≡ most = search needs in
-    (omega arith, l .loop .inv .1 ∙ rw (same-step (s .t1) (s .t2) (s .n) (l .loop .i) (omega arith) (omega arith) (omega arith), eq-eqb _ _ (c .if1 .left)))
+    let long2 : length (s .t2) ≡ most = search needs in (
+      omega arith,
+      l .loop .inv .1 ∙ rw
+          (same-step (s .t1) (s .t2) (s .n) (l .loop .i) (omega arith) (omega arith) (omega arith), eq-eqb _ _ (c .if1 .left)),
+    )
 
 returns-2 : tie.Need-returns-2 Inv-loop μ-loop
-returns-2 c = let l = c .before in let s = l .before .args in let e : l .loop .i ≡ s .n = omega arith in sym (l .loop .inv .1 ∙ rw e (same-end (s .t1) (s .t2) (s .n)))
+returns-2 c =
+    let l = c .before in
+    let s = l .before .args in
+    let e : l .loop .i ≡ s .n = omega arith in
+    sym (l .loop .inv .1 ∙ rw e (same-end (s .t1) (s .t2) (s .n)))
 
 pub same-digits-spec : {M : Type 1} → statement M
 same-digits-spec =

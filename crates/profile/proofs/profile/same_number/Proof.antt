@@ -18,7 +18,13 @@ returns-2 c = rw (eq-eqb _ _ (c .before .before .before .if1 .left), ne-eqb _ _ 
 
 returns-3 : tie.Need-returns-3
 unfolding sameNumber
-returns-3 c = rw (eq-eqb _ _ (c .before .before .before .before .before .before .if1 .left), eq-eqb _ _ (c .before .before .before .if2 .left), ne-eqb _ _ (c .if3 .taken))
+returns-3 c =
+    rw (
+      eq-eqb _ _ (c .before .before .before .before .before .before .if1 .left),
+      eq-eqb _ _
+          (c .before .before .before .if2 .left),
+      ne-eqb _ _ (c .if3 .taken),
+    )
 
 cast-count : tie.Need-cast-count
 cast-count c = search needs

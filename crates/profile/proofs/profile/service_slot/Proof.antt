@@ -21,7 +21,10 @@ loop-holds : tie.Need-loop-holds Inv-loop μ-loop
 loop-holds c = (omega arith, omega arith)
 
 returns : tie.Need-returns Inv-loop μ-loop
-returns c = let l = c .before .before in let s = l .before .before .before .args in slot-none (s .service) (s .p .servicecount) (s .p .services) (l .loop .k) (omega arith) (l .loop .inv .1)
+returns c =
+    let l = c .before .before in
+    let s = l .before .before .before .args in
+    slot-none (s .service) (s .p .servicecount) (s .p .services) (l .loop .k) (omega arith) (l .loop .inv .1)
 
 array-read-if2 : tie.Need-array-read-if2 Inv-loop μ-loop
 array-read-if2 c = search needs
@@ -43,8 +46,11 @@ loop-again : tie.Need-loop-again Inv-loop μ-loop
 loop-again c =
     let l = c .before .before .before in
     let s = l .before .before .before .args in
-    let long : length (s .p .services) ≡ servicesMost = search needs in
-    (omega arith, slot-next (s .service) (s .p .servicecount) (s .p .services) (l .loop .k) (omega arith) (omega arith) (c .if2 .left) (l .loop .inv .1))
+    let long : length (s .p .services) ≡ servicesMost = search needs in (
+      omega arith,
+      slot-next (s .service) (s .p .servicecount) (s .p .services) (l .loop .k) (omega arith) (omega arith) (c .if2 .left)
+          (l .loop .inv .1),
+    )
 
 returns-3 : tie.Need-returns-3 Inv-loop μ-loop
 returns-3 c =

@@ -25,7 +25,8 @@ returns c = let id : SFits w16 (c .before .value .given .0 .0) = search needs in
 
 returns-2 : tie.Need-returns-2
 unfolding operationAt
-returns-2 c = rw (toZ-ofZ (c .before .before .before .before .fits .identifier), sym (c .before .before .ident-at .ensures) ∙ c .enum-told .given .1)
+returns-2 c =
+    rw (toZ-ofZ (c .before .before .before .before .fits .identifier), sym (c .before .before .ident-at .ensures) ∙ c .enum-told .given .1)
 
 pub operation-at-spec : {M : Type 1} → statement M
 operation-at-spec =

@@ -16,7 +16,10 @@ unfolding isSubscribed
 returns c = refl
 
 returns-2 : tie.Need-returns-2
-returns-2 c = let s = c .before .before .args in let long : length (s .p .subscribed) ≡ procedures = search needs in subscribed-past (s .p) (s .procedure) (omega arith)
+returns-2 c =
+    let s = c .before .before .args in
+    let long : length (s .p .subscribed) ≡ procedures = search needs in
+    subscribed-past (s .p) (s .procedure) (omega arith)
 
 pub is-subscribed-spec : {M : Type 1} → statement M
 is-subscribed-spec = tie.close (tie.spec array-read-result returns returns-2)

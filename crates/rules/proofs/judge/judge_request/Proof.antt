@@ -65,7 +65,8 @@ returns-4 c =
     let every = sel .before .before .before in
     let s = every .before .args in
     let passes = sym (every .judge-every .ensures) ∙ ap verdictNo (sel .before .enum-told .given .1) in
-    rw (judge-interrogation instancesMost (s .p) (s .operation) (s .r) (instancesOf (s .run)) (c .before .if1 .left) (c .if2 .left) ∙ passes)
+    rw (judge-interrogation instancesMost (s .p) (s .operation) (s .r) (instancesOf (s .run)) (c .before .if1 .left) (c .if2 .left)
+    ∙ passes)
     (rw (renews-other (s .p) (s .operation) (s .r) (instancesOf (s .run)) (c .before .if1 .left)) (judged-passes _))
 
 pub judge-request-spec : {M : Type 1} → statement M

@@ -21,7 +21,9 @@ cast-count : tie.Need-cast-count Inv-loop μ-loop
 cast-count c = search needs
 
 returns : tie.Need-returns Inv-loop μ-loop
-returns c = let s = c .before .before .args in tried-none (s .p .prefixcount) (s .p .prefixes) (digitsOf (s .n)) 0 (omega (arith, c .if1 .taken)) refl
+returns c =
+    let s = c .before .before .args in
+    tried-none (s .p .prefixcount) (s .p .prefixes) (digitsOf (s .n)) 0 (omega (arith, c .if1 .taken)) refl
 
 loop-holds : tie.Need-loop-holds Inv-loop μ-loop
 loop-holds c = (omega arith, search (unmapped, needs), refl)
@@ -65,7 +67,10 @@ loop-again c =
     )
 
 returns-4 : tie.Need-returns-4 Inv-loop μ-loop
-returns-4 c = let l = c .before in let s = l .before .before .before .before .args in tried-none (s .p .prefixcount) (s .p .prefixes) (digitsOf (s .n)) (l .loop .k) (omega arith) (l .loop .inv .2)
+returns-4 c =
+    let l = c .before in
+    let s = l .before .before .before .before .args in
+    tried-none (s .p .prefixcount) (s .p .prefixes) (digitsOf (s .n)) (l .loop .k) (omega arith) (l .loop .inv .2)
 
 pub begins-any-spec : {M : Type 1} → statement M
 begins-any-spec =

@@ -34,7 +34,8 @@ returns-2 c =
     let l = c .before .before .before in
     let s = l .before .before .before .before .before .args in
     let room : length (s .f .digits) ≡ most = search needs in
-    begun-short (s .f .count) (s .n .count) (s .f .digits) (s .n .digits) (l .loop .i) (omega arith) (omega arith) (omega arith) (l .loop .inv .1)
+    begun-short (s .f .count) (s .n .count) (s .f .digits) (s .n .digits) (l .loop .i) (omega arith) (omega arith) (omega arith)
+    (l .loop .inv .1)
 
 array-read-if3 : tie.Need-array-read-if3 Inv-loop μ-loop
 array-read-if3 c = search needs
@@ -48,7 +49,8 @@ returns-3 c =
     let s = l .before .before .before .before .before .args in
     let room : length (s .f .digits) ≡ most = search needs in
     let other : length (s .n .digits) ≡ most = search needs in
-    begun-other (s .f .count) (s .n .count) (s .f .digits) (s .n .digits) (l .loop .i) (omega arith) (omega arith) (omega arith) (omega arith) (c .if3 .taken) (l .loop .inv .1)
+    begun-other (s .f .count) (s .n .count) (s .f .digits) (s .n .digits) (l .loop .i) (omega arith) (omega arith) (omega arith)
+    (omega arith) (c .if3 .taken) (l .loop .inv .1)
 
 add-i : tie.Need-add-i Inv-loop μ-loop
 add-i c = search needs
@@ -63,7 +65,8 @@ loop-again c =
     let room : length (s .f .digits) ≡ most = search needs in
     let other : length (s .n .digits) ≡ most = search needs in (
       omega arith,
-      begun-next (s .f .count) (s .n .count) (s .f .digits) (s .n .digits) (l .loop .i) (omega arith) (omega arith) (omega arith) (omega arith) (c .if3 .left) (l .loop .inv .1),
+      begun-next (s .f .count) (s .n .count) (s .f .digits) (s .n .digits) (l .loop .i) (omega arith) (omega arith) (omega arith)
+          (omega arith) (c .if3 .left) (l .loop .inv .1),
     )
 
 returns-4 : tie.Need-returns-4 Inv-loop μ-loop

@@ -113,7 +113,8 @@ module _ {M : Type 1} (𝓤 : URA M) (H : Heap 𝓤) (A : Atoms 𝓤) (W : Given
       (sep 𝓤 (Step 𝓤 H A mem run .pre to) (sem 𝓤 H A Slices))
   goes =
       qed W ((‵ (flft κ q) ⊛ ‵ (flft κ₁ q₁) ⊛ ‵ (flft κ₂ q₂) ⊛ ‵ ftrue) ∷ ‵
-      (owns (MutRef (named 0) κ T.the-row ∷ ShrSlice (named 1) κ₁ u8 ∷ ShrSlice (named 2) κ₂ u8 ∷ []) x at) ∷ []) ∵ move ! (1 ∷ []) $ fsplit ! $
+      (owns (MutRef (named 0) κ T.the-row ∷ ShrSlice (named 1) κ₁ u8 ∷ ShrSlice (named 2) κ₂ u8 ∷ []) x at) ∷ []) ∵ move !
+      (1 ∷ []) $ fsplit ! $
       move ! (1 ∷ []) $ fsplit ! $
       use1 W (‵ (ShrSlice (named 1) κ₁ u8 .own s₁ (v₁ ∷ [])) ⊛ ‵ (ShrSlice (named 1) κ₁ u8 .own s₁ (v₁ ∷ [])))
       (shr-slice-copy 𝓤 H A W (named 1) κ₁ u8 .twice s₁ (v₁ ∷ [])) $ split ! $ move ! (2 ∷ []) $ fsplit ! $
@@ -123,7 +124,8 @@ module _ {M : Type 1} (𝓤 : URA M) (H : Heap 𝓤) (A : Atoms 𝓤) (W : Given
       move ! (0 ∷ 2 ∷ []) $ fjoin ! $ move ! (2 ∷ 0 ∷ []) $ fjoin ! $ move ! (3 ∷ 0 ∷ []) $ fjoin ! $
       move ! (3 ∷ 0 ∷ []) $ use2 W (raw (Step 𝓤 H A mem run .pre to))
       (qed W ((‵ (flft κ q) ⊛ ‵ (flft κ₁ q₁) ⊛ ‵ (flft κ₂ q₂) ⊛ ‵ ftrue) ∷ ‵
-      (owns (MutRef (named 0) κ T.the-row ∷ ShrSlice (named 1) κ₁ u8 ∷ ShrSlice (named 2) κ₂ u8 ∷ []) x at) ∷ []) ∵ join ! $ frame ! $ done !) $
+      (owns (MutRef (named 0) κ T.the-row ∷ ShrSlice (named 1) κ₁ u8 ∷ ShrSlice (named 2) κ₂ u8 ∷ []) x at) ∷ []) ∵ join ! $ frame ! $
+      done !) $
       -- [what `arrived` asks; the second; the first]
       nothing ! $ move ! (2 ∷ 0 ∷ []) $ fjoin ! $ move ! (2 ∷ 0 ∷ []) $ fjoin ! $ move ! (1 ∷ 0 ∷ []) $ frame ! $ done !
 
@@ -143,7 +145,8 @@ module _ {M : Type 1} (𝓤 : URA M) (H : Heap 𝓤) (A : Atoms 𝓤) (W : Given
   -- ---- the exit
 
   exits : (n : ℕ) (v : Val) (next : End) → TakenBy (s₁ .now) h (s₂ .now) n next
-      → ent 𝓤 (⋆ 𝓤 H A (‵ (u8 .own n (v ∷ [])) ∷ ‵ (Last next) ∷ (‵ (flft κ q) ⊛ ‵ (flft κ₁ q₁) ⊛ ‵ (flft κ₂ q₂) ⊛ ‵ ftrue) ∷ ‵ Slices ∷ []))
+      → ent 𝓤 (⋆ 𝓤 H A (‵ (u8 .own n (v ∷ [])) ∷ ‵ (Last next) ∷
+      (‵ (flft κ q) ⊛ ‵ (flft κ₁ q₁) ⊛ ‵ (flft κ₂ q₂) ⊛ ‵ ftrue) ∷ ‵ Slices ∷ []))
       (Post v)
   exits n v next e =
       qed W (‵ (u8 .own n (v ∷ [])) ∷ ‵ (Last next) ∷ (‵ (flft κ q) ⊛ ‵ (flft κ₁ q₁) ⊛ ‵ (flft κ₂ q₂) ⊛ ‵ ftrue) ∷ ‵ Slices ∷ []) ∵
@@ -168,7 +171,8 @@ module _ {M : Type 1} (𝓤 : URA M) (H : Heap 𝓤) (A : Atoms 𝓤) (W : Given
         move ! (12 ∷ 13 ∷ []) $ use2 W (raw (Step 𝓤 H A mem run .pre to) ⊛ ‵ Slices) goes $ split ! $
         calls-at ! fm (Step 𝓤 H A mem run) known to (and-then ! (load ! (from ! (stop !)) (look ! 2 refl))
         (and-then ! (load ! (from ! (stop !)) (look ! 8 refl)) (and-then ! (load ! (from ! (stop !)) (look ! 6 refl)) (no-more !)))) (λ w.
-        use1 W (later (some (λ (t : Handling). ((‵ (flft κ q) ⊛ ‵ (flft κ₁ q₁) ⊛ ‵ (flft κ₂ q₂) ⊛ ‵ ftrue) ⊛ ‵ (O.the-row .own t (w ∷ []))) ⊛ raw
+        use1 W (later (some (λ (t : Handling).
+        ((‵ (flft κ q) ⊛ ‵ (flft κ₁ q₁) ⊛ ‵ (flft κ₂ q₂) ⊛ ‵ ftrue) ⊛ ‵ (O.the-row .own t (w ∷ []))) ⊛ raw
         (ensured 𝓤 H A step.ended (step.clauses 𝓤 H A mem run) κs x tt t)))) (id⊢ 𝓤 _) $ await ! tt $ pick ! (λ t.
         -- what `arrived` ensures, at some last end
         split ! $ move ! (1 ∷ []) $ use1 W (some (λ (ws : End × (Unit {0} × (Unit {0} × Unit {0}))). ‵ (lasts step.ended κs x ws) ⊛ raw
@@ -179,7 +183,8 @@ module _ {M : Type 1} (𝓤 : URA M) (H : Heap 𝓤) (A : Atoms 𝓤) (W : Given
         land ! (from ! (stop !)) (init ! 5 refl (EL.lawful O.the-type O′.the-laws 𝓤 H A W tt .typed t _ is .0)) $
         -- [the tokens; the last end; the slices; _5; …]: its number
         nothing ! $ use1 W (raw (Number 𝓤 H A mem run .pre (to-number t w))) (goes-number t w is) $
-        calls-at ! fm (Number 𝓤 H A mem run) known-number (to-number t w) (and-then ! (load ! (from ! (stop !)) (look ! 6 refl)) (no-more !)) (λ v.
+        calls-at ! fm (Number 𝓤 H A mem run) known-number (to-number t w)
+        (and-then ! (load ! (from ! (stop !)) (look ! 6 refl)) (no-more !)) (λ v.
         use1 W (later (some (λ (n : ℕ). (‵ ftrue ⊛ ‵ (u8 .own n (v ∷ []))) ⊛ raw
         (ensured 𝓤 H A number.ended (number.clauses 𝓤 H A mem run) tt (t, tt) tt n)))) (id⊢ 𝓤 _) $ await ! tt $ pick ! (λ n.
         split ! $ move ! (1 ∷ []) $ use1 W (raw (fact 𝓤 (n ≡ refusalIn (handlingTold t)))) (number-said t n) $
@@ -187,10 +192,13 @@ module _ {M : Type 1} (𝓤 : URA M) (H : Heap 𝓤) (A : Atoms 𝓤) (W : Given
         peeks ! u8 (Is u8) (shows 𝓤 H A u8) n (v ∷ []) (λ is-n.
         land ! (from ! (stop !)) (init ! 14 refl (uint-lawful 𝓤 H A W w8 .typed n _ is-n .0)) $
         -- [the number; the tokens; the last end; the slices; _5; …; _4; …; _3; …; _2; …; _1; …; _0; …]
-        returns ! (look ! 14 refl) $ forget ! 4 refl $ forget ! 6 refl $ forget ! 8 refl $ forget ! 10 refl $ forget ! 12 refl $ forget ! 14 refl $
-        move ! (14 ∷ 15 ∷ []) $ free1 ! $ move ! (12 ∷ 13 ∷ []) $ free1 ! $ move ! (10 ∷ 11 ∷ []) $ free1 ! $ move ! (8 ∷ 9 ∷ []) $ free1 ! $
+        returns ! (look ! 14 refl) $ forget ! 4 refl $ forget ! 6 refl $ forget ! 8 refl $ forget ! 10 refl $ forget ! 12 refl $ forget ! 14
+        refl $
+        move ! (14 ∷ 15 ∷ []) $ free1 ! $ move ! (12 ∷ 13 ∷ []) $ free1 ! $ move ! (10 ∷ 11 ∷ []) $ free1 ! $ move !
+        (8 ∷ 9 ∷ []) $ free1 ! $
         move ! (6 ∷ 7 ∷ []) $ free1 ! $ move ! (4 ∷ 5 ∷ []) $ free1 ! $ free0 ! $
-        keep ! (0 ∷ 2 ∷ 1 ∷ 3 ∷ []) $ by ! (exits n v (ws .0) (record { refusal = en ∙ ap refusalIn (e .told); end = e .end })))))))))))))))))
+        keep ! (0 ∷ 2 ∷ 1 ∷ 3 ∷ []) $ by !
+        (exits n v (ws .0) (record { refusal = en ∙ ap refusalIn (e .told); end = e .end })))))))))))))))))
 
 module _ {M : Type 1} (𝓤 : URA M) (H : Heap 𝓤) (A : Atoms 𝓤) (W : Given 𝓤 H A) (mem : Memory → SProp 𝓤) (run : Routine → Fun 𝓤) where
   arrived-walks : (C : Calls 𝓤 H) (Λ : Loops 𝓤 H) → FmC 𝓤 H (W .laws) C → Triple 𝓤 (C step.Symbol.name) (Step 𝓤 H A mem run)
@@ -198,8 +206,12 @@ module _ {M : Type 1} (𝓤 : URA M) (H : Heap 𝓤) (A : Atoms 𝓤) (W : Given
       → Walks 𝓤 H A arrived.ended stayed (WpFn 𝓤 H C Λ code.function) (arrived.clauses 𝓤 H A mem run)
   arrived-walks C Λ fm known known-number = walked 𝓤 H A arrived.ended stayed (arrived.clauses 𝓤 H A mem run) (WpFn 𝓤 H C Λ code.function)
       (λ κs. (ptr-vals, (slice-vals, (slice-vals, tt))))
-      (λ κs. (mut-tells (named 0) (κs .0) T.the-row, (shr-slice-tells (named 1) (κs .1 .0) u8, (shr-slice-tells (named 2) (κs .1 .1 .0) u8, tt))))
-      (λ κs qs bounds a g are. via 𝓤 _ (fst∗ 𝓤 _ (emp 𝓤)) (walk 𝓤 H A W mem run κs (qs .0) (qs .1 .0) (qs .1 .1 .0) (a .0 .ptr .0) (a .0 .ptr .1)
+      (λ κs. (
+        mut-tells (named 0) (κs .0) T.the-row,
+        (shr-slice-tells (named 1) (κs .1 .0) u8, (shr-slice-tells (named 2) (κs .1 .1 .0) u8, tt)),
+      ))
+      (λ κs qs bounds a g are. via 𝓤 _ (fst∗ 𝓤 _ (emp 𝓤))
+      (walk 𝓤 H A W mem run κs (qs .0) (qs .1 .0) (qs .1 .1 .0) (a .0 .ptr .0) (a .0 .ptr .1)
       (a .0 .name) (a .0 .now) (a .1 .0) (a .1 .1 .0) C Λ fm known known-number (are .1 .0) (are .1 .1 .0)))
 
 arrived-meets : {M : Type 1} (𝓤 : URA M) (H : Heap 𝓤) (A : Atoms 𝓤) → Given 𝓤 H A
@@ -222,5 +234,6 @@ sconcetoad-arrived-spec 𝓤 H 𝓜 𝓖 𝓡 =
     (arrived-meets 𝓤 H (𝓖 .A) (givenOf 𝓤 H 𝓜 𝓖) (𝓜 .mem) (𝓡 .run) (tablesOf 𝓤 H 𝓜 (tables 𝓤 H 𝓜 𝓡 code.env))
     (cited 𝓤 H (Step 𝓤 H (𝓖 .A) (𝓜 .mem) (𝓡 .run)) 𝓜 𝓡 code.env step.Symbol.name step.Symbol.routine code.calls-end·arrived
     (step.Met.met 𝓤 H 𝓜 𝓖 𝓡))
-    (cited 𝓤 H (Number 𝓤 H (𝓖 .A) (𝓜 .mem) (𝓡 .run)) 𝓜 𝓡 code.env number.Symbol.name number.Symbol.routine code.calls-sconcetoad·desk·refusal-in
+    (cited 𝓤 H (Number 𝓤 H (𝓖 .A) (𝓜 .mem) (𝓡 .run)) 𝓜 𝓡 code.env number.Symbol.name number.Symbol.routine
+    code.calls-sconcetoad·desk·refusal-in
     (number.Met.met 𝓤 H 𝓜 𝓖 𝓡)))

@@ -18,7 +18,12 @@ page-of-requires c κs = search needs
 
 -- src/desk.rt:191:1
 returns : tie.Need-returns
-returns c = record { page = c .page-of .ensures ∙ ap pageOf (c .before .before .entry .ensures .told); entry = c .before .before .entry .ensures .entry }
+returns c =
+    record {
+      page = c .page-of .ensures
+          ∙ ap pageOf (c .before .before .entry .ensures .told);
+      entry = c .before .before .entry .ensures .entry;
+    }
 
 pub sconcetoad-entry-spec : {M : Type 1} → statement M
 sconcetoad-entry-spec = tie.close (tie.spec entry-requires page-of-requires returns)

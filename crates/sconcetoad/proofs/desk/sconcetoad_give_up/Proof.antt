@@ -18,7 +18,12 @@ refusal-in-requires c κs = search needs
 
 -- src/desk.rt:146:1
 returns : tie.Need-returns
-returns c = record { refusal = c .refusal-in .ensures ∙ ap refusalIn (c .before .before .give-up .ensures .told); end = c .before .before .give-up .ensures .end }
+returns c =
+    record {
+      refusal = c .refusal-in .ensures
+          ∙ ap refusalIn (c .before .before .give-up .ensures .told);
+      end = c .before .before .give-up .ensures .end;
+    }
 
 pub sconcetoad-give-up-spec : {M : Type 1} → statement M
 sconcetoad-give-up-spec = tie.close (tie.spec give-up-requires refusal-in-requires returns)

@@ -32,7 +32,8 @@ returns-2 c = ap (λ (x : Coming). callTold (comingTold x)) (sym (c .enum-told .
 
 returns-3 : tie.Need-returns-3
 returns-3 c =
-    rw (c .before .reason-no .ensures, c .notice-no .ensures) (ap (λ (x : Coming). callTold (comingTold x)) (sym (c .before .before .before .outcome2 .given .1)))
+    rw (c .before .reason-no .ensures, c .notice-no .ensures)
+    (ap (λ (x : Coming). callTold (comingTold x)) (sym (c .before .before .before .outcome2 .given .1)))
 
 pub told-of-spec : {M : Type 1} → statement M
 told-of-spec =

@@ -48,9 +48,12 @@ not-listed-requires-5 c κs = search needs
 
 returns : tie.Need-returns
 returns c =
-    let found = sym (replies-is (rw (toZ-ofZ (c .before .before .before .before .before .before .before .before .before .fits .identifier)) at
-    (c .before .before .before .before .before .before .before .reply-to .ensures))) ∙ c .before .before .before .before .before .at .given .1 in
-    rw found (c .not-listed5 .ensures ∙ told-none (entriesFrom _ _ _ _) _ (c .before .before .before .entries-at .ensures) (not-true _ (c .before .if1 .taken)))
+    let found = sym (replies-is (rw
+    (toZ-ofZ (c .before .before .before .before .before .before .before .before .before .fits .identifier)) at
+    (c .before .before .before .before .before .before .before .reply-to .ensures)))
+    ∙ c .before .before .before .before .before .at .given .1 in
+    rw found (c .not-listed5 .ensures
+    ∙ told-none (entriesFrom _ _ _ _) _ (c .before .before .before .entries-at .ensures) (not-true _ (c .before .if1 .taken)))
 
 enum-told-4 : tie.Need-enum-told-4
 enum-told-4 c = search needs
@@ -72,7 +75,8 @@ returns-4 : tie.Need-returns-4
 returns-4 c =
     let value : SFits w16 (c .before .before .value .given .0 .0) = search needs in
     rw (sym (replies-is (rw (toZ-ofZ (c .before .before .before .before .before .before .fits .identifier)) at
-    (c .before .before .before .before .reply-to .ensures))) ∙ c .before .before .value .given .1) (rw (toZ-ofZ value) at (c .not-listed3 .ensures))
+    (c .before .before .before .before .reply-to .ensures))) ∙ c .before .before .value .given .1)
+    (rw (toZ-ofZ value) at (c .not-listed3 .ensures))
 
 returns-5 : tie.Need-returns-5
 returns-5 c =
@@ -81,8 +85,10 @@ returns-5 c =
 
 returns-6 : tie.Need-returns-6
 returns-6 c =
-    let found = sym (replies-is (rw (toZ-ofZ (c .before .before .before .before .before .before .before .before .before .fits .identifier)) at
-    (c .before .before .before .before .before .before .before .reply-to .ensures))) ∙ c .before .before .before .before .before .at .given .1 in
+    let found = sym (replies-is (rw
+    (toZ-ofZ (c .before .before .before .before .before .before .before .before .before .fits .identifier)) at
+    (c .before .before .before .before .before .before .before .reply-to .ensures)))
+    ∙ c .before .before .before .before .before .at .given .1 in
     rw found (told-found (entriesFrom _ _ _ _) _ (c .before .before .before .entries-at .ensures) (not-false _ (c .before .if1 .left)))
 
 returns-7 : tie.Need-returns-7

@@ -54,11 +54,13 @@ nothing-asked-requires-6 c κs = search needs
 
 returns : tie.Need-returns
 returns c =
-    let found = sym (hears-is (c .before .before .before .before .before .before .before .before .hear .ensures)) ∙ c .before .before .before .before .before .before .identifier2 .given .1 in
+    let found = sym (hears-is (c .before .before .before .before .before .before .before .before .hear .ensures))
+    ∙ c .before .before .before .before .before .before .identifier2 .given .1 in
     let identifier : SFits w16 (c .before .before .before .before .before .before .identifier2 .given .0 .0) = search needs in
     let operation : SFits w16 (c .before .before .before .before .before .before .identifier2 .given .0 .1 .0 .value) = search needs in
     rw found ((rw (toZ-ofZ identifier, toZ-ofZ operation) at (c .nothing-asked6 .ensures))
-    ∙ asked-none _ _ (argumentAt _ _ _ _) _ (c .before .before .before .before .argument-at .ensures) (not-true _ (c .before .before .if1 .taken)))
+    ∙ asked-none _ _ (argumentAt _ _ _ _) _ (c .before .before .before .before .argument-at .ensures)
+    (not-true _ (c .before .before .if1 .taken)))
 
 returns-2 : tie.Need-returns-2
 returns-2 c = rw (sym (hears-is (c .before .before .before .hear .ensures)) ∙ c .before .enum-told .given .1) (c .nothing-asked .ensures)
@@ -75,15 +77,18 @@ returns-5 c = rw (sym (hears-is (c .before .before .before .hear .ensures)) ∙ 
 returns-6 : tie.Need-returns-6
 returns-6 c =
     let identifier : SFits w16 (c .before .before .identifier .given .0 .0) = search needs in
-    rw (sym (hears-is (c .before .before .before .before .hear .ensures)) ∙ c .before .before .identifier .given .1) (rw (toZ-ofZ identifier) at (c .nothing-asked5 .ensures))
+    rw (sym (hears-is (c .before .before .before .before .hear .ensures)) ∙ c .before .before .identifier .given .1)
+    (rw (toZ-ofZ identifier) at (c .nothing-asked5 .ensures))
 
 returns-7 : tie.Need-returns-7
 returns-7 c =
-    let found = sym (hears-is (c .before .before .before .before .before .before .before .before .hear .ensures)) ∙ c .before .before .before .before .before .before .identifier2 .given .1 in
+    let found = sym (hears-is (c .before .before .before .before .before .before .before .before .hear .ensures))
+    ∙ c .before .before .before .before .before .before .identifier2 .given .1 in
     let identifier : SFits w16 (c .before .before .before .before .before .before .identifier2 .given .0 .0) = search needs in
     let operation : SFits w16 (c .before .before .before .before .before .before .identifier2 .given .0 .1 .0 .value) = search needs in
     rw (toZ-ofZ identifier, toZ-ofZ operation, found)
-    (asked-found _ _ (argumentAt _ _ _ _) _ (c .before .before .before .before .argument-at .ensures) (not-false _ (c .before .before .if1 .left)))
+    (asked-found _ _ (argumentAt _ _ _ _) _ (c .before .before .before .before .argument-at .ensures)
+    (not-false _ (c .before .before .if1 .left)))
 
 pub sconcetoad-said-spec : {M : Type 1} → statement M
 sconcetoad-said-spec =

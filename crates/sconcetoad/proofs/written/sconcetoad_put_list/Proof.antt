@@ -16,7 +16,8 @@ same-length c = search needs
 
 returns : tie.Need-returns
 returns c =
-    let told = rw (toZ-ofZ (c .before .before .before .before .before .before .fits .identifier)) at (c .before .before .before .write-list .ensures) in
+    let told = rw (toZ-ofZ (c .before .before .before .before .before .before .fits .identifier)) at
+    (c .before .before .before .write-list .ensures) in
     record { refusal = c .refusal-in .ensures ∙ ap refusalIn (told .told); lent = told .lent }
 
 pub sconcetoad-put-list-spec : {M : Type 1} → statement M

@@ -14,7 +14,8 @@ refuses-requires c κs = search needs
 returns : tie.Need-returns
 returns c =
     let a = c .before .before .before .before .before .before .args in
-    reads-profile (a .access .now) (a .sheet .now) _ (c .before .before .before .read-access .ensures) (not-true _ (c .before .if1 .taken)) _ (c .refuses .ensures)
+    reads-profile (a .access .now) (a .sheet .now) _ (c .before .before .before .read-access .ensures)
+    (not-true _ (c .before .if1 .taken)) _ (c .refuses .ensures)
 
 read-form-requires : tie.Need-read-form-requires
 read-form-requires c κs = search needs
@@ -27,7 +28,8 @@ returns-2 c =
     let form = c .before .before .before in
     let read = form .before .before .before .before in
     let a = read .before .before .before .args in
-    reads-form (a .access .now) (a .sheet .now) _ (read .read-access .ensures) (not-false _ (form .before .before .if1 .left)) _ (form .read-form .ensures)
+    reads-form (a .access .now) (a .sheet .now) _ (read .read-access .ensures) (not-false _ (form .before .before .if1 .left)) _
+    (form .read-form .ensures)
     (not-true _ (c .before .if2 .taken)) _ (c .refuses2 .ensures)
 
 good-requires : tie.Need-good-requires
@@ -41,15 +43,18 @@ returns-3 c =
     let form = c .before .before .before .before .before .before in
     let read = form .before .before .before .before in
     let a = read .before .before .before .args in
-    reads-outside (a .access .now) (a .sheet .now) _ (read .read-access .ensures) (not-false _ (form .before .before .if1 .left)) _ (form .read-form .ensures)
-    (not-false _ (c .before .before .before .before .if2 .left)) (sym (c .before .before .good2 .ensures) ∙ not-true _ (c .before .if3 .taken)) _ (c .refuses3 .ensures)
+    reads-outside (a .access .now) (a .sheet .now) _ (read .read-access .ensures) (not-false _ (form .before .before .if1 .left)) _
+    (form .read-form .ensures)
+    (not-false _ (c .before .before .before .before .if2 .left))
+    (sym (c .before .before .good2 .ensures) ∙ not-true _ (c .before .if3 .taken)) _ (c .refuses3 .ensures)
 
 returns-4 : tie.Need-returns-4
 returns-4 c =
     let form = c .before .before .before .before .before in
     let read = form .before .before .before .before in
     let a = read .before .before .before .args in
-    reads-table (a .access .now) (a .sheet .now) _ (read .read-access .ensures) (not-false _ (form .before .before .if1 .left)) _ (form .read-form .ensures)
+    reads-table (a .access .now) (a .sheet .now) _ (read .read-access .ensures) (not-false _ (form .before .before .if1 .left)) _
+    (form .read-form .ensures)
     (not-false _ (c .before .before .before .if2 .left)) (sym (c .before .good2 .ensures) ∙ not-false _ (c .if3 .left))
 
 pub read-sheet-spec : {M : Type 1} → statement M

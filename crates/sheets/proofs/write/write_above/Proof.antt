@@ -28,7 +28,8 @@ sub-value c = c .before .before .before .pre .1 (c .before .loop .i) (c .loop-te
 
 cast-put-groups : tie.Need-cast-put-groups Inv-loop μ-loop
 cast-put-groups c =
-    let octet : Fits w8 (getD (c .before .before .before .before .args .t3) (c .before .before .loop .i) 0) = search (needs, c .before .before .before .before .good) in
+    let octet : Fits w8 (getD (c .before .before .before .before .args .t3) (c .before .before .loop .i) 0) = search
+    (needs, c .before .before .before .before .good) in
     omega (arith, octet)
 
 put-groups-requires : tie.Need-put-groups-requires Inv-loop μ-loop
@@ -47,7 +48,8 @@ loop-again c =
     let long : length (s .args .t3) ≡ most = search (needs, s .good) in (
       omega (arith, c .before .before .before .before .loop-test .taken),
       search needs,
-      come-next _ _ _ _ (l .inv .2) (s .args .count) (c .before .before .before .before .loop-test .taken) (omega (arith, s .pre .0)) (s .pre .2) (c .before .before .put-groups .ensures),
+      come-next _ _ _ _ (l .inv .2) (s .args .count) (c .before .before .before .before .loop-test .taken) (omega (arith, s .pre .0))
+          (s .pre .2) (c .before .before .put-groups .ensures),
     )
 
 same-length : tie.Need-same-length Inv-loop μ-loop

@@ -63,7 +63,8 @@ write-above-requires-2 c κs =
           (c .before .before .before .before .before .before .before .before .before .before .before .before .before .before .before .before .before .before
           .before .put-groups2 .ensures)
           (c .before .before .before .before .before .before .before .before .before .before .before .before .before .before .put-groups3 .ensures)
-          (c .before .before .before .before .before .before .before .before .before .write-above .ensures) (c .before .before .before .before .put-groups4 .ensures),
+          (c .before .before .before .before .before .before .before .before .before .write-above .ensures)
+          (c .before .before .before .before .put-groups4 .ensures),
     )
 
 all-wrote : tie.Need-returns
@@ -76,7 +77,8 @@ all-wrote c =
     (c .before .before .before .before .before .before .before .before .before .before .before .before .before .before .before .before .before .before .before
     .before .before .before .put-groups2 .ensures)
     (c .before .before .before .before .before .before .before .before .before .before .before .before .before .before .before .before
-    .before .put-groups3 .ensures) (c .before .before .before .before .before .before .before .before .before .before .before .before .write-above .ensures)
+    .before .put-groups3 .ensures)
+    (c .before .before .before .before .before .before .before .before .before .before .before .before .write-above .ensures)
     (c .before .before .before .before .before .before .before .put-groups4 .ensures) (c .before .before .write-above2 .ensures)
 
 same-length : tie.Need-same-length

@@ -46,7 +46,8 @@ write-address-requires c κs =
     let first = second .before .before .before .before .before in
     let s = first .before .before .before .before .before in (
       s .pre .0 .address,
-      instance-room (s .args .x) (small s) (s .pre .1) (first .put-groups .ensures) (second .put-groups2 .ensures) (third .put-groups3 .ensures),
+      instance-room (s .args .x) (small s) (s .pre .1) (first .put-groups .ensures) (second .put-groups2 .ensures)
+          (third .put-groups3 .ensures),
     )
 
 all-wrote : tie.Need-returns
@@ -55,7 +56,8 @@ all-wrote c =
     let second = third .before .before .before .before .before in
     let first = second .before .before .before .before .before in
     let s = first .before .before .before .before .before in
-    instance-wrote (s .args .x) (small s) (s .pre .1) (first .put-groups .ensures) (second .put-groups2 .ensures) (third .put-groups3 .ensures)
+    instance-wrote (s .args .x) (small s) (s .pre .1) (first .put-groups .ensures) (second .put-groups2 .ensures)
+    (third .put-groups3 .ensures)
     (c .before .before .write-address .ensures)
 
 same-length : tie.Need-same-length

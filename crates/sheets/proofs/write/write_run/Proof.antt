@@ -51,9 +51,12 @@ write-instance-requires c κs =
     let a = s .args in
     let l = c .before .before .before .before .loop in
     let run = a .t3 in
-    let next = met run (l .i) outside (omega (arith, c .before .before .if1 .left)) (omega (arith, here s, c .before .before .before .loop-test .taken)) in (
+    let next =
+    met run (l .i) outside (omega (arith, c .before .before .if1 .left))
+    (omega (arith, here s, c .before .before .before .loop-test .taken)) in (
       rw (next .1) at (writable-at (instancesOf run) (s .pre .0) (l .i) outside (next .0)),
-      run-space (instancesOf run) (a .out .now) (a .at) (l .inv .2) (next .0) (getD (run .run) (l .i) outside) outside (next .1) (s .pre .1),
+      run-space (instancesOf run) (a .out .now) (a .at) (l .inv .2) (next .0) (getD (run .run) (l .i) outside) outside (next .1)
+          (s .pre .1),
     )
 
 add-i : tie.Need-add-i Inv-loop μ-loop
@@ -69,7 +72,8 @@ loop-again c =
     let l = c .before .before .before .before .before .before .before .loop in
     let run = a .t3 in
     let taken = c .before .before .before .before .before .before .loop-test .taken in
-    let next = met run (l .i) outside (omega (arith, c .before .before .before .before .before .if1 .left)) (omega (arith, here s, taken)) in (
+    let next =
+    met run (l .i) outside (omega (arith, c .before .before .before .before .before .if1 .left)) (omega (arith, here s, taken)) in (
       omega (arith, taken),
       search needs,
       run-next (instancesOf run) (a .out .now) (a .at) (l .inv .2) (next .0) (getD (run .run) (l .i) outside) outside (next .1)

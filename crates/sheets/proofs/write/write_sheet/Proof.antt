@@ -59,7 +59,8 @@ returns-3 c =
     let a = c .before .before .before .before .before .before .before .before .before .before .args in
     let read = c .before .before .before .before .before .before .read-access .ensures in
     refused-writes (a .access .now) (a .table) (a .out .now) BadTable _
-    (writes-table (a .access .now) (a .table) (length (a .out .now)) (omega (arith, c .before .before .before .before .before .before .before .if1 .left))
+    (writes-table (a .access .now) (a .table) (length (a .out .now))
+    (omega (arith, c .before .before .before .before .before .before .before .if1 .left))
     (ap (λ (r : AccessRead). r .ok) (sym read) ∙ not-false _ (c .before .before .before .before .if2 .left))
     (rw read at (sym (c .before .before .good2 .ensures) ∙ not-true _ (c .before .if3 .taken))))
     (c .refuses3 .ensures)
@@ -72,10 +73,13 @@ enough : (c : tie.Else3) → sheetMost form1 ≤ length (begun c .args .out .now
 enough c = omega (arith, c .before .before .before .before .before .before .if1 .left)
 
 ok : (c : tie.Else3) → accessRead (begun c .args .access .now) .ok ≡ true
-ok c = ap (λ (r : AccessRead). r .ok) (sym (c .before .before .before .before .before .read-access .ensures)) ∙ not-false _ (c .before .before .before .if2 .left)
+ok c =
+    ap (λ (r : AccessRead). r .ok) (sym (c .before .before .before .before .before .read-access .ensures))
+    ∙ not-false _ (c .before .before .before .if2 .left)
 
 good : (c : tie.Else3) → tableGood instancesMost (accessRead (begun c .args .access .now) .profile) (begun c .args .table) ≡ true
-good c = rw (c .before .before .before .before .before .read-access .ensures) at (sym (c .before .good2 .ensures) ∙ not-false _ (c .if3 .left))
+good c =
+    rw (c .before .before .before .before .before .read-access .ensures) at (sym (c .before .good2 .ensures) ∙ not-false _ (c .if3 .left))
 
 fit : (c : tie.Else3) → Ready (begun c .args .table) (begun c .args .out .now)
 fit c =

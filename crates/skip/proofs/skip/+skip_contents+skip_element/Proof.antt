@@ -110,7 +110,12 @@ skip-contents-returns t c =
     let a = c .before .before .before .before .before .before .args in
     let here = c .before .before .before .before .loop .here in
     let found = sym (c .before .before .skip-element .ensures) ∙ c .enum-told .given .1 in
-    rw (c .before .before .before .before .loop .inv, contents-step (a .depth) (a .s .now) here (a .end) (c .before .before .before .loop-test .taken), found)
+    rw (
+      c .before .before .before .before .loop .inv,
+      contents-step (a .depth) (a .s .now) here (a .end)
+          (c .before .before .before .loop-test .taken),
+      found,
+    )
 
 skip-contents-returns-2 : (t : ℕ) → skip-contents-lts.Need-returns-2 (
   skip-element-below t,
@@ -186,7 +191,8 @@ skip-element-returns-2 : (t : ℕ) → skip-element-lts.Need-returns-2 (
 ) (skip-element-at t) skip-element.Post
 skip-element-returns-2 t c =
     let a = c .before .before .before .before .before .before .before .before .args in
-    let found = sym (c .before .before .before .before .before .before .head-at .ensures) ∙ c .before .before .before .before .tag .given .1 in
+    let found = sym (c .before .before .before .before .before .before .head-at .ensures)
+    ∙ c .before .before .before .before .tag .given .1 in
     let good = sym (c .before .skip-contents .ensures) ∙ c .if2 .taken in
     rw (element-step (a .depth) (a .s .now) (a .at) (a .end), found, ne-eqb _ _ (c .before .before .if1 .left), good)
 
@@ -198,7 +204,8 @@ skip-element-returns-3 : (t : ℕ) → skip-element-lts.Need-returns-3 (
 ) (skip-element-at t) skip-element.Post
 skip-element-returns-3 t c =
     let a = c .before .before .before .before .before .before .before .before .args in
-    let found = sym (c .before .before .before .before .before .before .head-at .ensures) ∙ c .before .before .before .before .tag .given .1 in
+    let found = sym (c .before .before .before .before .before .before .head-at .ensures)
+    ∙ c .before .before .before .before .tag .given .1 in
     let good = sym (c .before .skip-contents .ensures) ∙ c .if2 .left in
     rw (element-step (a .depth) (a .s .now) (a .at) (a .end), found, ne-eqb _ _ (c .before .before .if1 .left), good)
 

@@ -14,7 +14,9 @@ hex-digit-requires-2 : tie.Need-hex-digit-requires-2
 hex-digit-requires-2 c κs = search needs
 
 add-result : tie.Need-add-result
-add-result c = rw (c .before .hex-digit .ensures, c .hex-digit2 .ensures) (record { fits = omega (arith, hex-small (c .before .before .args .high), hex-small (c .before .before .args .low)) })
+add-result c =
+    rw (c .before .hex-digit .ensures, c .hex-digit2 .ensures)
+    (record { fits = omega (arith, hex-small (c .before .before .args .high), hex-small (c .before .before .args .low)) })
 
 returns : tie.Need-returns
 returns c = rw (c .before .hex-digit .ensures, c .hex-digit2 .ensures)

@@ -34,12 +34,22 @@ loop-less c = search needs
 
 loop-again : tie.Need-loop-again Inv-loop μ-loop
 loop-again c =
-    let l = c .before .before .before in let s = l .before .args .s .now in
-    (omega arith, omega arith, l .loop .inv .2 ∙ found-next s _ (l .loop .i) (c .before .before .loop-test .taken) (ne-eqb _ _ (c .if1 .left)))
+    let l = c .before .before .before in let s = l .before .args .s .now in (
+      omega arith,
+      omega arith,
+      l .loop .inv .2
+          ∙ found-next s _ (l .loop .i) (c .before .before .loop-test .taken) (ne-eqb _ _ (c .if1 .left)),
+    )
 
 returns-2 : tie.Need-returns-2 Inv-loop μ-loop
 returns-2 c =
-    let l = c .before in let s = l .before .args .s .now in record { is = sym (l .loop .inv .2 ∙ found-end s _ (l .loop .i) (c .loop-test .left)); from = l .loop .inv .0; within = l .loop .inv .1 }
+    let l = c .before in
+    let s = l .before .args .s .now in
+    record {
+      is = sym (l .loop .inv .2 ∙ found-end s _ (l .loop .i) (c .loop-test .left));
+      from = l .loop .inv .0;
+      within = l .loop .inv .1;
+    }
 
 pub find-spec : {M : Type 1} → statement M
 find-spec =

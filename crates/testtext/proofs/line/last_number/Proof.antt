@@ -31,11 +31,17 @@ loop-less c = search needs
 
 loop-again : tie.Need-loop-again Inv-loop μ-loop
 loop-again c =
-    let l = c .before .before .before in let s = l .before .before .args .s .now in
-    (omega arith, l .loop .inv .1 ∙ rw (c .next-number .ensures) (number-next s (l .loop .n) (l .loop .i) (c .before .before .loop-test .taken)))
+    let l = c .before .before .before in let s = l .before .before .args .s .now in (
+      omega arith,
+      l .loop .inv .1 ∙ rw (c .next-number .ensures)
+          (number-next s (l .loop .n) (l .loop .i) (c .before .before .loop-test .taken)),
+    )
 
 returns : tie.Need-returns Inv-loop μ-loop
-returns c = let l = c .before in let s = l .before .before .args .s .now in sym (l .loop .inv .1 ∙ number-end s (l .loop .n) (l .loop .i) (c .loop-test .left))
+returns c =
+    let l = c .before in
+    let s = l .before .before .args .s .now in
+    sym (l .loop .inv .1 ∙ number-end s (l .loop .n) (l .loop .i) (c .loop-test .left))
 
 pub last-number-spec : {M : Type 1} → statement M
 last-number-spec =

@@ -29,7 +29,8 @@ octet-passes-requires c κs = search needs
 returns : tie.Need-returns Inv-loop μ-loop
 returns c =
     let l = c .before .before .before .before in let a = l .before .before .args in sym
-    (every-fails _ (length (a .s .now)) (l .loop .i) (c .before .before .before .loop-test .taken) (sym (c .before .octet-passes .ensures) ∙ not-true _ (c .if1 .taken)))
+    (every-fails _ (length (a .s .now)) (l .loop .i) (c .before .before .before .loop-test .taken)
+    (sym (c .before .octet-passes .ensures) ∙ not-true _ (c .if1 .taken)))
 
 add-i : tie.Need-add-i Inv-loop μ-loop
 add-i c = search needs
@@ -38,10 +39,16 @@ loop-less : tie.Need-loop-less Inv-loop μ-loop
 loop-less c = search needs
 
 loop-again : tie.Need-loop-again Inv-loop μ-loop
-loop-again c = let l = c .before .before .before .before in (omega arith, every-more _ (l .loop .i) (l .loop .inv .1) (sym (c .before .octet-passes .ensures) ∙ not-false _ (c .if1 .left)))
+loop-again c =
+    let l = c .before .before .before .before in
+    (omega arith, every-more _ (l .loop .i) (l .loop .inv .1) (sym (c .before .octet-passes .ensures) ∙ not-false _ (c .if1 .left)))
 
 returns-2 : tie.Need-returns-2 Inv-loop μ-loop
-returns-2 c = let l = c .before in let a = l .before .before .args in let all : l .loop .i ≡ length (a .s .now) = omega arith in sym (rw all at (l .loop .inv .1))
+returns-2 c =
+    let l = c .before in
+    let a = l .before .before .args in
+    let all : l .loop .i ≡ length (a .s .now) = omega arith in
+    sym (rw all at (l .loop .inv .1))
 
 pub all-outside-spec : {M : Type 1} → statement M
 all-outside-spec =

@@ -33,12 +33,20 @@ cast-result c = search needs
 returns-2 : tie.Need-returns-2
 unfolding signedBy
 returns-2 c = let k = c .before .before in
-    rw (← k .before .before .find .ensures .is, ← k .before .last-number .ensures, le-ltb _ _ (k .if1 .left), ne-eqb _ _ (c .if2 .taken)) (toZ-pos w16 (omega arith))
+    rw (← k .before .before .find .ensures .is, ← k .before .last-number .ensures, le-ltb _ _ (k .if1 .left), ne-eqb _ _ (c .if2 .taken))
+    (toZ-pos w16 (omega arith))
 
 returns-3 : tie.Need-returns-3
 unfolding signedBy negated
 returns-3 c = let k = c .before .before .before in
-    rw (← k .before .before .find .ensures .is, ← k .before .last-number .ensures, le-ltb _ _ (k .if1 .left), eq-eqb _ _ (c .before .if2 .left), eq-eqb _ _ (c .if3 .taken))
+    rw (
+      ← k .before .before .find .ensures .is,
+      ← k .before .last-number .ensures,
+      le-ltb _ _ (k .if1 .left),
+      eq-eqb _ _
+          (c .before .if2 .left),
+      eq-eqb _ _ (c .if3 .taken),
+    )
 
 sub-below-zero : tie.Need-sub-below-zero
 sub-below-zero c = search needs

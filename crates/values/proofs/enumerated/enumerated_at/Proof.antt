@@ -16,7 +16,9 @@ enum-known-tag c = search needs
 
 returns : tie.Need-returns
 unfolding enumeratedAt
-returns c = let found = sym (c .before .before .before .before .head-at .ensures) ∙ c .before .before .tag .given .1 in rw (found, ne-eqb _ _ (c .if1 .taken))
+returns c =
+    let found = sym (c .before .before .before .before .head-at .ensures) ∙ c .before .before .tag .given .1 in
+    rw (found, ne-eqb _ _ (c .if1 .taken))
 
 sub-if2 : tie.Need-sub-if2
 sub-if2 c =

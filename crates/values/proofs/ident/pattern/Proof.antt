@@ -27,7 +27,12 @@ unfolding half
 returns c = let k = c .before .before .before in
     let same = toZ-ofZ (k .fits .value) in
     let m = rw same at (c .before .before .unsigned .ensures) in
-    rw (bits-negative (k .args .w) (k .args .value) (rw same at (c .if1 .taken)) (omega (arith, k .pre .1)), m, c .before .numbers-of .ensures .0)
+    rw (
+      bits-negative (k .args .w) (k .args .value) (rw same at (c .if1 .taken))
+          (omega (arith, k .pre .1)),
+      m,
+      c .before .numbers-of .ensures .0,
+    )
 
 returns-2 : tie.Need-returns-2
 returns-2 c = let k = c .before .before .before in

@@ -20,7 +20,8 @@ sub-result : tie.Need-sub-result
 sub-result c = rw (below-0 c) (machine-magnitude _ (c .before .fits .value))
 
 cast-result : tie.Need-cast-result
-cast-result c = rw (below-0 c, toZ-ofZ (machine-magnitude _ (c .before .fits .value))) (tt, record { fits = omega (arith, c .before .fits .value) })
+cast-result c =
+    rw (below-0 c, toZ-ofZ (machine-magnitude _ (c .before .fits .value))) (tt, record { fits = omega (arith, c .before .fits .value) })
 
 cast-result-2 : tie.Need-cast-result-2
 cast-result-2 c = rw (from-0 c) (tt, record { fits = omega (arith, c .before .fits .value) })

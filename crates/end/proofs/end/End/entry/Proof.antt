@@ -31,7 +31,12 @@ enum-known-shown c = search needs
 
 -- src/show.rt:71:21
 returns : tie.Need-returns
-returns c = let a = c .before .before .before .before .before .before .before .before .args in let is = sym (ap shownNo (c .before .before .shown2 .given .1)) ∙ c .before .before .before .before .before .before .shown .ensures in rw (c .before .before .before .before .before .no-entries .ensures) (entry-none (a .access .now) (a .self) (a .procedure) (a .i) _ is (omega (arith, out-count (a .access .now) (a .self) (a .procedure) _ is, c .if1 .taken)))
+returns c =
+    let a = c .before .before .before .before .before .before .before .before .args in
+    let is = sym (ap shownNo (c .before .before .shown2 .given .1)) ∙ c .before .before .before .before .before .before .shown .ensures in
+    rw (c .before .before .before .before .before .no-entries .ensures)
+    (entry-none (a .access .now) (a .self) (a .procedure) (a .i) _ is
+    (omega (arith, out-count (a .access .now) (a .self) (a .procedure) _ is, c .if1 .taken)))
 
 -- src/show.rt:77:21
 read-access-requires : tie.Need-read-access-requires
@@ -47,11 +52,21 @@ entries-requires c κs = search needs
 
 -- src/show.rt:82:29
 mul-entry : tie.Need-mul-entry
-mul-entry c = let a = c .before .before .before .before .before .before .before .before .before .before .before .before .before .args in let is = sym (ap shownNo (c .before .before .before .before .before .before .before .shown2 .given .1)) ∙ c .before .before .before .before .before .before .before .before .before .before .before .shown .ensures in omega (arith, count-most (a .access .now) (a .self) (a .procedure) _ is, c .before .before .before .before .before .if1 .left)
+mul-entry c =
+    let a = c .before .before .before .before .before .before .before .before .before .before .before .before .before .args in
+    let is =
+    sym (ap shownNo (c .before .before .before .before .before .before .before .shown2 .given .1))
+    ∙ c .before .before .before .before .before .before .before .before .before .before .before .shown .ensures in
+    omega (arith, count-most (a .access .now) (a .self) (a .procedure) _ is, c .before .before .before .before .before .if1 .left)
 
 -- src/show.rt:82:29
 element-copy-out-entry : tie.Need-element-copy-out-entry
-element-copy-out-entry c = let a = c .before .before .before .before .before .before .before .before .before .before .before .before .before .args in let is = sym (ap shownNo (c .before .before .before .before .before .before .before .shown2 .given .1)) ∙ c .before .before .before .before .before .before .before .before .before .before .before .shown .ensures in omega (arith, count-most (a .access .now) (a .self) (a .procedure) _ is, c .before .before .before .before .before .if1 .left)
+element-copy-out-entry c =
+    let a = c .before .before .before .before .before .before .before .before .before .before .before .before .before .args in
+    let is =
+    sym (ap shownNo (c .before .before .before .before .before .before .before .shown2 .given .1))
+    ∙ c .before .before .before .before .before .before .before .before .before .before .before .shown .ensures in
+    omega (arith, count-most (a .access .now) (a .self) (a .procedure) _ is, c .before .before .before .before .before .if1 .left)
 
 -- src/show.rt:89:30
 enum-known-shown-2 : tie.Need-enum-known-shown-2
@@ -63,15 +78,31 @@ enum-told c = search needs
 
 -- src/show.rt:62:5
 returns-2 : tie.Need-returns-2
-returns-2 c = let a = c .before .before .before .before .before .before .before .before .before .before .before .before .before .before .args in let is = sym (ap shownNo (c .before .before .before .before .before .before .before .before .shown2 .given .1)) ∙ c .before .before .before .before .before .before .before .before .before .before .before .before .shown .ensures in entry-there (a .access .now) (a .self) (a .procedure) _ is (a .i) (omega (arith, c .before .before .before .before .before .before .if1 .left)) _ _ (rw (c .before .before .every-of .ensures, c .before .before .before .before .before .read-access .ensures) at (c .before .entries .ensures))
+returns-2 c =
+    let a = c .before .before .before .before .before .before .before .before .before .before .before .before .before .before .args in
+    let is =
+    sym (ap shownNo (c .before .before .before .before .before .before .before .before .shown2 .given .1))
+    ∙ c .before .before .before .before .before .before .before .before .before .before .before .before .shown .ensures in
+    entry-there (a .access .now) (a .self) (a .procedure) _ is (a .i)
+    (omega (arith, c .before .before .before .before .before .before .if1 .left)) _ _
+    (rw (c .before .before .every-of .ensures, c .before .before .before .before .before .read-access .ensures) at
+    (c .before .entries .ensures))
 
 -- src/show.rt:62:5
 returns-3 : tie.Need-returns-3
-returns-3 c = let a = c .before .before .before .before .before .before .before .args in let is = sym (ap shownNo (c .before .shown3 .given .1)) ∙ c .before .before .before .before .before .shown .ensures in rw (c .before .before .before .before .no-entries .ensures) (entry-none (a .access .now) (a .self) (a .procedure) (a .i) _ is (out-refused (a .access .now) (a .self) (a .procedure) _ (a .i) is))
+returns-3 c =
+    let a = c .before .before .before .before .before .before .before .args in
+    let is = sym (ap shownNo (c .before .shown3 .given .1)) ∙ c .before .before .before .before .before .shown .ensures in
+    rw (c .before .before .before .before .no-entries .ensures)
+    (entry-none (a .access .now) (a .self) (a .procedure) (a .i) _ is (out-refused (a .access .now) (a .self) (a .procedure) _ (a .i) is))
 
 -- src/show.rt:62:5
 returns-4 : tie.Need-returns-4
-returns-4 c = let a = c .before .before .before .before .before .before .args in let is = sym (ap shownNo (c .enum-told .given .1)) ∙ c .before .before .before .before .shown .ensures in rw (c .before .before .before .no-entries .ensures) (entry-none (a .access .now) (a .self) (a .procedure) (a .i) _ is (out-doubt (a .access .now) (a .self) (a .procedure) (a .i) is))
+returns-4 c =
+    let a = c .before .before .before .before .before .before .args in
+    let is = sym (ap shownNo (c .enum-told .given .1)) ∙ c .before .before .before .before .shown .ensures in
+    rw (c .before .before .before .no-entries .ensures)
+    (entry-none (a .access .now) (a .self) (a .procedure) (a .i) _ is (out-doubt (a .access .now) (a .self) (a .procedure) (a .i) is))
 
 pub entry-spec : {M : Type 1} → statement M
 entry-spec =

@@ -24,7 +24,12 @@ refuses-requires c κs = search needs
 
 -- src/take.rt:155:13
 returns : tie.Need-returns
-returns c = let a = c .before .before .before .before .before .args in refused-moves (givesUp (a .access .now) (a .self)) (a .self) BadProfile _ (gives-profile (a .access .now) (a .self) (ap (λ (q : AccessRead). q .ok) (sym (c .before .before .before .read-access .ensures)) ∙ not-true _ (c .before .if1 .taken))) (c .refuses .ensures)
+returns c =
+    let a = c .before .before .before .before .before .args in
+    refused-moves (givesUp (a .access .now) (a .self)) (a .self) BadProfile _
+    (gives-profile (a .access .now) (a .self)
+    (ap (λ (q : AccessRead). q .ok) (sym (c .before .before .before .read-access .ensures)) ∙ not-true _ (c .before .if1 .taken)))
+    (c .refuses .ensures)
 
 -- src/take.rt:158:13
 good-requires : tie.Need-good-requires
@@ -36,11 +41,26 @@ refuses-requires-2 c κs = search needs
 
 -- src/take.rt:159:13
 returns-2 : tie.Need-returns-2
-returns-2 c = let a = c .before .before .before .before .before .before .before .before .args in refused-moves (givesUp (a .access .now) (a .self)) (a .self) BadTable _ (gives-end (a .access .now) (a .self) (ap (λ (q : AccessRead). q .ok) (sym (c .before .before .before .before .before .before .read-access .ensures)) ∙ not-false _ (c .before .before .before .before .if1 .left)) (rw (c .before .before .before .before .before .before .read-access .ensures) at (sym (c .before .before .good2 .ensures) ∙ not-true _ (c .before .if2 .taken)))) (c .refuses2 .ensures)
+returns-2 c =
+    let a = c .before .before .before .before .before .before .before .before .args in
+    refused-moves (givesUp (a .access .now) (a .self)) (a .self) BadTable _
+    (gives-end (a .access .now) (a .self)
+    (ap (λ (q : AccessRead). q .ok) (sym (c .before .before .before .before .before .before .read-access .ensures))
+    ∙ not-false _ (c .before .before .before .before .if1 .left))
+    (rw (c .before .before .before .before .before .before .read-access .ensures) at
+    (sym (c .before .before .good2 .ensures) ∙ not-true _ (c .before .if2 .taken)))) (c .refuses2 .ensures)
 
 -- src/take.rt:162:13
 returns-3 : tie.Need-returns-3
-returns-3 c = let a = c .before .before .before .before .before .before .before .before .before .args in all-moves (givesUp (a .access .now) (a .self)) _ _ (gives-all (a .access .now) (a .self) (ap (λ (q : AccessRead). q .ok) (sym (c .before .before .before .before .before .before .before .read-access .ensures)) ∙ not-false _ (c .before .before .before .before .before .if1 .left)) (rw (c .before .before .before .before .before .before .before .read-access .ensures) at (sym (c .before .before .before .good2 .ensures) ∙ not-false _ (c .before .before .if2 .left)))) (sym (gave-nothing (a .self) (c .if3 .taken)))
+returns-3 c =
+    let a = c .before .before .before .before .before .before .before .before .before .args in
+    all-moves (givesUp (a .access .now) (a .self)) _ _
+    (gives-all (a .access .now) (a .self)
+    (ap (λ (q : AccessRead). q .ok) (sym (c .before .before .before .before .before .before .before .read-access .ensures))
+    ∙ not-false _ (c .before .before .before .before .before .if1 .left))
+    (rw (c .before .before .before .before .before .before .before .read-access .ensures) at
+    (sym (c .before .before .before .good2 .ensures) ∙ not-false _ (c .before .before .if2 .left))))
+    (sym (gave-nothing (a .self) (c .if3 .taken)))
 
 -- src/take.rt:167:13
 doubted-requires : tie.Need-doubted-requires
@@ -48,7 +68,15 @@ doubted-requires c κs = search needs
 
 -- src/take.rt:150:5
 returns-4 : tie.Need-returns-4
-returns-4 c = let a = c .before .before .before .before .before .before .before .before .before .before .args in all-moves (givesUp (a .access .now) (a .self)) _ _ (gives-all (a .access .now) (a .self) (ap (λ (q : AccessRead). q .ok) (sym (c .before .before .before .before .before .before .before .before .read-access .ensures)) ∙ not-false _ (c .before .before .before .before .before .before .if1 .left)) (rw (c .before .before .before .before .before .before .before .before .read-access .ensures) at (sym (c .before .before .before .before .good2 .ensures) ∙ not-false _ (c .before .before .before .if2 .left)))) (c .doubted .ensures ∙ sym (gave-doubt (a .self) (c .before .if3 .left)))
+returns-4 c =
+    let a = c .before .before .before .before .before .before .before .before .before .before .args in
+    all-moves (givesUp (a .access .now) (a .self)) _ _
+    (gives-all (a .access .now) (a .self)
+    (ap (λ (q : AccessRead). q .ok) (sym (c .before .before .before .before .before .before .before .before .read-access .ensures))
+    ∙ not-false _ (c .before .before .before .before .before .before .if1 .left))
+    (rw (c .before .before .before .before .before .before .before .before .read-access .ensures) at
+    (sym (c .before .before .before .before .good2 .ensures) ∙ not-false _ (c .before .before .before .if2 .left))))
+    (c .doubted .ensures ∙ sym (gave-doubt (a .self) (c .before .if3 .left)))
 
 pub give-up-spec : {M : Type 1} → statement M
 give-up-spec =

@@ -16,7 +16,9 @@ rules-hold-requires c κs = search needs
 
 -- src/end.rt:97:13
 returns : tie.Need-returns
-returns c = let a = c .before .before .args in sym (rules-fail instancesMost (a .p) (a .self) (sym (c .before .rules-hold .ensures) ∙ not-true _ (c .if1 .taken)))
+returns c =
+    let a = c .before .before .args in
+    sym (rules-fail instancesMost (a .p) (a .self) (sym (c .before .rules-hold .ensures) ∙ not-true _ (c .if1 .taken)))
 
 -- src/end.rt:100:9
 good-requires : tie.Need-good-requires
@@ -24,7 +26,10 @@ good-requires c κs = search needs
 
 -- src/end.rt:93:5
 returns-2 : tie.Need-returns-2
-returns-2 c = let a = c .before .before .before .before .args in c .good2 .ensures ∙ sym (rules-pass instancesMost (a .p) (a .self) (sym (c .before .before .before .rules-hold .ensures) ∙ not-false _ (c .before .before .if1 .left)))
+returns-2 c =
+    let a = c .before .before .before .before .args in
+    c .good2 .ensures ∙ sym (rules-pass instancesMost (a .p) (a .self)
+    (sym (c .before .before .before .rules-hold .ensures) ∙ not-false _ (c .before .before .if1 .left)))
 
 pub good-spec : {M : Type 1} → statement M
 good-spec = tie.close (tie.spec rules-hold-requires returns good-requires returns-2)

@@ -26,7 +26,9 @@ same-length c = search needs
 
 -- src/send.rt:186:5
 returns : tie.Need-returns
-returns c = rw (c .before .before .before .before .before .interrogation-of .ensures) at (written-sends _ _ _ _ _ _ _ (c .before .before .before .send .ensures) _ (c .end-after .ensures))
+returns c =
+    rw (c .before .before .before .before .before .interrogation-of .ensures) at
+    (written-sends _ _ _ _ _ _ _ (c .before .before .before .send .ensures) _ (c .end-after .ensures))
 
 pub interrogate-spec : {M : Type 1} → statement M
 interrogate-spec =

@@ -24,7 +24,10 @@ read-access-requires c κs = search needs
 
 -- src/show.rt:35:13
 returns : tie.Need-returns
-returns c = let a = c .before .before .before .before .args in sym (shown-profile (a .access .now) (a .self) (a .procedure) (ap (λ (q : AccessRead). q .ok) (sym (c .before .before .read-access .ensures)) ∙ not-true _ (c .if1 .taken)))
+returns c =
+    let a = c .before .before .before .before .args in
+    sym (shown-profile (a .access .now) (a .self) (a .procedure)
+    (ap (λ (q : AccessRead). q .ok) (sym (c .before .before .read-access .ensures)) ∙ not-true _ (c .if1 .taken)))
 
 -- src/show.rt:40:13
 good-requires : tie.Need-good-requires
@@ -32,11 +35,23 @@ good-requires c κs = search needs
 
 -- src/show.rt:41:13
 returns-2 : tie.Need-returns-2
-returns-2 c = let a = c .before .before .before .before .before .before .before .args in sym (shown-end (a .access .now) (a .self) (a .procedure) (ap (λ (q : AccessRead). q .ok) (sym (c .before .before .before .before .before .read-access .ensures)) ∙ not-false _ (c .before .before .before .if1 .left)) (rw (c .before .before .before .before .before .read-access .ensures) at (sym (c .before .good2 .ensures) ∙ not-true _ (c .if2 .taken))))
+returns-2 c =
+    let a = c .before .before .before .before .before .before .before .args in
+    sym (shown-end (a .access .now) (a .self) (a .procedure)
+    (ap (λ (q : AccessRead). q .ok) (sym (c .before .before .before .before .before .read-access .ensures))
+    ∙ not-false _ (c .before .before .before .if1 .left))
+    (rw (c .before .before .before .before .before .read-access .ensures) at
+    (sym (c .before .good2 .ensures) ∙ not-true _ (c .if2 .taken))))
 
 -- src/show.rt:46:13
 returns-3 : tie.Need-returns-3
-returns-3 c = let a = c .before .before .before .before .before .before .before .before .args in sym (shown-none (a .access .now) (a .self) (a .procedure) (ap (λ (q : AccessRead). q .ok) (sym (c .before .before .before .before .before .before .read-access .ensures)) ∙ not-false _ (c .before .before .before .before .if1 .left)) (rw (c .before .before .before .before .before .before .read-access .ensures) at (sym (c .before .before .good2 .ensures) ∙ not-false _ (c .before .if2 .left))) (omega (arith, c .if3 .taken)))
+returns-3 c =
+    let a = c .before .before .before .before .before .before .before .before .args in
+    sym (shown-none (a .access .now) (a .self) (a .procedure)
+    (ap (λ (q : AccessRead). q .ok) (sym (c .before .before .before .before .before .before .read-access .ensures))
+    ∙ not-false _ (c .before .before .before .before .if1 .left))
+    (rw (c .before .before .before .before .before .before .read-access .ensures) at
+    (sym (c .before .before .good2 .ensures) ∙ not-false _ (c .before .if2 .left))) (omega (arith, c .if3 .taken)))
 
 -- src/show.rt:51:12
 mark-at-requires : tie.Need-mark-at-requires
@@ -44,7 +59,14 @@ mark-at-requires c κs = search needs
 
 -- src/show.rt:52:13
 returns-4 : tie.Need-returns-4
-returns-4 c = let a = c .before .before .before .before .before .before .before .before .before .before .before .args in sym (shown-doubt (a .access .now) (a .self) (a .procedure) (ap (λ (q : AccessRead). q .ok) (sym (c .before .before .before .before .before .before .before .before .before .read-access .ensures)) ∙ not-false _ (c .before .before .before .before .before .before .before .if1 .left)) (rw (c .before .before .before .before .before .before .before .before .before .read-access .ensures) at (sym (c .before .before .before .before .before .good2 .ensures) ∙ not-false _ (c .before .before .before .before .if2 .left))) (omega (arith, c .before .before .before .if3 .left)) (λ h. c .if4 .taken (c .before .mark-at .ensures ∙ h)))
+returns-4 c =
+    let a = c .before .before .before .before .before .before .before .before .before .before .before .args in
+    sym (shown-doubt (a .access .now) (a .self) (a .procedure)
+    (ap (λ (q : AccessRead). q .ok) (sym (c .before .before .before .before .before .before .before .before .before .read-access .ensures))
+    ∙ not-false _ (c .before .before .before .before .before .before .before .if1 .left))
+    (rw (c .before .before .before .before .before .before .before .before .before .read-access .ensures) at
+    (sym (c .before .before .before .before .before .good2 .ensures) ∙ not-false _ (c .before .before .before .before .if2 .left)))
+    (omega (arith, c .before .before .before .if3 .left)) (λ h. c .if4 .taken (c .before .mark-at .ensures ∙ h)))
 
 -- src/show.rt:55:13
 every-of-requires : tie.Need-every-of-requires
@@ -56,7 +78,19 @@ chosen-count-requires c κs = search needs
 
 -- src/show.rt:30:5
 returns-5 : tie.Need-returns-5
-returns-5 c = let a = c .before .before .before .before .before .before .before .before .before .before .before .before .before .before .args in ap (λ (n : ℕ). tells (seenKnown n)) (rw (c .before .every-of .ensures) at (c .chosen-count .ensures) ∙ shown-count (a .access .now) (a .self) (a .procedure)) ∙ sym (shown-known (a .access .now) (a .self) (a .procedure) (ap (λ (q : AccessRead). q .ok) (sym (c .before .before .before .before .before .before .before .before .before .before .before .before .read-access .ensures)) ∙ not-false _ (c .before .before .before .before .before .before .before .before .before .before .if1 .left)) (rw (c .before .before .before .before .before .before .before .before .before .before .before .before .read-access .ensures) at (sym (c .before .before .before .before .before .before .before .before .good2 .ensures) ∙ not-false _ (c .before .before .before .before .before .before .before .if2 .left))) (omega (arith, c .before .before .before .before .before .before .if3 .left)) (sym (c .before .before .before .before .mark-at .ensures) ∙ c .before .before .before .if4 .left))
+returns-5 c =
+    let a = c .before .before .before .before .before .before .before .before .before .before .before .before .before .before .args in
+    ap (λ (n : ℕ). tells (seenKnown n))
+    (rw (c .before .every-of .ensures) at (c .chosen-count .ensures) ∙ shown-count (a .access .now) (a .self) (a .procedure))
+    ∙ sym (shown-known (a .access .now) (a .self) (a .procedure)
+    (ap (λ (q : AccessRead). q .ok)
+    (sym (c .before .before .before .before .before .before .before .before .before .before .before .before .read-access .ensures))
+    ∙ not-false _ (c .before .before .before .before .before .before .before .before .before .before .if1 .left))
+    (rw (c .before .before .before .before .before .before .before .before .before .before .before .before .read-access .ensures) at
+    (sym (c .before .before .before .before .before .before .before .before .good2 .ensures)
+    ∙ not-false _ (c .before .before .before .before .before .before .before .if2 .left)))
+    (omega (arith, c .before .before .before .before .before .before .if3 .left))
+    (sym (c .before .before .before .before .mark-at .ensures) ∙ c .before .before .before .if4 .left))
 
 pub shown-spec : {M : Type 1} → statement M
 shown-spec =

@@ -93,7 +93,8 @@ returns-4 : tie.Need-returns-4
 returns-4 c =
     let d = c .before .before .before .before in
     let k = from3 d in
-    let bad = rw (k .before .before .read-access .ensures) at (sym (c .before .before .good2 .ensures) ∙ not-true _ (c .before .if4 .taken)) in
+    let bad = rw (k .before .before .read-access .ensures) at
+    (sym (c .before .before .good2 .ensures) ∙ not-true _ (c .before .if4 .taken)) in
     refused-moves _ _ BadTable _
     (takes-end _ _ _ (fair (from2 k)) (ok k) (rules-pass instancesMost _ _ (rules d) ∙ bad)) (c .refuses4 .ensures)
 

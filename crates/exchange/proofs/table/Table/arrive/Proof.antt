@@ -97,7 +97,8 @@ returns-2 : tie.Need-returns-2
 returns-2 c =
     let a = c .before .before .before .before .before .before .before .before .before .args in
     refused-arrives (a .access .now) (a .self) (a .component .now) (a .out .now) LongComponent _
-    (done-long (a .access .now) (a .self) (a .component .now) (length (a .out .now)) (omega (arith, c .before .before .if1 .left)) (omega (arith, c .before .if2 .taken)))
+    (done-long (a .access .now) (a .self) (a .component .now) (length (a .out .now)) (omega (arith, c .before .before .if1 .left))
+    (omega (arith, c .before .if2 .taken)))
     (c .refuses2 .ensures)
 
 returns-3 : tie.Need-returns-3
@@ -105,7 +106,8 @@ returns-3 c =
     let g = c .before .before .before .before .before .before in
     let a = g .before .before .before .before .before .args in
     refused-arrives (a .access .now) (a .self) (a .component .now) (a .out .now) BadProfile _
-    (done-profile (a .access .now) (a .self) (a .component .now) (length (a .out .now)) (omega (arith, c .before .before .before .before .if1 .left)) (omega (arith, c .before .before .before .if2 .left))
+    (done-profile (a .access .now) (a .self) (a .component .now) (length (a .out .now))
+    (omega (arith, c .before .before .before .before .if1 .left)) (omega (arith, c .before .before .before .if2 .left))
     (ap (λ (r : AccessRead). r .ok) (sym (g .read-access .ensures)) ∙ not-true _ (c .before .if3 .taken)))
     (c .refuses3 .ensures)
 
@@ -114,7 +116,9 @@ returns-4 c =
     let g = c .before .before .before .before .before .before .before .before in
     let a = g .before .before .before .before .before .args in
     refused-arrives (a .access .now) (a .self) (a .component .now) (a .out .now) BadTable _
-    (done-table (a .access .now) (a .self) (a .component .now) (length (a .out .now)) (omega (arith, c .before .before .before .before .before .before .if1 .left)) (omega (arith, c .before .before .before .before .before .if2 .left))
+    (done-table (a .access .now) (a .self) (a .component .now) (length (a .out .now))
+    (omega (arith, c .before .before .before .before .before .before .if1 .left))
+    (omega (arith, c .before .before .before .before .before .if2 .left))
     (ap (λ (r : AccessRead). r .ok) (sym (g .read-access .ensures)) ∙ not-false _ (c .before .before .before .if3 .left))
     (table-over instancesMost _ (a .self) (c .before .if4 .taken)))
     (c .refuses4 .ensures)
@@ -124,10 +128,13 @@ returns-5 c =
     let g = c .before .before .before .before .before .before .before .before .before .before in
     let a = g .before .before .before .before .before .args in
     refused-arrives (a .access .now) (a .self) (a .component .now) (a .out .now) BadTable _
-    (done-table (a .access .now) (a .self) (a .component .now) (length (a .out .now)) (omega (arith, c .before .before .before .before .before .before .before .before .if1 .left)) (omega (arith, c .before .before .before .before .before .before .before .if2 .left))
+    (done-table (a .access .now) (a .self) (a .component .now) (length (a .out .now))
+    (omega (arith, c .before .before .before .before .before .before .before .before .if1 .left))
+    (omega (arith, c .before .before .before .before .before .before .before .if2 .left))
     (ap (λ (r : AccessRead). r .ok) (sym (g .read-access .ensures)) ∙ not-false _ (c .before .before .before .before .before .if3 .left))
     (rw (g .read-access .ensures) at
-    (table-run instancesMost _ (a .self) (c .before .before .before .if4 .left) ∙ sym (c .before .before .good2 .ensures) ∙ not-true _ (c .before .if5 .taken))))
+    (table-run instancesMost _ (a .self) (c .before .before .before .if4 .left) ∙ sym (c .before .before .good2 .ensures)
+    ∙ not-true _ (c .before .if5 .taken))))
     (c .refuses5 .ensures)
 
 same-length : tie.Need-same-length
@@ -140,7 +147,9 @@ returns-6 c =
     let a = g .before .before .before .before .before .args in
     rw (c .answers .ensures)
     (says-arrives (a .access .now) (a .self) (a .component .now) (a .out .now) (g .read-access .result) (g .read-access .ensures)
-    (omega (arith, k .before .before .before .before .before .before .before .before .if1 .left)) (omega (arith, k .before .before .before .before .before .before .before .if2 .left)) (not-false _ (k .before .before .before .before .before .if3 .left))
+    (omega (arith, k .before .before .before .before .before .before .before .before .if1 .left))
+    (omega (arith, k .before .before .before .before .before .before .before .if2 .left))
+    (not-false _ (k .before .before .before .before .before .if3 .left))
     (k .before .before .before .if4 .left) (sym (k .before .before .good2 .ensures) ∙ not-false _ (k .before .if5 .left))
     (k .question-of .result) (k .question-of .ensures) _ _
     (not-true _ (c .before .before .before .before .before .if6 .taken)) (c .before .before .before .put-answer .ensures))
@@ -156,11 +165,15 @@ returns-7 c =
     let id : SFits w16 (k .question-of .result .identifier) = search (needs, k .question-of .ok) in
     rw (c .answers2 .ensures, toZ-ofZ id)
     (fails-arrives (a .access .now) (a .self) (a .component .now) (a .out .now) (g .read-access .result) (g .read-access .ensures)
-    (omega (arith, k .before .before .before .before .before .before .before .before .if1 .left)) (omega (arith, k .before .before .before .before .before .before .before .if2 .left)) (not-false _ (k .before .before .before .before .before .if3 .left))
+    (omega (arith, k .before .before .before .before .before .before .before .before .if1 .left))
+    (omega (arith, k .before .before .before .before .before .before .before .if2 .left))
+    (not-false _ (k .before .before .before .before .before .if3 .left))
     (k .before .before .before .if4 .left) (sym (k .before .before .good2 .ensures) ∙ not-false _ (k .before .if5 .left))
     (k .question-of .result) (k .question-of .ensures) _ _
-    (not-false _ (c .before .before .before .before .before .before .before .before .before .before .before .before .if6 .left)) _ (rw (toZ-ofZ id) at (c .before .before .before .before .before .before .before .before .before .last-after .ensures))
-    _ (c .before .before .before .before .before .before .before .before .judge-request .ensures .verdict) _ (c .before .before .before .before .before .before .error .given .1)
+    (not-false _ (c .before .before .before .before .before .before .before .before .before .before .before .before .if6 .left)) _
+    (rw (toZ-ofZ id) at (c .before .before .before .before .before .before .before .before .before .last-after .ensures))
+    _ (c .before .before .before .before .before .before .before .before .judge-request .ensures .verdict) _
+    (c .before .before .before .before .before .before .error .given .1)
     (rw (toZ-ofZ id) at (c .before .before .before .put-answer2 .ensures)))
 
 same-length-3 : tie.Need-same-length-3
@@ -174,13 +187,17 @@ returns-8 c =
     let id : SFits w16 (k .question-of .result .identifier) = search (needs, k .question-of .ok) in
     rw (c .answers3 .ensures, toZ-ofZ id)
     (lists-arrives (a .access .now) (a .self) (a .component .now) (a .out .now) (g .read-access .result) (g .read-access .ensures)
-    (omega (arith, k .before .before .before .before .before .before .before .before .if1 .left)) (omega (arith, k .before .before .before .before .before .before .before .if2 .left)) (not-false _ (k .before .before .before .before .before .if3 .left))
+    (omega (arith, k .before .before .before .before .before .before .before .before .if1 .left))
+    (omega (arith, k .before .before .before .before .before .before .before .if2 .left))
+    (not-false _ (k .before .before .before .before .before .if3 .left))
     (k .before .before .before .if4 .left) (sym (k .before .before .good2 .ensures) ∙ not-false _ (k .before .if5 .left))
     (k .question-of .result) (k .question-of .ensures) _ _
     (not-false _ (c .before .before .before .before .before .before .before .before .before .before .before .before .before .before .if6 .left)) _ (rw (toZ-ofZ id) at (c .before .before .before .before .before .before .before .before .before .before .before .last-after .ensures))
-    _ (c .before .before .before .before .before .before .before .before .before .before .judge-request .ensures) _ (c .before .before .before .before .before .before .before .before .renews .given .1)
+    _ (c .before .before .before .before .before .before .before .before .before .before .judge-request .ensures) _
+    (c .before .before .before .before .before .before .before .before .renews .given .1)
     (c .before .before .before .before .before .before .if7 .taken)
-    (rw (c .before .before .before .before .before .selection-of .ensures) at (rw (toZ-ofZ id) at (c .before .before .before .put-listed .ensures))))
+    (rw (c .before .before .before .before .before .selection-of .ensures) at
+    (rw (toZ-ofZ id) at (c .before .before .before .put-listed .ensures))))
 
 same-length-4 : tie.Need-same-length-4
 same-length-4 c = search needs
@@ -192,19 +209,25 @@ returns-9 c =
     let a = g .before .before .before .before .before .args in
     let id : SFits w16 (k .question-of .result .identifier) = search (needs, k .question-of .ok) in
     let good = sym (k .before .before .good2 .ensures) ∙ not-false _ (k .before .if5 .left) in
-    let applies : c .before .before .before .before .before .if8 .next ≡ applied (g .read-access .result .profile) (k .question-of .result .operation) (k .question-of .result .request) (a .self .run) =
+    let applies : c .before .before .before .before .before .if8 .next ≡ applied (g .read-access .result .profile)
+    (k .question-of .result .operation) (k .question-of .result .request) (a .self .run) =
     ⊎-elim
-    (λ v. v .2 ∙ renews-applied (a .access .now) (g .read-access .result) (g .read-access .ensures) (not-false _ (k .before .before .before .before .before .if3 .left)) (a .self .run) good _ _ _
-    (c .before .before .before .before .before .before .before .before .before .before .judge-request .ensures) _ (c .before .before .before .before .before .before .before .before .renews .given .1) (v .0 .taken) _ (v .1 .ensures))
+    (λ v. v .2 ∙ renews-applied (a .access .now) (g .read-access .result) (g .read-access .ensures)
+    (not-false _ (k .before .before .before .before .before .if3 .left)) (a .self .run) good _ _ _
+    (c .before .before .before .before .before .before .before .before .before .before .judge-request .ensures) _
+    (c .before .before .before .before .before .before .before .before .renews .given .1) (v .0 .taken) _ (v .1 .ensures))
     (λ v. v .2 ∙ v .1 .ensures)
     (c .before .before .before .before .before .if8 .came) in
     rw (c .answers4 .ensures, toZ-ofZ id)
     (changes-arrives (a .access .now) (a .self) (a .component .now) (a .out .now) (g .read-access .result) (g .read-access .ensures)
-    (omega (arith, k .before .before .before .before .before .before .before .before .if1 .left)) (omega (arith, k .before .before .before .before .before .before .before .if2 .left)) (not-false _ (k .before .before .before .before .before .if3 .left))
+    (omega (arith, k .before .before .before .before .before .before .before .before .if1 .left))
+    (omega (arith, k .before .before .before .before .before .before .before .if2 .left))
+    (not-false _ (k .before .before .before .before .before .if3 .left))
     (k .before .before .before .if4 .left) good
     (k .question-of .result) (k .question-of .ensures) _ _
     (not-false _ (c .before .before .before .before .before .before .before .before .before .before .before .before .before .before .if6 .left)) _ (rw (toZ-ofZ id) at (c .before .before .before .before .before .before .before .before .before .before .before .last-after .ensures))
-    _ (c .before .before .before .before .before .before .before .before .before .before .judge-request .ensures) _ (c .before .before .before .before .before .before .before .before .renews .given .1)
+    _ (c .before .before .before .before .before .before .before .before .before .before .judge-request .ensures) _
+    (c .before .before .before .before .before .before .before .before .renews .given .1)
     (c .before .before .before .before .before .before .if7 .left) _ applies
     (rw (toZ-ofZ id) at (c .before .before .before .put-answer3 .ensures)))
 

@@ -52,8 +52,22 @@ loop-again c =
     let on = next-is (a .t1) _ (l .i) (l .inv .1) (l .inv .2) (omega arith) in
     let test = sym (c .before .is-chosen .ensures) in
     ⊎-elim
-    (λ v. (omega arith, l .inv .1, l .inv .2, omega arith, omega (arith, v .1, l .inv .4, ap length (those-take (chosen (a .sel)) _ _ _ on (test ∙ v .0 .taken)))))
-    (λ v. (omega arith, l .inv .1, l .inv .2, omega arith, omega (arith, v .1, l .inv .4, ap length (those-skip (chosen (a .sel)) _ _ _ on (test ∙ v .0 .left)))))
+    (λ v. (
+      omega arith,
+      l .inv .1,
+      l .inv .2,
+      omega arith,
+      omega
+          (arith, v .1, l .inv .4, ap length (those-take (chosen (a .sel)) _ _ _ on (test ∙ v .0 .taken))),
+    ))
+    (λ v. (
+      omega arith,
+      l .inv .1,
+      l .inv .2,
+      omega arith,
+      omega
+          (arith, v .1, l .inv .4, ap length (those-skip (chosen (a .sel)) _ _ _ on (test ∙ v .0 .left))),
+    ))
     (c .if1 .came)
 
 returns : tie.Need-returns Inv-loop μ-loop

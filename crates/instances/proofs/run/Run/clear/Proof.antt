@@ -31,7 +31,8 @@ stored-requires : tie.Need-stored-requires Inv-loop μ-loop
 stored-requires c κs = search needs
 
 loop-holds : tie.Need-loop-holds Inv-loop μ-loop
-loop-holds c = (omega arith, c .stored .ensures, search (unmapped, needs), omega arith, rw (c .before .fresh-run .ensures) (filled-none _ _ _))
+loop-holds c =
+    (omega arith, c .stored .ensures, search (unmapped, needs), omega arith, rw (c .before .fresh-run .ensures) (filled-none _ _ _))
 
 mul-x : tie.Need-mul-x Inv-loop μ-loop
 mul-x c = search needs

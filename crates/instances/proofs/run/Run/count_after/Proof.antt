@@ -92,7 +92,13 @@ loop-again c =
       omega arith,
       omega arith,
       omega (arith, v .3, l .inv .5, ap length (those-skip (chosen (a .sel)) _ _ _ on (sym (v .1 .ensures) ∙ v .2 .left))),
-      omega (arith, v .4, l .inv .6, after-one (a .sel) _ _ _ on q (concerns-is (a .sel) _ (test ∙ v .0 .taken)) (sym (v .1 .ensures) ∙ v .2 .left)),
+      omega (
+        arith,
+        v .4,
+        l .inv .6,
+        after-one (a .sel) _ _ _ on q (concerns-is (a .sel) _ (test ∙ v .0 .taken))
+            (sym (v .1 .ensures) ∙ v .2 .left),
+      ),
     ))
     (λ v. (
       omega arith,

@@ -34,7 +34,14 @@ stored-requires : tie.Need-stored-requires Inv-loop μ-loop
 stored-requires c κs = search needs
 
 loop-holds : tie.Need-loop-holds Inv-loop μ-loop
-loop-holds c = (omega arith, c .stored .ensures, search (unmapped, needs), omega arith, rw (c .before .before .no-entries .ensures) (filled-none _ _ _))
+loop-holds c = (
+  omega arith,
+  c .stored .ensures,
+  search (unmapped, needs),
+  omega arith,
+  rw (c .before .before .no-entries .ensures)
+      (filled-none _ _ _),
+)
 
 cast-list : tie.Need-cast-list Inv-loop μ-loop
 cast-list c = search needs
@@ -45,7 +52,8 @@ returns c =
     let a = c .before .before .before .before .before .before .args in
     let none = none-left (a .t1) _ (l .i) (l .inv .1) (l .inv .2) (omega arith) in
     let end = ap (map (entryFor (a .p .numbers))) (those-none (chosen (a .sel)) _ none) in
-    entries-answer (map (entryFor (a .p .numbers)) (listed (a .sel) (instancesOf (a .t1)))) (l .k) (l .list .entries) (filled-done _ _ _ _ _ (rw end at (l .inv .4)))
+    entries-answer (map (entryFor (a .p .numbers)) (listed (a .sel) (instancesOf (a .t1)))) (l .k) (l .list .entries)
+    (filled-done _ _ _ _ _ (rw end at (l .inv .4)))
 
 mul-x : tie.Need-mul-x Inv-loop μ-loop
 mul-x c = search needs
@@ -84,7 +92,8 @@ loop-again c =
     ⊎-elim
     (λ v.
     let takes = ap f (those-take (chosen (a .sel)) _ _ _ on (test ∙ v .0 .taken)) in
-    rw (v .3, v .4, v .1 .ensures) (omega arith, l .inv .1, l .inv .2, omega arith, filled-next _ _ _ _ _ _ _ (omega arith) (rw takes at (l .inv .4))))
+    rw (v .3, v .4, v .1 .ensures)
+    (omega arith, l .inv .1, l .inv .2, omega arith, filled-next _ _ _ _ _ _ _ (omega arith) (rw takes at (l .inv .4))))
     (λ v.
     let skips = ap f (those-skip (chosen (a .sel)) _ _ _ on (test ∙ v .0 .left)) in
     rw (v .1, v .2) (omega arith, l .inv .1, l .inv .2, omega arith, rw skips at (l .inv .4)))
@@ -98,7 +107,8 @@ returns-2 c =
     let l = c .before .loop in
     let a = c .before .before .before .before .before .args in
     let end : l .k ≡ instancesMost = omega arith in
-    entries-full (map (entryFor (a .p .numbers)) (listed (a .sel) (instancesOf (a .t1)))) (l .k) (l .list .entries) (rw end (filled-full _ _ _ _ _ (rw end at (l .inv .4))))
+    entries-full (map (entryFor (a .p .numbers)) (listed (a .sel) (instancesOf (a .t1)))) (l .k) (l .list .entries)
+    (rw end (filled-full _ _ _ _ _ (rw end at (l .inv .4))))
 
 pub entries-spec : {M : Type 1} → statement M
 entries-spec =

@@ -35,7 +35,17 @@ returns : tie.Need-returns Inv-loop μ-loop
 returns c = let a = c .before .args in sym (too-long (a .p) (a .t1) instancesMost (lt-leb _ _ (c .if1 .taken)))
 
 loop-holds : tie.Need-loop-holds Inv-loop μ-loop
-loop-holds c = (omega arith, c .before .before .if1 .left, search (unmapped, needs), omega arith, omega arith, omega arith, refl, record { cfu = omega arith; cfb = omega arith; cfnr = omega arith })
+loop-holds c = (
+  omega arith,
+  c .before .before .if1 .left,
+  search
+      (unmapped, needs),
+  omega arith,
+  omega arith,
+  omega arith,
+  refl,
+  record { cfu = omega arith; cfb = omega arith; cfnr = omega arith },
+)
 
 mul-x : tie.Need-mul-x Inv-loop μ-loop
 mul-x c = search needs
@@ -88,7 +98,8 @@ loop-again c =
     let key = c .before .before .before .before .key-of .ensures in
     let good = sym (c .before .before .instance-good .ensures) ∙ not-false _ (c .before .if3 .left) in
     let three = fits-of _ _ _ _ good .procedure in
-    let sounds = l .inv .6 ∙ rw (← key) at (sound-on (instanceGood (a .p)) _ _ _ on (l .below) (omega (arith, key, c .before .before .before .if2 .left)) good) in
+    let sounds = l .inv .6 ∙ rw (← key) at
+    (sound-on (instanceGood (a .p)) _ _ _ on (l .below) (omega (arith, key, c .before .before .before .if2 .left)) good) in
     let so = l .inv .7 in
     ⊎-elim
     (λ v. rw (v .1, v .2, v .3) (
@@ -149,7 +160,14 @@ returns-6 c =
     let none = none-left (a .t1) (a .t1 .count) (l .i) (omega (arith, l .inv .1)) (l .inv .2) (omega arith) in
     let all = tallied _ _ _ _ _ instancesMost none (l .inv .7) in
     let sounds = l .inv .6 ∙ sound-none (instanceGood (a .p)) (l .below) _ none in
-    rw (is-good (a .p) (a .t1) instancesMost (l .inv .1) sounds, ← all, le-leb _ _ (c .before .if6 .left), le-leb _ _ (c .if7 .left), pick-last _)
+    rw (
+      is-good (a .p) (a .t1) instancesMost (l .inv .1) sounds,
+      ← all,
+      le-leb _ _ (c .before .if6 .left),
+      le-leb _ _
+          (c .if7 .left),
+      pick-last _,
+    )
 
 pub good-spec : {M : Type 1} → statement M
 good-spec =

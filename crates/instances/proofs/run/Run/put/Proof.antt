@@ -72,8 +72,17 @@ loop-again c =
     let a = c .before .before .before .before .before .before .before .before .before .before .args in
     let so = l .inv .7 in
     let on = next-is (a .t1) _ (l .i) (l .inv .1) (l .inv .2) (omega arith) in
-    let stays = sym (c .before .is-chosen .ensures) ∙ c .if2 .taken in
-    (omega arith, l .inv .1, l .inv .2, omega arith, l .inv .4, l .inv .5, omega arith, rw (put-skip (a .sel) (a .address) _ _ _ _ on stays) at so)
+    let stays = sym (c .before .is-chosen .ensures) ∙ c .if2 .taken in (
+      omega arith,
+      l .inv .1,
+      l .inv .2,
+      omega arith,
+      l .inv .4,
+      l .inv .5,
+      omega arith,
+      rw
+          (put-skip (a .sel) (a .address) _ _ _ _ on stays) at so,
+    )
 
 mul-w : tie.Need-mul-w Inv-loop μ-loop
 mul-w c = search needs
@@ -112,7 +121,8 @@ loop-again-2 : tie.Need-loop-again-2 Inv-loop μ-loop
 loop-again-2 c =
     let l = c .before .before .before .before .before .before .before .before .before .loop in
     let a = c .before .before .before .before .before .before .before .before .before .before .before .before .before .before .args in
-    let made = c .before .before .before .before .before .before .before .before .before .before .before .before .before .places-of .result in
+    let made = c .before .before .before .before .before .before .before .before .before .before .before .before .before .places-of .result
+    in
     let so = l .inv .7 in
     let on = next-is (a .t1) _ (l .i) (l .inv .1) (l .inv .2) (omega arith) in
     let more = next-place made _ (l .m) (l .inv .4) (l .inv .5) (omega arith) in
@@ -168,8 +178,17 @@ loop-again-3 c =
     let so = l .inv .7 in
     let on = next-is (a .t1) _ (l .i) (l .inv .1) (l .inv .2) (omega arith) in
     let empty = no-place made _ (l .m) (l .inv .4) (l .inv .5) (omega arith) in
-    let stays = sym (c .before .before .is-chosen .ensures) ∙ c .before .if2 .left in
-    (omega arith, l .inv .1, l .inv .2, omega arith, l .inv .4, l .inv .5, omega arith, filled-next _ _ _ _ _ _ _ (omega arith) (rw (put-rest (a .sel) (a .address) _ _ _ _ on stays empty) at so))
+    let stays = sym (c .before .before .is-chosen .ensures) ∙ c .before .if2 .left in (
+      omega arith,
+      l .inv .1,
+      l .inv .2,
+      omega arith,
+      l .inv .4,
+      l .inv .5,
+      omega arith,
+      filled-next _ _ _ _ _ _ _ (omega arith)
+          (rw (put-rest (a .sel) (a .address) _ _ _ _ on stays empty) at so),
+    )
 
 mul-w-2 : tie.Need-mul-w-2 Inv-loop μ-loop
 mul-w-2 c = search needs
@@ -199,8 +218,17 @@ loop-again-4 c =
     let made = c .before .before .before .before .before .before .before .before .places-of .result in
     let so = l .inv .7 in
     let none = none-left (a .t1) _ (l .i) (l .inv .1) (l .inv .2) (omega arith) in
-    let more = next-place made _ (l .m) (l .inv .4) (l .inv .5) (omega arith) in
-    (omega arith, l .inv .1, l .inv .2, omega arith, l .inv .4, l .inv .5, omega arith, filled-next _ _ _ _ _ _ _ (omega arith) (rw (put-last (a .sel) (a .address) _ _ none _ _ more) at so))
+    let more = next-place made _ (l .m) (l .inv .4) (l .inv .5) (omega arith) in (
+      omega arith,
+      l .inv .1,
+      l .inv .2,
+      omega arith,
+      l .inv .4,
+      l .inv .5,
+      omega arith,
+      filled-next _ _ _ _ _ _ _ (omega arith)
+          (rw (put-last (a .sel) (a .address) _ _ none _ _ more) at so),
+    )
 
 cast-next : tie.Need-cast-next Inv-loop μ-loop
 cast-next c = search needs
@@ -214,7 +242,8 @@ returns c =
     let none = none-left (a .t1) _ (l .i) (l .inv .1) (l .inv .2) (omega arith) in
     let empty = no-place made _ (l .m) (l .inv .4) (l .inv .5) (omega arith) in
     let full = filled-done _ _ _ _ _ (rw (put-none (a .sel) (a .address) _ _ none empty) at so) in
-    put-answer (a .p) (a .sel) (a .address) (a .t1) made _ _ (c .before .before .before .before .before .before .before .places-of .ensures) (inl full)
+    put-answer (a .p) (a .sel) (a .address) (a .t1) made _ _ (c .before .before .before .before .before .before .before .places-of .ensures)
+    (inl full)
 
 cast-next-2 : tie.Need-cast-next-2 Inv-loop μ-loop
 cast-next-2 c = search needs
@@ -226,7 +255,8 @@ returns-2 c =
     let made = c .before .before .before .before .before .places-of .result in
     let so = l .inv .7 in
     let end : l .k ≡ runMost = omega arith in
-    put-answer (a .p) (a .sel) (a .address) (a .t1) made (l .k) (l .next .run) (c .before .before .before .before .before .places-of .ensures)
+    put-answer (a .p) (a .sel) (a .address) (a .t1) made (l .k) (l .next .run)
+    (c .before .before .before .before .before .places-of .ensures)
     (inr (rw end (filled-full _ _ _ _ _ (rw end at so))))
 
 pub put-spec : {M : Type 1} → statement M

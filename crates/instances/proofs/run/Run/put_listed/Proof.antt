@@ -5,7 +5,8 @@ use mathlib.Core.Path.{_≡_, refl, sym, ap, _∙_}
 use mathlib.Core.List.{List, map}
 use lib.ListN.{length, take, drop}
 use mir.Facts.{toZ-ofZ}
-use Rattle.instances.proofs.Picked.{entryAt, Picked, picked-none, picked-skip, picked-full, picked-take, picked-done, entries-counted, Listing, listing-first, listing-room, listing-next}
+use Rattle.instances.proofs.Picked.{entryAt, Picked, picked-none, picked-skip, picked-full, picked-take, picked-done}
+use Rattle.instances.proofs.Picked.{entries-counted, Listing, listing-first, listing-room, listing-next}
 use Rattle.instances.proofs.Runs.{next-is, none-left}
 use Rattle.instances.specs.Run.{instancesOf, listed, entryFor}
 use Rattle.instances.specs.Places.{runMost}
@@ -58,10 +59,21 @@ listed-size-requires : tie.Need-listed-size-requires Inv-loop μ-loop Inv-loop2 
 listed-size-requires c κs = search needs
 
 add-size : tie.Need-add-size Inv-loop μ-loop Inv-loop2 μ-loop2
-add-size c = omega (arith, c .listed-size .ensures .1, c .before .before .before .before .before .before .before .loop .inv .3 .within, c .before .before .before .before .before .before .before .loop .inv .3 .few)
+add-size c =
+    omega (
+      arith,
+      c .listed-size .ensures .1,
+      c .before .before .before .before .before .before .before .loop .inv .3 .within,
+      c .before .before .before .before .before .before .before .loop .inv .3 .few,
+    )
 
 cast-places : tie.Need-cast-places Inv-loop μ-loop Inv-loop2 μ-loop2
-cast-places c = omega (arith, c .before .before .before .before .before .before .loop-test .taken, c .before .before .before .before .before .before .before .loop .inv .1)
+cast-places c =
+    omega (
+      arith,
+      c .before .before .before .before .before .before .loop-test .taken,
+      c .before .before .before .before .before .before .before .loop .inv .1,
+    )
 
 array-write-places : tie.Need-array-write-places Inv-loop μ-loop Inv-loop2 μ-loop2
 array-write-places c = search (needs, c .before .before .before .before .before .before .before .loop .inv .3 .long)
@@ -86,8 +98,13 @@ loop-again c =
     ⊎-elim
     (λ v.
     let takes = ap f (those-take (chosen (a .sel)) _ _ _ on (test ∙ v .0 .taken)) in
-    rw (v .4, v .5, v .6)
-    (omega (arith, more), l .inv .1, l .inv .2, picked-take _ _ (l .inv .3) _ _ _ (v .1 .taken) takes refl (rw (v .2 .ensures) at (v .3 .ensures .0)) (v .3 .ensures .1)))
+    rw (v .4, v .5, v .6) (
+      omega (arith, more),
+      l .inv .1,
+      l .inv .2,
+      picked-take _ _ (l .inv .3) _ _ _ (v .1 .taken) takes refl
+          (rw (v .2 .ensures) at (v .3 .ensures .0)) (v .3 .ensures .1),
+    ))
     (λ w.
     ⊎-elim
     (λ v. rw (v .2, v .3, v .4) (omega (arith, more), l .inv .1, l .inv .2, picked-full _ _ (l .inv .3) _ (λ h. omega (arith, v .1 .left))))
@@ -109,7 +126,8 @@ returns c = let l = c .before .before .before .before .before .before .loop in
     let id = toZ-ofZ (c .before .before .before .before .before .before .before .before .before .before .fits .identifier) in
     let f = map (entryFor (a .p .numbers)) in
     let whole = f (listed (a .sel) (instancesOf (a .t1))) in
-    let none = ap f (those-none (chosen (a .sel)) _ (none-left (a .t1) _ (l .i) (l .inv .1) (l .inv .2) (c .before .before .before .before .before .loop-test .left))) in
+    let none = ap f (those-none (chosen (a .sel)) _
+    (none-left (a .t1) _ (l .i) (l .inv .1) (l .inv .2) (c .before .before .before .before .before .loop-test .left))) in
     let all = picked-done (entryAt (a .p .numbers) (a .t1 .run)) whole (l .inv .3) none in
     let is = l .inv .3 .sum ∙ ap (λ (es : List Entry). length (entriesOctets es)) all in
     let few : l .size ≤ entrySize * instancesMost = omega (arith, l .inv .3 .within, l .inv .3 .few) in
@@ -122,30 +140,63 @@ loop2-holds c = let l = c .before .before .before .before .before .before .loop 
     let id = toZ-ofZ (c .before .before .before .before .before .before .before .before .before .before .fits .identifier) in
     let f = map (entryFor (a .p .numbers)) in
     let whole = f (listed (a .sel) (instancesOf (a .t1))) in
-    let none = ap f (those-none (chosen (a .sel)) _ (none-left (a .t1) _ (l .i) (l .inv .1) (l .inv .2) (c .before .before .before .before .before .loop-test .left))) in
+    let none = ap f (those-none (chosen (a .sel)) _
+    (none-left (a .t1) _ (l .i) (l .inv .1) (l .inv .2) (c .before .before .before .before .before .loop-test .left))) in
     let all = picked-done (entryAt (a .p .numbers) (a .t1 .run)) whole (l .inv .3) none in
     let is = l .inv .3 .sum ∙ ap (λ (es : List Entry). length (entriesOctets es)) all in
     let few : l .size ≤ entrySize * instancesMost = omega (arith, l .inv .3 .within, l .inv .3 .few) in
-    let head = rw id at (c .before .before .before .put-list-head .ensures) in
-    (refl, listing-first _ _ _ _ (omega (arith, l .inv .3 .long, l .inv .3 .few)) (head-after (a .identifier) (take instancesMost whole) is few head (c .if3 .left)) (l .inv .3 .sum))
+    let head = rw id at (c .before .before .before .put-list-head .ensures) in (
+      refl,
+      listing-first _ _ _ _ (omega (arith, l .inv .3 .long, l .inv .3 .few))
+          (head-after (a .identifier) (take instancesMost whole) is few head (c .if3 .left)) (l .inv .3 .sum),
+    )
 
 array-read-place : tie.Need-array-read-place Inv-loop μ-loop Inv-loop2 μ-loop2
-array-read-place c = search (needs, c .before .before .before .before .before .before .before .before .loop .inv .3 .long, c .before .before .before .before .before .before .before .before .loop .inv .3 .few)
+array-read-place c =
+    search (
+      needs,
+      c .before .before .before .before .before .before .before .before .loop .inv .3 .long,
+      c .before .before .before .before .before .before .before .before .loop .inv .3 .few,
+    )
 
 cast-x : tie.Need-cast-x Inv-loop μ-loop Inv-loop2 μ-loop2
-cast-x c = omega (arith, c .before .before .before .before .before .before .before .before .loop .inv .3 .below (c .before .loop2 .m) (c .loop2-test .taken), c .before .before .before .before .before .before .before .before .loop .inv .0, c .before .before .before .before .before .before .before .before .loop .inv .1)
+cast-x c =
+    omega (
+      arith,
+      c .before .before .before .before .before .before .before .before .loop .inv .3 .below (c .before .loop2 .m)
+          (c .loop2-test .taken),
+      c .before .before .before .before .before .before .before .before .loop .inv .0,
+      c .before .before .before .before .before .before .before .before .loop .inv .1,
+    )
 
 mul-x-2 : tie.Need-mul-x-2 Inv-loop μ-loop Inv-loop2 μ-loop2
-mul-x-2 c = omega (arith, c .before .before .before .before .before .before .before .before .loop .inv .3 .below (c .before .loop2 .m) (c .loop2-test .taken), c .before .before .before .before .before .before .before .before .loop .inv .0, c .before .before .before .before .before .before .before .before .loop .inv .1)
+mul-x-2 c =
+    omega (
+      arith,
+      c .before .before .before .before .before .before .before .before .loop .inv .3 .below (c .before .loop2 .m)
+          (c .loop2-test .taken),
+      c .before .before .before .before .before .before .before .before .loop .inv .0,
+      c .before .before .before .before .before .before .before .before .loop .inv .1,
+    )
 
 element-copy-out-x-2 : tie.Need-element-copy-out-x-2 Inv-loop μ-loop Inv-loop2 μ-loop2
-element-copy-out-x-2 c = omega (arith, c .before .before .before .before .before .before .before .before .loop .inv .3 .below (c .before .loop2 .m) (c .loop2-test .taken), c .before .before .before .before .before .before .before .before .loop .inv .0, c .before .before .before .before .before .before .before .before .loop .inv .1, c .before .before .before .before .before .before .before .before .loop .inv .2)
+element-copy-out-x-2 c =
+    omega (
+      arith,
+      c .before .before .before .before .before .before .before .before .loop .inv .3 .below (c .before .loop2 .m)
+          (c .loop2-test .taken),
+      c .before .before .before .before .before .before .before .before .loop .inv .0,
+      c .before .before .before .before .before .before .before .before .loop .inv .1,
+      c .before .before .before .before .before .before .before .before .loop .inv .2,
+    )
 
 served-number-requires-2 : tie.Need-served-number-requires-2 Inv-loop μ-loop Inv-loop2 μ-loop2
 served-number-requires-2 c κs = search needs
 
 write-listed-requires : tie.Need-write-listed-requires Inv-loop μ-loop Inv-loop2 μ-loop2
-write-listed-requires c κs = rw (c .before .served-number2 .ensures) (listing-room _ _ _ _ (c .before .before .before .before .loop2 .inv .1) (c .before .before .before .loop2-test .taken))
+write-listed-requires c κs =
+    rw (c .before .served-number2 .ensures)
+    (listing-room _ _ _ _ (c .before .before .before .before .loop2 .inv .1) (c .before .before .before .loop2-test .taken))
 
 add-m : tie.Need-add-m Inv-loop μ-loop Inv-loop2 μ-loop2
 add-m c = search needs
@@ -154,7 +205,12 @@ loop2-less : tie.Need-loop2-less Inv-loop μ-loop Inv-loop2 μ-loop2
 loop2-less c = search needs
 
 loop2-again : tie.Need-loop2-again Inv-loop μ-loop Inv-loop2 μ-loop2
-loop2-again c = (search needs, listing-next _ _ _ _ (c .before .before .before .before .before .before .before .loop2 .inv .1) (c .before .before .before .before .before .before .loop2-test .taken) (rw (c .before .before .before .before .served-number2 .ensures) at (c .before .before .write-listed .ensures)))
+loop2-again c = (
+  search needs,
+  listing-next _ _ _ _ (c .before .before .before .before .before .before .before .loop2 .inv .1)
+      (c .before .before .before .before .before .before .loop2-test .taken)
+      (rw (c .before .before .before .before .served-number2 .ensures) at (c .before .before .write-listed .ensures)),
+)
 
 same-length-2 : tie.Need-same-length-2 Inv-loop μ-loop Inv-loop2 μ-loop2
 same-length-2 c = search needs
@@ -162,10 +218,12 @@ same-length-2 c = search needs
 returns-2 : tie.Need-returns-2 Inv-loop μ-loop Inv-loop2 μ-loop2
 returns-2 c = let l = c .before .before .before .before .before .before .before .before .loop in
     let a = c .before .before .before .before .before .before .before .before .before .before .before .before .args in
-    let id = toZ-ofZ (c .before .before .before .before .before .before .before .before .before .before .before .before .fits .identifier) in
+    let id = toZ-ofZ (c .before .before .before .before .before .before .before .before .before .before .before .before .fits .identifier)
+    in
     let f = map (entryFor (a .p .numbers)) in
     let whole = f (listed (a .sel) (instancesOf (a .t1))) in
-    let none = ap f (those-none (chosen (a .sel)) _ (none-left (a .t1) _ (l .i) (l .inv .1) (l .inv .2) (c .before .before .before .before .before .before .before .loop-test .left))) in
+    let none = ap f (those-none (chosen (a .sel)) _
+    (none-left (a .t1) _ (l .i) (l .inv .1) (l .inv .2) (c .before .before .before .before .before .before .before .loop-test .left))) in
     let all = picked-done (entryAt (a .p .numbers) (a .t1 .run)) whole (l .inv .3) none in
     let is = l .inv .3 .sum ∙ ap (λ (es : List Entry). length (entriesOctets es)) all in
     let few : l .size ≤ entrySize * instancesMost = omega (arith, l .inv .3 .within, l .inv .3 .few) in
