@@ -19,7 +19,7 @@
 extern "C" {
 #endif
 
-/* The most octets of stack that a call takes of those measured (`./sconcetoad stack`), with what it is handed over by value. */
+/* No call that was measured (`./sconcetoad stack`) takes more octets of stack than this, with what it is handed over by value. */
 #define SCONCETOAD_STACK 12000
 
 /* ---- document 01's numbers */
@@ -44,7 +44,7 @@ enum {
     SCONCETOAD_SPEECH = 1
 };
 
-/* Forms of a number; in a request alone it may be another kind. */
+/* Forms of a number; in a request, and as the served number of an entry that sconcetoad_reply reads, it may be another kind. */
 enum {
     SCONCETOAD_UNKNOWN = 0,
     SCONCETOAD_PUBLIC = 1,
@@ -208,7 +208,7 @@ struct sconcetoad_prefix {
     uint8_t digits[20];
 };
 
-/* The access record: lend it as octets. Flags are 0 or 1; those past a count carry no meaning. */
+/* The access record: lend it as octets. Flags are 0 or 1; places past a count carry no meaning. */
 struct sconcetoad_access {
     uint8_t numbercount;
     struct sconcetoad_number numbers[4];

@@ -12,7 +12,7 @@ pub(crate) const ORIGINALAT: usize = 8;
 const CALLSIZE: usize = 28;
 
 // The most digits of the original number.
-const DIGITS: u8 = 20;
+const DIGITSMOST: u8 = 20;
 
 // The events; what is neither of the first two is no reply.
 pub(crate) const OFFERED: u8 = 0;
@@ -83,7 +83,7 @@ fn original_good(s: &[u8], count: u8) -> bool
     requires { ⌜ length (now s) ≡ callSize ⌝ }
     ensures { λ r. ⌜ r ≡ originalGood (now (s .entry)) count ⌝ }
 {
-    if DIGITS < count {
+    if DIGITSMOST < count {
         return false;
     }
     all_digits(&s[ORIGINALAT..ORIGINALAT + count as usize])

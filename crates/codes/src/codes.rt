@@ -5,7 +5,7 @@ ghost use Rattle.codes.specs.Codes.{ServicePlace, ServiceCode, TrunkReas
 pub const SERVICECOUNT: usize = 16;
 
 // The basic services besides 0, all of them; ascending.
-const SERVICES: [u8; SERVICECOUNT] = [1, 2, 3, 4, 5, 32, 33, 34, 35, 36, 37, 38, 39, 40, 41, 42];
+const SERVICECODES: [u8; SERVICECOUNT] = [1, 2, 3, 4, 5, 32, 33, 34, 35, 36, 37, 38, 39, 40, 41, 42];
 
 const REASONCOUNT: usize = 4;
 
@@ -28,7 +28,7 @@ pub fn service_place(code: u8) -> usize
 {
     let mut i: usize = 0;
     while i < SERVICECOUNT {
-        if SERVICES[i] == code {
+        if SERVICECODES[i] == code {
             return i;
         }
         i += 1;

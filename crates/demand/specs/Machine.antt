@@ -1,4 +1,4 @@
--- An end, an exchange and the path between them, over any step functions (document 01, demand 3: "a path that loses, repeats, delays,
+-- An end, an exchange and the path between them, over any step functions (demand 3: "a path that loses, repeats, delays,
 -- reorders"). What was once sent stays on its way: to deliver is to take any of it, any number of times, in any order; to lose is never
 -- to take it.
 use mathlib.Core.Path.{_≡_}

@@ -29,7 +29,7 @@ const OCTETS: u32 = 256;
 const COUNTS: u32 = 21;
 
 // The bound of a digit, which is kept as its character.
-const DIGITS: u32 = 10;
+const DIGITSBELOW: u32 = 10;
 
 const ZERO: u32 = 48;
 
@@ -74,7 +74,7 @@ fn number_in(s: &[u8], at: usize) -> NumberRead
     if !count.ok {
         return no_number();
     }
-    let read = fields_below(s, count.next, count.value as usize, DIGITS, ZERO);
+    let read = fields_below(s, count.next, count.value as usize, DIGITSBELOW, ZERO);
     if !read.ok {
         return no_number();
     }

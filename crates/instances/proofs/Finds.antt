@@ -242,7 +242,7 @@ module _ (q n s : ℕ) (sel : Selection) (address : Address) where
       stands-those n s sel (placesFrom (subscribedServices p) many 0)
       ∙ rw (h, stands-places n s (subscribedServices p) many 0, le-ltb n 0 (omega arith), zero-add many)
 
-  -- "every selected number and service gets the address, replacing an older one", and none else changes
+  -- "every selected number and service .. gets the address, replacing an older one", and none else changes
   pub find-put :
       (p : Profile) (l : List Instance) →
       forwardedTo q n s (activated p sel address l) ≡

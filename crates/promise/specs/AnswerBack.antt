@@ -34,7 +34,7 @@ pub record ListSaid (identifier : ℤ) (operation : ℕ) (s : List ℕ) (es : Li
 -- The octets s, written for an answer and its entries, say that answer to the end that waits with this identifier and operation: it is
 -- for its own identifier, and the end reads it as what it is.
 abbrev pub SaysBack : ℤ → ℕ → List ℕ → Answer → List Entry → Type 0
--- "outer tag A2, A3, A4: silence": a request is never met by silence
+-- "outer tag A2, A3, A4", "silence": a request is never met by silence
 SaysBack identifier operation s answer.Silence es = ⊥
 -- "identifier NULL": nor by a reject that is nobody's
 SaysBack identifier operation s (answer.Reject whose.Null problem) es = ⊥
