@@ -1,10 +1,10 @@
 -- What a list does to the end: it is read or not, good or not. Assumes nothing.
-use Prim.Native.Nat.{ℕ, _-_, _≤_}
+use Prim.Native.Nat.{_-_, _≤_}
 use mathlib.Core.Path.{_≡_, refl, sym, ap, _∙_}
 use mathlib.Core.Bool.{true, false, false≢true}
 use mathlib.Core.List.{List, map}
 use native.Mathlib.Omega.{arith}
-use lib.ListN.{length, length-append, length-map, length-replicate, replicate}
+use lib.ListN.{length, length-append, length-map, replicate}
 use lib.Seq.{take-append-seam}
 use Rattle.laws.specs.Got.{Got, got, wrong}
 use Rattle.laws.specs.Mark.{known, markNo}

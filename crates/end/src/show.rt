@@ -5,7 +5,6 @@ use crate::end::PROCEDURES;
 use crate::list::every_of;
 use crate::send::mark_at;
 use lists::Entry;
-use lists::INSTANCESMOST;
 use lists::no_entries;
 use profile::read_access;
 use refusals::Refusal;

@@ -1,14 +1,12 @@
 -- Laws of the lines of elements: contents are one element's lines and then the rest. Assumes nothing.
-use Prim.Native.Nat.{ℕ, zero, suc, _+_, _-_, _/_, _%_, _≤_, _<_}
+use Prim.Native.Nat.{ℕ, zero, suc, _+_, _-_, _≤_, _<_}
 use mathlib.Core.Path.{_≡_, refl, sym, ap, _∙_}
-use mathlib.Core.Bool.{Bool}
-use mathlib.Core.List.{List, [], _∷_, _++_}
+use mathlib.Core.List.{List, [], _++_}
 use native.Mathlib.Omega.{arith}
 use lib.ListN.{length}
 use lib.Dec.{leb}
 use borrow.Author.Tests.{le-leb, lt-leb, leb-true, leb-false}
 use Rattle.laws.proofs.Picks.{by-bool}
-use Rattle.laws.specs.Pick.{pick}
 use Rattle.octets.specs.Head.{headAt}
 use Rattle.octets.specs.declared.head.Head.{Head}
 use Rattle.octets.specs.declared.head.Head.the-variants as head

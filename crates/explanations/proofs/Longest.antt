@@ -1,8 +1,8 @@
 -- How long the lines of elements are: at most 30 octets for an octet of the component. Assumes nothing.
 use Prim.Native.Nat.{ℕ, zero, suc, _+_, _-_, _*_, _/_, _%_, _≤_, _<_}
-use mathlib.Core.Path.{_≡_, ap}
-use mathlib.Core.Bool.{true, false}
-use mathlib.Core.List.{List, [], _∷_, _++_}
+use mathlib.Core.Path.{_≡_}
+use mathlib.Core.Bool.{false}
+use mathlib.Core.List.{List, [], _++_}
 use native.Mathlib.Omega.{arith}
 use lib.ListN.{length, length-append}
 use lib.Seq.{slice, length-slice}
@@ -13,7 +13,7 @@ use Rattle.laws.proofs.Picks.{by-bool, pick-ind}
 use Rattle.octets.specs.Head.{headAt}
 use Rattle.octets.specs.declared.head.Head.{Head}
 use Rattle.octets.specs.declared.head.Head.the-variants as head
-use Rattle.octets.proofs.Within.{Within, Lies, within}
+use Rattle.octets.proofs.Within.{Within, within}
 use Rattle.refusals.specs.Refusal.{componentMost}
 use Rattle.skip.specs.Depth.{componentDepth}
 use Rattle.listings.specs.Listing.{hexText}

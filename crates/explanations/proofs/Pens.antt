@@ -1,11 +1,11 @@
 -- The laws of all writers that stop where the output ends: one, and then another (`pen-then`). Assumes nothing.
-use Prim.Native.Nat.{ℕ, zero, suc, min, _+_, _-_, _≤_, _<_}
+use Prim.Native.Nat.{ℕ, zero, suc, _+_, _-_, _≤_, _<_}
 use mathlib.Core.Path.{_≡_, refl, sym, ap, _∙_}
 use mathlib.Core.List.{List, [], _∷_, _++_}
 use native.Mathlib.Omega.{arith}
 use lib.Dec.{leb}
 use borrow.Author.Tests.{leb-true, leb-false}
-use lib.ListN.{length, take, getD, set, length-append}
+use lib.ListN.{length, set, length-append}
 use Rattle.laws.specs.Over.{over}
 use Rattle.laws.proofs.Picks.{by-bool}
 use Rattle.laws.proofs.Over.{over-over, over-nil, over-one, over-cons, length-over}

@@ -1,7 +1,7 @@
 -- The elements of a component, a line each in their order, two blanks further in for each element around it: its tag and its length
 -- octets as they stand, and the contents of one that holds no elements.
 use Prim.Native.Nat.{ℕ, zero, suc, _+_, _-_, _/_, _%_}
-use mathlib.Core.List.{List, [], _∷_, _++_}
+use mathlib.Core.List.{List, [], _++_}
 use lib.Seq.{slice}
 use lib.Dec.{leb, eqb}
 use Rattle.laws.specs.Pick.{pick}

@@ -8,7 +8,6 @@ use codes::service_code;
 use instances::Instance;
 use instances::blank_instance;
 use numbers::Address;
-use numbers::MOST;
 use numbers::Number;
 use numbers::NumberRead;
 use numbers::blank_address;

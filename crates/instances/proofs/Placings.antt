@@ -1,7 +1,7 @@
 -- The places of the numbers and services that a selection names, met one by one: these are the selected ones, their record, and how many
 -- they are. Assumes nothing.
 use Prim.Native.Nat.{ℕ, zero, suc, min, _+_, _-_, _*_, _<_, _≤_}
-use mathlib.Core.Path.{_≡_, refl, sym, ap, _∙_}
+use mathlib.Core.Path.{_≡_, refl, sym, _∙_}
 use mathlib.Core.Bool.{true, false}
 use mathlib.Core.List.{List, [], _∷_, _++_, map}
 use native.Mathlib.Numerals.{add-one}

@@ -53,7 +53,7 @@ use Rattle.exchange.proofs.Arrivals.{done-short, done-answers}
 use Rattle.exchange.proofs.Nexts.{reply-fits, next-good, run-held, applied-holds}
 use Rattle.end.specs.declared.end.End.{End}
 use Rattle.demand.specs.Rules as rules
-use Rattle.demand.specs.Rules.{says-error, says-reject, Served, ExchangeLaws, answering}
+use Rattle.demand.specs.Rules.{says-error, Served, ExchangeLaws, answering}
 use Rattle.promise.specs.AnswerBack.{SaysBack}
 use Rattle.promise.specs.Demand.{Asking, goesDown, sentDown, WholeAllowed}
 use Rattle.promise.proofs.AnswerBack.{known-sent, request-answered}

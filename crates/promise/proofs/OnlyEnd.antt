@@ -1,9 +1,8 @@
 -- Each promise of the crate end admits one answer, and one lent output afterwards. Assumes nothing.
 use Prim.Native.Nat.{ℕ}
-use mathlib.Core.Path.{_≡_, sym, ap, _∙_}
+use mathlib.Core.Path.{_≡_, ap, _∙_}
 use mathlib.Core.Bool.{Bool}
 use mathlib.Core.List.{List}
-use lib.ListN.{getD}
 use Rattle.laws.proofs.Picks.{both}
 use Rattle.refusals.specs.declared.handling.Handling.{Handling}
 use Rattle.refusals.proofs.Handlings.{handling-same}

@@ -24,7 +24,7 @@ use Rattle.listings.proofs.Words.{decimal-one}
 use Rattle.explanations.specs.Text.{chars}
 use Rattle.explanations.specs.Explained.{replyOf, rowSeven, rowLine, operationNo, isOperation, arguedText, askedText, saidText, said}
 use Rattle.explanations.proofs.Rows.{operation-number, operation-negative, said-heard, asked-is, number-pos, number-negsuc}
-use Rattle.promise.specs.Told.{Ends, Tells, RowSix}
+use Rattle.promise.specs.Told.{Tells, RowSix}
 
 -- the exchange and the explanation know the same operations, by the same numbers
 same-operations : (z : ℤ) → isOperation (operationNo z) ≡ knownOperation z

@@ -1,7 +1,7 @@
 -- What the customer end does and shows, as C is told.
 use Prim.Native.Nat.{ℕ}
 use mathlib.Core.Path.{_≡_}
-use mathlib.Core.List.{List, [], _∷_}
+use mathlib.Core.List.{List}
 use lib.ListN.{length, getD}
 use Rattle.laws.specs.Over.{over}
 use Rattle.laws.specs.Mark.{doubt, markNo}

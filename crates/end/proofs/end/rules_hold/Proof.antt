@@ -8,26 +8,18 @@ use Rattle.laws.proofs.Cases.{cases}
 use borrow.Author.Needs.{needs}
 use Rattle.end.proofs.end.rules_hold.Statement.{statement}
 use Rattle.end.proofs.end.rules_hold.Tie as tie
-use Rattle.end.proofs.end.rules_hold.Reads as reads
-use Rattle.end.proofs.end.rules_hold.Lts as lts
-use Rattle.end.proofs.end.marks_good.Reads as marks-good-reads
-use Rattle.requests.proofs.is_sendable.Reads as is-sendable-reads
 
--- src/end.rt:69:9
 returns : tie.Need-returns
 unfolding waitingGood
 returns c = search (cases, pick-last)
 
--- src/end.rt:72:9
 returns-2 : tie.Need-returns-2
 unfolding waitingGood
 returns-2 c = search (cases, pick-last)
 
--- src/end.rt:75:9
 marks-good-requires : tie.Need-marks-good-requires
 marks-good-requires c κs = search needs
 
--- src/end.rt:76:9
 returns-3 : tie.Need-returns-3
 returns-3 c =
     rw (
@@ -37,7 +29,6 @@ returns-3 c =
           (c .before .marks-good .ensures) ∙ not-true _ (c .if3 .taken),
     )
 
--- src/end.rt:79:9
 returns-4 : tie.Need-returns-4
 returns-4 c =
     rw (
@@ -50,7 +41,6 @@ returns-4 c =
           (c .before .before .before .before .before .before .before .before .before .args .e) (c .if4 .taken),
     )
 
--- src/end.rt:82:9
 returns-5 : tie.Need-returns-5
 returns-5 c =
     rw (
@@ -65,7 +55,6 @@ returns-5 c =
           (c .if5 .taken),
     )
 
--- src/end.rt:85:9
 returns-6 : tie.Need-returns-6
 returns-6 c =
     rw (
@@ -80,11 +69,9 @@ returns-6 c =
           (c .before .before .before .before .if4 .left) (c .before .before .if5 .left) (c .if6 .taken),
     )
 
--- src/end.rt:88:5
 is-sendable-requires : tie.Need-is-sendable-requires
 is-sendable-requires c κs = search needs
 
--- src/end.rt:65:1
 returns-7 : tie.Need-returns-7
 returns-7 c =
     rw (

@@ -6,19 +6,14 @@ use mathlib.Core.Path.{sym}
 use borrow.Author.Needs.{needs}
 use Rattle.end.proofs.send.mark_at.Statement.{statement}
 use Rattle.end.proofs.send.mark_at.Tie as tie
-use Rattle.end.proofs.send.mark_at.Reads as reads
-use Rattle.end.proofs.send.mark_at.Lts as lts
 
--- src/send.rt:55:16
 array-read-result : tie.Need-array-read-result
 array-read-result c = search needs
 
--- src/send.rt:55:9
 returns : tie.Need-returns
 unfolding markAt
 returns c = search needs
 
--- src/send.rt:50:1
 returns-2 : tie.Need-returns-2
 returns-2 c = let a = c .before .args in sym (mark-past (a .procedure) (a .t1) (search (cases, unmapped)))
 

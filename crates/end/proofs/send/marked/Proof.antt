@@ -6,19 +6,14 @@ use mathlib.Core.Path.{sym}
 use borrow.Author.Needs.{needs}
 use Rattle.end.proofs.send.marked.Statement.{statement}
 use Rattle.end.proofs.send.marked.Tie as tie
-use Rattle.end.proofs.send.marked.Reads as reads
-use Rattle.end.proofs.send.marked.Lts as lts
 
--- src/send.rt:66:9
 array-write-next : tie.Need-array-write-next
 array-write-next c = search needs
 
--- src/send.rt:60:1
 returns : tie.Need-returns
 unfolding marked
 returns c = search needs
 
--- src/send.rt:60:1
 returns-2 : tie.Need-returns-2
 returns-2 c = let a = c .before .args in sym (marked-past (a .procedure) (a .mark) (a .marks) (search (cases, unmapped)))
 

@@ -22,14 +22,6 @@ use Rattle.end.proofs.Sendings.{refused-sends, all-sends}
 use borrow.Author.Needs.{needs}
 use Rattle.end.proofs.send.send.Statement.{statement}
 use Rattle.end.proofs.send.send.Tie as tie
-use Rattle.end.proofs.send.send.Reads as reads
-use Rattle.end.proofs.send.send.Lts as lts
-use Rattle.end.proofs.end.rules_hold.Reads as rules-hold-reads
-use Rattle.end.proofs.send.refuses.Reads as refuses-reads
-use Rattle.instances.proofs.run.Run.good.Reads as good-reads
-use Rattle.profile.proofs.read_access.Reads as read-access-reads
-use Rattle.requests.proofs.is_sendable.Reads as is-sendable-reads
-use Rattle.requests.proofs.put_request.Reads as put-request-reads
 
 -- from a place at which a test was passed, that of the test before it
 abbrev from2 : tie.Else2 → tie.Else1
@@ -71,52 +63,41 @@ good c =
 below : (c : tie.Else6) → entry4 (c .before .before .before .before) .args .e .used < usedMost
 below c = omega (arith, used-most instancesMost _ _ (good (c .before .before .before .before)), c .if6 .left)
 
--- src/send.rt:114:9
 refuses-requires : tie.Need-refuses-requires
 refuses-requires c κs = search needs
 
--- src/send.rt:114:9
 returns : tie.Need-returns
 returns c = refused-sends _ _ _ ShortOutput _ (sends-short _ _ _ _ _ (omega (arith, c .before .if1 .taken))) (c .refuses .ensures)
 
--- src/send.rt:116:9
 read-access-requires : tie.Need-read-access-requires
 read-access-requires c κs = search needs
 
--- src/send.rt:118:9
 refuses-requires-2 : tie.Need-refuses-requires-2
 refuses-requires-2 c κs = search needs
 
--- src/send.rt:118:9
 returns-2 : tie.Need-returns-2
 returns-2 c =
     let bad = ap (λ (q : AccessRead). q .ok) (sym (c .before .before .before .read-access .ensures)) ∙ not-true _ (c .before .if2 .taken) in
     refused-sends _ _ _ BadProfile _ (sends-profile _ _ _ _ _ (room (c .before .before .before .before)) bad) (c .refuses2 .ensures)
 
--- src/send.rt:121:9
 rules-hold-requires : tie.Need-rules-hold-requires
 rules-hold-requires c κs = search needs
 
--- src/send.rt:122:9
 refuses-requires-3 : tie.Need-refuses-requires-3
 refuses-requires-3 c κs = search needs
 
--- src/send.rt:122:9
 returns-3 : tie.Need-returns-3
 returns-3 c =
     let d = c .before .before .before .before in
     let bad = rules-fail instancesMost _ _ (sym (c .before .before .rules-hold .ensures) ∙ not-true _ (c .before .if3 .taken)) in
     refused-sends _ _ _ BadTable _ (sends-end _ _ _ _ _ (room (from2 d)) (ok d) bad) (c .refuses3 .ensures)
 
--- src/send.rt:125:9
 good-requires : tie.Need-good-requires
 good-requires c κs = search needs
 
--- src/send.rt:126:9
 refuses-requires-4 : tie.Need-refuses-requires-4
 refuses-requires-4 c κs = search needs
 
--- src/send.rt:126:9
 returns-4 : tie.Need-returns-4
 returns-4 c =
     let d = c .before .before .before .before in
@@ -125,11 +106,9 @@ returns-4 c =
     refused-sends _ _ _ BadTable _
     (sends-end _ _ _ _ _ (room (from2 (from3 d))) (ok (from3 d)) (rules-pass instancesMost _ _ (rules d) ∙ bad)) (c .refuses4 .ensures)
 
--- src/send.rt:129:9
 refuses-requires-5 : tie.Need-refuses-requires-5
 refuses-requires-5 c κs = search needs
 
--- src/send.rt:129:9
 returns-5 : tie.Need-returns-5
 returns-5 c =
     let d = c .before .before .before in
@@ -137,11 +116,9 @@ returns-5 c =
     refused-sends _ _ _ Outstanding _
     (sends-waiting _ _ _ _ _ (room (from2 k)) (ok k) (good d) (c .before .if5 .taken)) (c .refuses5 .ensures)
 
--- src/send.rt:132:9
 refuses-requires-6 : tie.Need-refuses-requires-6
 refuses-requires-6 c κs = search needs
 
--- src/send.rt:132:9
 returns-6 : tie.Need-returns-6
 returns-6 c =
     let d = c .before .before .before .before .before in
@@ -150,15 +127,12 @@ returns-6 c =
     (sends-last _ _ _ _ _ (room (from2 k)) (ok k) (good d) (c .before .before .before .if5 .left) (c .before .if6 .taken))
     (c .refuses6 .ensures)
 
--- src/send.rt:134:9
 is-sendable-requires : tie.Need-is-sendable-requires
 is-sendable-requires c κs = search needs
 
--- src/send.rt:135:9
 refuses-requires-7 : tie.Need-refuses-requires-7
 refuses-requires-7 c κs = search needs
 
--- src/send.rt:135:9
 returns-7 : tie.Need-returns-7
 returns-7 c =
     let d = c .before .before .before .before .before .before .before in
@@ -168,23 +142,18 @@ returns-7 c =
     (sends-unfit _ _ _ _ _ (room (from2 k)) (ok k) (good d) (c .before .before .before .before .before .if5 .left)
     (c .before .before .before .if6 .left) unfit) (c .refuses7 .ensures)
 
--- src/send.rt:137:22
 add-identifier : tie.Need-add-identifier
 add-identifier c = let h = below (c .before .before .before) in search (needs, h)
 
--- src/send.rt:138:34
 cast-put-request : tie.Need-cast-put-request
 cast-put-request c = omega (arith, below (c .before .before .before .before))
 
--- src/send.rt:138:9
 put-request-requires : tie.Need-put-request-requires
 put-request-requires c κs = search needs
 
--- src/send.rt:110:1
 same-length : tie.Need-same-length
 same-length c = search needs
 
--- src/send.rt:110:1
 returns-8 : tie.Need-returns-8
 returns-8 c =
     let m = c .before .before .before .before .before .before .before in

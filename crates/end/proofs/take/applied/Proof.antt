@@ -3,45 +3,31 @@ use mathlib.Core.Path.{_∙_}
 use borrow.Author.Needs.{needs}
 use Rattle.end.proofs.take.applied.Statement.{statement}
 use Rattle.end.proofs.take.applied.Tie as tie
-use Rattle.end.proofs.take.applied.Reads as reads
-use Rattle.end.proofs.take.applied.Lts as lts
-use Rattle.end.proofs.take.closed.Reads as closed-reads
-use Rattle.end.proofs.take.doubted.Reads as doubted-reads
-use Rattle.rules.proofs.apply_request.Reads as apply-request-reads
-use Rattle.rules.proofs.judge_request.Reads as judge-request-reads
 
--- src/take.rt:70:11
 judge-request-requires : tie.Need-judge-request-requires
 judge-request-requires c κs = search needs
 
--- src/take.rt:71:40
 enum-told : tie.Need-enum-told
 enum-told c = search needs
 
--- src/take.rt:71:40
 doubted-requires : tie.Need-doubted-requires
 doubted-requires c κs = search needs
 
--- src/take.rt:73:17
 enum-told-2 : tie.Need-enum-told-2
 enum-told-2 c = search needs
 
--- src/take.rt:73:17
 apply-request-requires : tie.Need-apply-request-requires
 apply-request-requires c κs = search needs
 
--- src/take.rt:74:13
 closed-requires : tie.Need-closed-requires
 closed-requires c κs = search needs
 
--- src/take.rt:65:1
 returns : tie.Need-returns
 returns c =
     let a = c .before .before .before .before .before .before .args in
     c .doubted .ensures ∙ applied-fails (a .p) (a .e) _ (c .before .before .before .judge-request .ensures .verdict) _
     (c .before .enum-told .given .1)
 
--- src/take.rt:65:1
 returns-2 : tie.Need-returns-2
 returns-2 c =
     let a = c .before .before .before .before .before .before .before .args in

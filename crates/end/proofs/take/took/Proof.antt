@@ -8,71 +8,49 @@ use mathlib.Core.Path.{_∙_}
 use borrow.Author.Needs.{needs}
 use Rattle.end.proofs.take.took.Statement.{statement}
 use Rattle.end.proofs.take.took.Tie as tie
-use Rattle.end.proofs.take.took.Reads as reads
-use Rattle.end.proofs.take.took.Lts as lts
-use Rattle.answers.proofs.reply_to.Reads as reply-to-reads
-use Rattle.end.proofs.take.applied.Reads as applied-reads
-use Rattle.end.proofs.take.closed.Reads as closed-reads
-use Rattle.end.proofs.take.doubted.Reads as doubted-reads
-use Rattle.end.proofs.take.learned.Reads as learned-reads
 
--- src/take.rt:102:9
 returns : tie.Need-returns
 returns c = let a = c .before .before .before .args in took-idle (a .p) (a .e) (a .s .now) (c .if1 .taken)
 
--- src/take.rt:104:23
 cast-reply-to : tie.Need-cast-reply-to
 cast-reply-to c = omega (arith, c .before .before .before .before .pre)
 
--- src/take.rt:104:11
 reply-to-requires : tie.Need-reply-to-requires
 reply-to-requires c κs = search needs
 
--- src/take.rt:105:27
 enum-told : tie.Need-enum-told
 enum-told c = search needs
 
--- src/take.rt:106:28
 enum-told-2 : tie.Need-enum-told-2
 enum-told-2 c = search needs
 
--- src/take.rt:106:28
 doubted-requires : tie.Need-doubted-requires
 doubted-requires c κs = search needs
 
--- src/take.rt:108:17
 enum-told-3 : tie.Need-enum-told-3
 enum-told-3 c = search needs
 
--- src/take.rt:109:13
 closed-requires : tie.Need-closed-requires
 closed-requires c κs = search needs
 
--- src/take.rt:111:24
 enum-told-4 : tie.Need-enum-told-4
 enum-told-4 c = search needs
 
--- src/take.rt:111:24
 applied-requires : tie.Need-applied-requires
 applied-requires c κs = search needs
 
--- src/take.rt:112:25
 enum-known-at : tie.Need-enum-known-at
 enum-known-at c = search needs
 
--- src/take.rt:112:38
 learned-requires : tie.Need-learned-requires
 learned-requires c κs = search needs
 
--- src/take.rt:113:25
 enum-told-5 : tie.Need-enum-told-5
 enum-told-5 c = search needs
 
--- src/take.rt:113:25
 doubted-requires-2 : tie.Need-doubted-requires-2
 doubted-requires-2 c κs = search needs
 
--- src/take.rt:98:1
 returns-2 : tie.Need-returns-2
 returns-2 c =
     let id : SFits w16 (pos (c .before .before .before .before .before .before .before .args .e .used)) =
@@ -82,7 +60,6 @@ returns-2 c =
     (c .before .before .before .before .before .before .before .args .s .now) _ _ (c .before .before .before .before .if1 .left)
     (rw (toZ-ofZ id) at (c .before .before .reply-to .ensures)) (c .enum-told .given .1)
 
--- src/take.rt:98:1
 returns-3 : tie.Need-returns-3
 returns-3 c =
     let id : SFits w16 (pos (c .before .before .before .before .before .before .before .before .args .e .used)) =
@@ -93,7 +70,6 @@ returns-3 c =
     (c .before .before .before .before .before .if1 .left) (rw (toZ-ofZ id) at (c .before .before .before .reply-to .ensures))
     (c .before .enum-told2 .given .1)
 
--- src/take.rt:98:1
 returns-4 : tie.Need-returns-4
 returns-4 c =
     let id : SFits w16 (pos (c .before .before .before .before .before .before .before .before .before .args .e .used)) =
@@ -104,7 +80,6 @@ returns-4 c =
     (c .before .before .before .before .before .before .if1 .left)
     (rw (toZ-ofZ id) at (c .before .before .before .before .reply-to .ensures)) (c .before .before .enum-told3 .given .1)
 
--- src/take.rt:98:1
 returns-5 : tie.Need-returns-5
 returns-5 c =
     let id : SFits w16 (pos (c .before .before .before .before .before .before .before .before .args .e .used)) =
@@ -115,7 +90,6 @@ returns-5 c =
     (c .before .before .before .before .before .if1 .left) (rw (toZ-ofZ id) at (c .before .before .before .reply-to .ensures))
     (c .before .enum-told4 .given .1)
 
--- src/take.rt:98:1
 returns-6 : tie.Need-returns-6
 returns-6 c =
     let id : SFits w16 (pos (c .before .before .before .before .before .before .before .before .before .args .e .used)) =
@@ -126,7 +100,6 @@ returns-6 c =
     (c .before .before .before .before .before .before .if1 .left)
     (rw (toZ-ofZ id) at (c .before .before .before .before .reply-to .ensures)) (c .before .before .at .given .1)
 
--- src/take.rt:98:1
 returns-7 : tie.Need-returns-7
 returns-7 c =
     let id : SFits w16 (pos (c .before .before .before .before .before .before .before .before .args .e .used)) =

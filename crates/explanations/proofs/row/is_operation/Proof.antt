@@ -2,7 +2,6 @@ use Rattle.explanations.specs.Explained.{isOperation}
 use mathlib.Core.Path.{sym}
 use borrow.Author.Tests.{eq-eqb, ne-eqb}
 use Rattle.laws.proofs.Picks.{pick-last}
-use borrow.Author.Needs.{needs}
 use Rattle.explanations.proofs.row.is_operation.Statement.{statement}
 use Rattle.explanations.proofs.row.is_operation.Tie as tie
 

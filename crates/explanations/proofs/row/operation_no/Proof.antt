@@ -1,7 +1,6 @@
 use native.Mathlib.Omega.{arith}
 use Rattle.values.proofs.Signs.{machine-positive}
 use Rattle.explanations.proofs.Rows.{number-negative, number-positive}
-use borrow.Author.Needs.{needs}
 use Rattle.explanations.proofs.row.operation_no.Statement.{statement}
 use Rattle.explanations.proofs.row.operation_no.Tie as tie
 

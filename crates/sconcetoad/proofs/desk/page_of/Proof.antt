@@ -5,35 +5,25 @@ use mathlib.Core.Path.{sym, ap}
 use borrow.Author.Needs.{needs}
 use Rattle.sconcetoad.proofs.desk.page_of.Statement.{statement}
 use Rattle.sconcetoad.proofs.desk.page_of.Tie as tie
-use Rattle.sconcetoad.proofs.desk.page_of.Reads as reads
-use Rattle.sconcetoad.proofs.desk.page_of.Lts as lts
-use Rattle.refusals.proofs.refusal_no.Reads as refusal-no-reads
 
--- src/desk.rt:163:26
 enum-known-shown : tie.Need-enum-known-shown
 enum-known-shown c = search needs
 
--- src/desk.rt:164:22
 refusal-no-requires : tie.Need-refusal-no-requires
 refusal-no-requires c κs = search needs
 
--- src/desk.rt:168:24
 enum-known-shown-2 : tie.Need-enum-known-shown-2
 enum-known-shown-2 c = search needs
 
--- src/desk.rt:173:25
 enum-told : tie.Need-enum-told
 enum-told c = search needs
 
--- src/desk.rt:159:1
 returns : tie.Need-returns
 returns c = rw (c .refusal-no .ensures) (ap (λ (s : Shown). pageOf (shownNo s)) (sym (c .before .before .shown .given .1)))
 
--- src/desk.rt:159:1
 returns-2 : tie.Need-returns-2
 returns-2 c = ap (λ (s : Shown). pageOf (shownNo s)) (sym (c .before .shown2 .given .1))
 
--- src/desk.rt:159:1
 returns-3 : tie.Need-returns-3
 returns-3 c = ap (λ (s : Shown). pageOf (shownNo s)) (sym (c .enum-told .given .1))
 

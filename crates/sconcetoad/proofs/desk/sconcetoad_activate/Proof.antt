@@ -3,24 +3,16 @@ use mathlib.Core.Path.{ap, _∙_}
 use borrow.Author.Needs.{needs}
 use Rattle.sconcetoad.proofs.desk.sconcetoad_activate.Statement.{statement}
 use Rattle.sconcetoad.proofs.desk.sconcetoad_activate.Tie as tie
-use Rattle.sconcetoad.proofs.desk.sconcetoad_activate.Reads as reads
-use Rattle.sconcetoad.proofs.desk.sconcetoad_activate.Lts as lts
-use Rattle.end.proofs.end.End.activate.Reads as activate-reads
-use Rattle.sconcetoad.proofs.desk.refusal_in.Reads as refusal-in-reads
 
--- src/desk.rt:81:9
 activate-requires : tie.Need-activate-requires
 activate-requires c κs = search needs
 
--- src/desk.rt:85:18
 refusal-in-requires : tie.Need-refusal-in-requires
 refusal-in-requires c κs = search needs
 
--- src/desk.rt:72:1
 same-length : tie.Need-same-length
 same-length c = search needs
 
--- src/desk.rt:72:1
 returns : tie.Need-returns
 returns c = record {
   refusal = c .refusal-in .ensures ∙ ap refusalIn (c .before .before .before .before .activate .ensures .told);

@@ -4,7 +4,6 @@ use Rattle.testtext.specs.Line.{nextNumber}
 use borrow.Author.Needs.{needs}
 use Rattle.testtext.proofs.line.next_number.Statement.{statement}
 use Rattle.testtext.proofs.line.next_number.Tie as tie
-use Rattle.testtext.proofs.hex.hex_digit.Reads as hex-digit-reads
 
 returns : tie.Need-returns
 unfolding nextNumber

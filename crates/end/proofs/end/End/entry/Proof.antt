@@ -5,31 +5,19 @@ use mathlib.Core.Path.{sym, ap, _∙_}
 use borrow.Author.Needs.{needs}
 use Rattle.end.proofs.end.End.entry.Statement.{statement}
 use Rattle.end.proofs.end.End.entry.Tie as tie
-use Rattle.end.proofs.end.End.entry.Reads as reads
-use Rattle.end.proofs.end.End.entry.Lts as lts
-use Rattle.end.proofs.end.End.shown.Reads as shown-reads
-use Rattle.end.proofs.list.every_of.Reads as every-of-reads
-use Rattle.instances.proofs.run.Run.entries.Reads as entries-reads
-use Rattle.lists.proofs.no_entries.Reads as no-entries-reads
-use Rattle.profile.proofs.read_access.Reads as read-access-reads
 
--- src/show.rt:65:13
 shown-requires : tie.Need-shown-requires
 shown-requires c κs = search needs
 
--- src/show.rt:66:20
 no-entries-requires : tie.Need-no-entries-requires
 no-entries-requires c κs = search needs
 
--- src/show.rt:67:21
 element-copy-out-blank : tie.Need-element-copy-out-blank
 element-copy-out-blank c = search needs
 
--- src/show.rt:69:28
 enum-known-shown : tie.Need-enum-known-shown
 enum-known-shown c = search needs
 
--- src/show.rt:71:21
 returns : tie.Need-returns
 returns c =
     let a = c .before .before .before .before .before .before .before .before .args in
@@ -38,19 +26,15 @@ returns c =
     (entry-none (a .access .now) (a .self) (a .procedure) (a .i) _ is
     (omega (arith, out-count (a .access .now) (a .self) (a .procedure) _ is, c .if1 .taken)))
 
--- src/show.rt:77:21
 read-access-requires : tie.Need-read-access-requires
 read-access-requires c κs = search needs
 
--- src/show.rt:80:21
 every-of-requires : tie.Need-every-of-requires
 every-of-requires c κs = search needs
 
--- src/show.rt:81:28
 entries-requires : tie.Need-entries-requires
 entries-requires c κs = search needs
 
--- src/show.rt:82:29
 mul-entry : tie.Need-mul-entry
 mul-entry c =
     let a = c .before .before .before .before .before .before .before .before .before .before .before .before .before .args in
@@ -59,7 +43,6 @@ mul-entry c =
     ∙ c .before .before .before .before .before .before .before .before .before .before .before .shown .ensures in
     omega (arith, count-most (a .access .now) (a .self) (a .procedure) _ is, c .before .before .before .before .before .if1 .left)
 
--- src/show.rt:82:29
 element-copy-out-entry : tie.Need-element-copy-out-entry
 element-copy-out-entry c =
     let a = c .before .before .before .before .before .before .before .before .before .before .before .before .before .args in
@@ -68,15 +51,12 @@ element-copy-out-entry c =
     ∙ c .before .before .before .before .before .before .before .before .before .before .before .shown .ensures in
     omega (arith, count-most (a .access .now) (a .self) (a .procedure) _ is, c .before .before .before .before .before .if1 .left)
 
--- src/show.rt:89:30
 enum-known-shown-2 : tie.Need-enum-known-shown-2
 enum-known-shown-2 c = search needs
 
--- src/show.rt:95:24
 enum-told : tie.Need-enum-told
 enum-told c = search needs
 
--- src/show.rt:62:5
 returns-2 : tie.Need-returns-2
 returns-2 c =
     let a = c .before .before .before .before .before .before .before .before .before .before .before .before .before .before .args in
@@ -88,7 +68,6 @@ returns-2 c =
     (rw (c .before .before .every-of .ensures, c .before .before .before .before .before .read-access .ensures) at
     (c .before .entries .ensures))
 
--- src/show.rt:62:5
 returns-3 : tie.Need-returns-3
 returns-3 c =
     let a = c .before .before .before .before .before .before .before .args in
@@ -96,7 +75,6 @@ returns-3 c =
     rw (c .before .before .before .before .no-entries .ensures)
     (entry-none (a .access .now) (a .self) (a .procedure) (a .i) _ is (out-refused (a .access .now) (a .self) (a .procedure) _ (a .i) is))
 
--- src/show.rt:62:5
 returns-4 : tie.Need-returns-4
 returns-4 c =
     let a = c .before .before .before .before .before .before .args in

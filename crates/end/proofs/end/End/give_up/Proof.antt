@@ -7,22 +7,13 @@ use mathlib.Core.Path.{sym, ap, _∙_}
 use borrow.Author.Needs.{needs}
 use Rattle.end.proofs.end.End.give_up.Statement.{statement}
 use Rattle.end.proofs.end.End.give_up.Tie as tie
-use Rattle.end.proofs.end.End.give_up.Reads as reads
-use Rattle.end.proofs.end.End.give_up.Lts as lts
-use Rattle.end.proofs.end.End.good.Reads as good-reads
-use Rattle.end.proofs.take.doubted.Reads as doubted-reads
-use Rattle.end.proofs.take.refuses.Reads as refuses-reads
-use Rattle.profile.proofs.read_access.Reads as read-access-reads
 
--- src/take.rt:153:13
 read-access-requires : tie.Need-read-access-requires
 read-access-requires c κs = search needs
 
--- src/take.rt:155:13
 refuses-requires : tie.Need-refuses-requires
 refuses-requires c κs = search needs
 
--- src/take.rt:155:13
 returns : tie.Need-returns
 returns c =
     let a = c .before .before .before .before .before .args in
@@ -31,15 +22,12 @@ returns c =
     (ap (λ (q : AccessRead). q .ok) (sym (c .before .before .before .read-access .ensures)) ∙ not-true _ (c .before .if1 .taken)))
     (c .refuses .ensures)
 
--- src/take.rt:158:13
 good-requires : tie.Need-good-requires
 good-requires c κs = search needs
 
--- src/take.rt:159:13
 refuses-requires-2 : tie.Need-refuses-requires-2
 refuses-requires-2 c κs = search needs
 
--- src/take.rt:159:13
 returns-2 : tie.Need-returns-2
 returns-2 c =
     let a = c .before .before .before .before .before .before .before .before .args in
@@ -50,7 +38,6 @@ returns-2 c =
     (rw (c .before .before .before .before .before .before .read-access .ensures) at
     (sym (c .before .before .good2 .ensures) ∙ not-true _ (c .before .if2 .taken)))) (c .refuses2 .ensures)
 
--- src/take.rt:162:13
 returns-3 : tie.Need-returns-3
 returns-3 c =
     let a = c .before .before .before .before .before .before .before .before .before .args in
@@ -62,11 +49,9 @@ returns-3 c =
     (sym (c .before .before .before .good2 .ensures) ∙ not-false _ (c .before .before .if2 .left))))
     (sym (gave-nothing (a .self) (c .if3 .taken)))
 
--- src/take.rt:167:13
 doubted-requires : tie.Need-doubted-requires
 doubted-requires c κs = search needs
 
--- src/take.rt:150:5
 returns-4 : tie.Need-returns-4
 returns-4 c =
     let a = c .before .before .before .before .before .before .before .before .before .before .args in

@@ -5,26 +5,18 @@ use mathlib.Core.Path.{sym, _∙_}
 use borrow.Author.Needs.{needs}
 use Rattle.end.proofs.end.End.good.Statement.{statement}
 use Rattle.end.proofs.end.End.good.Tie as tie
-use Rattle.end.proofs.end.End.good.Reads as reads
-use Rattle.end.proofs.end.End.good.Lts as lts
-use Rattle.end.proofs.end.rules_hold.Reads as rules-hold-reads
-use Rattle.instances.proofs.run.Run.good.Reads as good-reads
 
--- src/end.rt:96:13
 rules-hold-requires : tie.Need-rules-hold-requires
 rules-hold-requires c κs = search needs
 
--- src/end.rt:97:13
 returns : tie.Need-returns
 returns c =
     let a = c .before .before .args in
     sym (rules-fail instancesMost (a .p) (a .self) (sym (c .before .rules-hold .ensures) ∙ not-true _ (c .if1 .taken)))
 
--- src/end.rt:100:9
 good-requires : tie.Need-good-requires
 good-requires c κs = search needs
 
--- src/end.rt:93:5
 returns-2 : tie.Need-returns-2
 returns-2 c =
     let a = c .before .before .before .before .args in

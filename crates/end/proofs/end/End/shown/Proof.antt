@@ -10,30 +10,19 @@ use mathlib.Core.Path.{sym, ap, _∙_}
 use borrow.Author.Needs.{needs}
 use Rattle.end.proofs.end.End.shown.Statement.{statement}
 use Rattle.end.proofs.end.End.shown.Tie as tie
-use Rattle.end.proofs.end.End.shown.Reads as reads
-use Rattle.end.proofs.end.End.shown.Lts as lts
-use Rattle.end.proofs.end.End.good.Reads as good-reads
-use Rattle.end.proofs.list.every_of.Reads as every-of-reads
-use Rattle.end.proofs.send.mark_at.Reads as mark-at-reads
-use Rattle.instances.proofs.run.Run.chosen_count.Reads as chosen-count-reads
-use Rattle.profile.proofs.read_access.Reads as read-access-reads
 
--- src/show.rt:33:13
 read-access-requires : tie.Need-read-access-requires
 read-access-requires c κs = search needs
 
--- src/show.rt:35:13
 returns : tie.Need-returns
 returns c =
     let a = c .before .before .before .before .args in
     sym (shown-profile (a .access .now) (a .self) (a .procedure)
     (ap (λ (q : AccessRead). q .ok) (sym (c .before .before .read-access .ensures)) ∙ not-true _ (c .if1 .taken)))
 
--- src/show.rt:40:13
 good-requires : tie.Need-good-requires
 good-requires c κs = search needs
 
--- src/show.rt:41:13
 returns-2 : tie.Need-returns-2
 returns-2 c =
     let a = c .before .before .before .before .before .before .before .args in
@@ -43,7 +32,6 @@ returns-2 c =
     (rw (c .before .before .before .before .before .read-access .ensures) at
     (sym (c .before .good2 .ensures) ∙ not-true _ (c .if2 .taken))))
 
--- src/show.rt:46:13
 returns-3 : tie.Need-returns-3
 returns-3 c =
     let a = c .before .before .before .before .before .before .before .before .args in
@@ -53,11 +41,9 @@ returns-3 c =
     (rw (c .before .before .before .before .before .before .read-access .ensures) at
     (sym (c .before .before .good2 .ensures) ∙ not-false _ (c .before .if2 .left))) (omega (arith, c .if3 .taken)))
 
--- src/show.rt:51:12
 mark-at-requires : tie.Need-mark-at-requires
 mark-at-requires c κs = search needs
 
--- src/show.rt:52:13
 returns-4 : tie.Need-returns-4
 returns-4 c =
     let a = c .before .before .before .before .before .before .before .before .before .before .before .args in
@@ -68,15 +54,12 @@ returns-4 c =
     (sym (c .before .before .before .before .before .good2 .ensures) ∙ not-false _ (c .before .before .before .before .if2 .left)))
     (omega (arith, c .before .before .before .if3 .left)) (λ h. c .if4 .taken (c .before .mark-at .ensures ∙ h)))
 
--- src/show.rt:55:13
 every-of-requires : tie.Need-every-of-requires
 every-of-requires c κs = search needs
 
--- src/show.rt:57:20
 chosen-count-requires : tie.Need-chosen-count-requires
 chosen-count-requires c κs = search needs
 
--- src/show.rt:30:5
 returns-5 : tie.Need-returns-5
 returns-5 c =
     let a = c .before .before .before .before .before .before .before .before .before .before .before .before .before .before .args in
