@@ -12,7 +12,7 @@ pub const CFB: i32 = 1;
 pub const CFNR: i32 = 2;
 pub const PROCEDURES: [i32; 3] = [CFU, CFB, CFNR];
 
-/// Redirecting reasons for the trunk, by procedure.
+/// The reasons of a diversion, by procedure.
 pub const REASONS: [i32; 3] = [1, 2, 3];
 
 pub const ACTIVATION: i32 = 7;

@@ -36,7 +36,7 @@ freshEnd = record {
   picture = packed [];
 }
 
--- every way to close a request is this: its procedure gets a mark, and there is a picture
+-- every way to close a request is this: its procedure gets this mark, and the end this picture
 unfoldable pub closed : ℕ → Run → End → End
 closed mark picture e = record {
   used = e .used;

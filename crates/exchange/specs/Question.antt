@@ -48,10 +48,12 @@ abbrev pub codeOf : ℤ → ℕ
 codeOf (pos n) = n
 codeOf (negsuc n) = 0
 
+-- "argument not one last element as in clause 7.1 and the rules above"
 abbrev pub argued : ℤ → Operation → Got Request → Question
 argued identifier operation (got r place) = asks identifier (codeOf (operation .value)) r
 argued identifier operation wrong = rejects (Own identifier) (Invoke 2)
 
+-- "counted end, identifier not above last handled", then "operation not 7, 8, 11", then its argument
 unfoldable pub invoked : Profile → ℕ → List ℕ → ℤ → Operation → ℕ → ℕ → Question
 invoked p last s identifier operation at end =
     pick (duplicate p last identifier) (rejects (Own identifier) (Invoke 0))

@@ -51,6 +51,7 @@ verdictOf p t identifier operation r none = resultOf p t identifier operation r
 verdictOf p t identifier operation r (some error) =
     stays (tableOf (lastAfter p identifier (t .last)) (t .run)) (answer.Error identifier error)
 
+-- a request is judged by the instances of the table, and changes them or not
 unfoldable pub handled : Profile → Table → ℤ → ℕ → Request → Step
 handled p t identifier operation r =
     verdictOf p t identifier operation r (judge instancesMost p operation r (instancesOf (t .run)))

@@ -52,7 +52,7 @@ sameNumber a b =
     ∷ sameDigits (digitsOf a) (digitsOf b)
     ∷ [])
 
--- whether an access takes two numbers for the same
+-- whether an access takes two numbers for the same; a profile may come to have a say in it
 unfoldable pub same : Profile → Number → Number → Bool
 same p a b = sameNumber a b
 

@@ -46,12 +46,15 @@ passing (some error) renews = false
 
 -- ---- the tests of every request
 
+-- "not in use"
 abbrev pub notInUse : Profile → Bool
 notInUse p = eqb (p .inuse) 0
 
+-- "three subscribed flags (cfu, cfb, cfnr)"
 unfoldable pub isSubscribed : Profile → ℕ → Bool
 isSubscribed p procedure = not (eqb (getD (p .subscribed) procedure 0) 0)
 
+-- "procedure not subscribed"
 abbrev pub notSubscribed : Profile → Request → Bool
 notSubscribed p r = not (isSubscribed p (r .procedure))
 
@@ -106,7 +109,7 @@ selectedSame p asked to from [] = false
 selectedSame p asked to from (n ∷ ns) =
     any (all (named everyNumber asked from ∷ same p n to ∷ []) ∷ selectedSame p asked to (1 + from) ns ∷ [])
 
--- whether so many instances of a procedure may be, over the limit
+-- whether a procedure may have so many instances, over the limit; a profile may come to have a say in it
 unfoldable pub fits : ℕ → Profile → ℕ → Bool
 fits most p count = leb count most
 
