@@ -1,4 +1,5 @@
 // The record of an end, and whether it breaks a rule.
+use instances::PROCEDURES;
 use instances::Run;
 use instances::fresh_run;
 use profile::Profile;
@@ -8,9 +9,6 @@ use requests::is_sendable;
 ghost use mathlib.Core.Path.{_≡_};
 ghost use Rattle.laws.specs.Tests.{all};
 ghost use Rattle.end.specs.End.{endRules, marksGood, FreshEnd, EndGood};
-
-// The procedures that have a mark.
-pub(crate) const PROCEDURES: usize = 3;
 
 // A mark: the procedure is known, or in doubt.
 pub(crate) const KNOWN: u8 = 1;

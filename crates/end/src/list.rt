@@ -1,4 +1,6 @@
 // What the end makes of a list's entries (document 01, "The customer end").
+use instances::EVERYNUMBER;
+use instances::EVERYSERVICE;
 use instances::Instance;
 use instances::Run;
 use instances::Selection;
@@ -16,11 +18,6 @@ ghost use Rattle.instances.specs.Places.{runMost};
 ghost use Rattle.lists.specs.Entries.{instancesMost, entriesIn};
 ghost use Rattle.instances.specs.Run.{instancesOf, packed};
 ghost use Rattle.end.specs.Listed.{instanceFor, instancesListed, listGood, everyOf};
-
-// What stands for every number and for every service in a selection.
-const EVERYNUMBER: u8 = 255;
-
-const EVERYSERVICE: u8 = 0;
 
 // Every instance of a procedure.
 pub(crate) fn every_of(procedure: u8) -> Selection

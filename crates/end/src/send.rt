@@ -1,17 +1,19 @@
 // The end sends a request, one at a time (document 01, "The customer end", "Local refusals").
 use crate::end::DOUBT;
 use crate::end::End;
-use crate::end::PROCEDURES;
 use crate::end::USEDMOST;
 use crate::end::rules_hold;
 use codes::ACTIVATION;
 use codes::DEACTIVATION;
 use codes::INTERROGATION;
+use instances::PROCEDURES;
 use numbers::blank_number;
 use profile::read_access;
 use refusals::Handling;
+use refusals::OUTPUTLEAST;
 use refusals::Refusal;
 use refusals::Written;
+use refusals::not_written;
 use requests::Request;
 use requests::Served;
 use requests::blank_request;
@@ -22,11 +24,7 @@ ghost use Prim.Native.Nat.{_<_};
 ghost use lib.ListN.{length};
 ghost use Rattle.end.specs.End.{usedMost, markAt, marked};
 ghost use Rattle.end.specs.Sending.{interrogationOf, marksSent, sent, sends, Activates, Deactivates, Interrogates};
-ghost use Rattle.refusals.specs.Handling.{notWritten};
 ghost use Rattle.end.specs.inner.Sending.{WrittenBy, IdentifierLeft, endAfter};
-
-// The least output.
-const OUTPUTLEAST: usize = 707;
 
 // The next end, a refusal or none, and how many octets the component has.
 pub struct Sent {
@@ -98,42 +96,33 @@ fn waiting(e: End, operation: u8, r: Request) -> End
     }
 }
 
-fn refuses(refusal: Refusal) -> Written
-    ensures { λ r. ⌜ r ≡ notWritten refusal ⌝ }
-{
-    Written {
-        outcome: Handling::Refuses { refusal },
-        count: 0,
-    }
-}
-
 // Writes the request, or refuses it; the next end is built outside, since each function that hands an end back copies it.
 fn send(e: End, access: &[u8], operation: u8, r: Request, out: &mut [u8]) -> Written
     ensures { λ w. ⌜ WrittenBy (sends (now (access .entry)) operation r e (length (now (out .entry)))) (now (out .entry)) w (now (out .exit)) ⌝ }
 {
     if out.len() < OUTPUTLEAST {
-        return refuses(Refusal::ShortOutput);
+        return not_written(Refusal::ShortOutput);
     }
     let read = read_access(access);
     if !read.ok {
-        return refuses(Refusal::BadProfile);
+        return not_written(Refusal::BadProfile);
     }
     let p = read.profile;
     if !rules_hold(e) {
-        return refuses(Refusal::BadTable);
+        return not_written(Refusal::BadTable);
     }
     let picture = e.picture;
     if !picture.good(p) {
-        return refuses(Refusal::BadTable);
+        return not_written(Refusal::BadTable);
     }
     if e.outstanding == 1 {
-        return refuses(Refusal::Outstanding);
+        return not_written(Refusal::Outstanding);
     }
     if e.used == USEDMOST {
-        return refuses(Refusal::Exhausted);
+        return not_written(Refusal::Exhausted);
     }
     if !is_sendable(operation, r) {
-        return refuses(Refusal::BadRequest);
+        return not_written(Refusal::BadRequest);
     }
     let identifier = e.used + 1;
     let count = put_request(out, identifier as i16, operation, r);

@@ -1,9 +1,9 @@
 // What the subscriber's page reads (document 01, "The customer end").
 use crate::end::End;
 use crate::end::KNOWN;
-use crate::end::PROCEDURES;
 use crate::list::every_of;
 use crate::send::mark_at;
+use instances::PROCEDURES;
 use lists::Entry;
 use lists::no_entries;
 use profile::read_access;

@@ -13,6 +13,7 @@ use instances::Run;
 use lists::entries_at;
 use profile::Profile;
 use profile::read_access;
+use refusals::COMPONENTMOST;
 use refusals::Handling;
 use refusals::Refusal;
 use requests::blank_request;
@@ -27,9 +28,6 @@ ghost use Rattle.end.specs.Taking.{doubted, appliedBy, learnedBy, took, 
 ghost use Rattle.end.specs.inner.Refused.{moveRefused};
 ghost use Rattle.instances.specs.Run.{instancesOf};
 ghost use Rattle.rules.specs.Judge.{judge};
-
-// The longest component.
-const COMPONENTMOST: usize = 1024;
 
 // The next end, and a refusal or none.
 pub struct Moved {

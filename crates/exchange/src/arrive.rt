@@ -8,6 +8,8 @@ use codes::INTERROGATION;
 use instances::Run;
 use profile::Profile;
 use profile::read_access;
+use refusals::COMPONENTMOST;
+use refusals::OUTPUTLEAST;
 use refusals::Refusal;
 use rules::Verdict;
 use rules::apply_request;
@@ -19,11 +21,6 @@ ghost use Rattle.exchange.specs.Table.{tableOf};
 ghost use Rattle.exchange.specs.Step.{lastAfter};
 ghost use Rattle.exchange.specs.Arrive.{Arrives};
 ghost use Rattle.exchange.specs.inner.Arrived.{arrivedRefused, arrivedAnswered};
-
-// The least output, and the longest component.
-const OUTPUTLEAST: usize = 707;
-
-const COMPONENTMOST: usize = 1024;
 
 // What comes of an arriving component: it is not looked at, or it is answered.
 pub enum Arriving {

@@ -9,15 +9,13 @@ use instances::stored;
 use numbers::Forwarded;
 use numbers::MOST;
 use numbers::Number;
+use numbers::OTHER;
 use numbers::UNKNOWN;
 use requests::Request;
 use requests::Served;
 ghost use Rattle.listings.specs.Listing.{procedureName, kindText, endedBy};
 ghost use Rattle.explanations.specs.Text.{numberText, servedText, octetsWord, subWord, toText, operationText, argumentText, requestLine};
 ghost use Rattle.explanations.specs.inner.Pen.{Penned};
-
-// The form of a number of another kind.
-const OTHER: u8 = 2;
 
 // The operations as the numbers that an operation's reader hands on.
 pub(crate) const ACTIVATIONNO: usize = ACTIVATION as usize;

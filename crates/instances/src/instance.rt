@@ -8,12 +8,12 @@ ghost use lib.ListN.{take};
 ghost use Rattle.instances.specs.Instance.{named, selected, concerns, chosen, isAt, among, instanceFits, IsBefore, KeyOf, BlankInstance};
 
 // cfu 0, cfb 1, cfnr 2.
-pub(crate) const PROCEDURES: usize = 3;
+pub const PROCEDURES: usize = 3;
 
 // A selection of every number, and of every service.
-pub(crate) const EVERYNUMBER: u8 = 255;
+pub const EVERYNUMBER: u8 = 255;
 
-pub(crate) const EVERYSERVICE: u8 = 0;
+pub const EVERYSERVICE: u8 = 0;
 
 // An instance: its number by the place in the profile, its service by the code.
 #[repr(C)]

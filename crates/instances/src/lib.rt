@@ -4,7 +4,10 @@ mod listed;
 mod places;
 mod run;
 
+pub use instance::EVERYNUMBER;
+pub use instance::EVERYSERVICE;
 pub use instance::Instance;
+pub use instance::PROCEDURES;
 pub use instance::Selection;
 pub use instance::blank_instance;
 pub use instance::is_before;

@@ -7,14 +7,13 @@ use octets::put_all;
 use refusals::Handling;
 use refusals::Refusal;
 use refusals::Written;
-ghost use mathlib.Core.Path.{_≡_};
+use refusals::not_written;
 ghost use Prim.Native.Nat.{_≤_};
 ghost use lib.ListN.{length};
 ghost use Rattle.laws.specs.Over.{Wrote};
 ghost use Rattle.instances.specs.Places.{runMost};
 ghost use Rattle.instances.specs.Run.{instancesOf};
 ghost use Rattle.forms.specs.Form.{form1};
-ghost use Rattle.refusals.specs.Handling.{notWritten};
 ghost use Rattle.listings.specs.Listing.{listing, ListsSheet, PrintsSheet};
 ghost use Rattle.listings.specs.inner.Write.{AllCounted, sheetOf};
 
@@ -30,25 +29,16 @@ fn write_listing(out: &mut [u8], last: u16, run: Run) -> usize
     write_lines(out, p, run)
 }
 
-fn refuses(refusal: Refusal) -> Written
-    ensures { λ r. ⌜ r ≡ notWritten refusal ⌝ }
-{
-    Written {
-        outcome: Handling::Refuses { refusal },
-        count: 0,
-    }
-}
-
 // The listing of a sheet at the start of the output, and how many octets that has.
 pub fn list_sheet(s: &[u8], out: &mut [u8]) -> Written
     ensures { λ r. ⌜ ListsSheet (now (s .entry)) (now (out .entry)) r (now (out .exit)) ⌝ }
 {
     if out.len() < LISTINGMOST {
-        return refuses(Refusal::ShortOutput);
+        return not_written(Refusal::ShortOutput);
     }
     let form = read_form(s);
     if !form.ok {
-        return refuses(Refusal::BadSheet);
+        return not_written(Refusal::BadSheet);
     }
     let run = form.run;
     let count = write_listing(out, form.last, run);

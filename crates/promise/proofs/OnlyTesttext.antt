@@ -5,14 +5,11 @@ use mathlib.Core.Bool.{Bool}
 use mathlib.Core.List.{List}
 use lib.IntN.{ℤ}
 use Rattle.laws.proofs.Picks.{both}
-use Rattle.testtext.specs.Hex.{HexDigit, OctetOf, HexCharacter}
+use Rattle.testtext.specs.Hex.{OctetOf, HexCharacter}
 use Rattle.testtext.specs.Line.{Find, LastNumber}
 use Rattle.testtext.specs.Outside.{AllOutside}
-use Rattle.testtext.specs.Signed.{BelowZero, LastIdentifier, WithoutSign}
+use Rattle.testtext.specs.Signed.{LastIdentifier, WithoutSign}
 use Rattle.testtext.specs.Words.{OctetsFrom}
-
-pub only-hex-digit : (c : ℕ) {a b : ℕ} → HexDigit c a → HexDigit c b → a ≡ b
-only-hex-digit c = both
 
 pub only-octet-of : (high low : ℕ) {a b : ℕ} → OctetOf high low a → OctetOf high low b → a ≡ b
 only-octet-of high low = both
@@ -29,9 +26,6 @@ only-last-number s = both
 pub only-all-outside :
     (s : List ℕ) (from to octet : ℕ) {a b : Bool} → AllOutside s from to octet a → AllOutside s from to octet b → a ≡ b
 only-all-outside s from to octet = both
-
-pub only-below-zero : (n : ℕ) {a b : ℤ} → BelowZero n a → BelowZero n b → a ≡ b
-only-below-zero n = both
 
 pub only-last-identifier : (s : List ℕ) {a b : ℤ} → LastIdentifier s a → LastIdentifier s b → a ≡ b
 only-last-identifier s = both

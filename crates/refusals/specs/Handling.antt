@@ -1,5 +1,6 @@
 -- What is told where nothing more is answered, and what is written beside it (document 01, "Local refusals").
 use Prim.Native.Nat.{ℕ}
+use mathlib.Core.Path.{_≡_}
 use mathlib.Core.List.{List, []}
 use Rattle.refusals.specs.Refusal.{refusalNo, Told, refuses, tells}
 use Rattle.refusals.specs.declared.refusal.Refusal.{Refusal}
@@ -30,3 +31,7 @@ notWritten refusal = record { outcome = Refuses refusal; count = 0 }
 
 abbrev pub allWritten : ℕ → Written
 allWritten count = record { outcome = Done; count = count }
+
+-- what `not_written` promises
+abbrev pub NotWritten : Refusal → Written → Type 0
+NotWritten refusal r = r ≡ notWritten refusal

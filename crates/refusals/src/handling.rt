@@ -1,5 +1,6 @@
 // What comes of a thing that may be refused, where nothing more is answered (document 01, "Local refusals").
 use crate::refusal::Refusal;
+ghost use Rattle.refusals.specs.Handling.{NotWritten};
 
 pub enum Handling {
     Refuses { refusal: Refusal },
@@ -10,4 +11,14 @@ pub enum Handling {
 pub struct Written {
     pub outcome: Handling,
     pub count: usize,
+}
+
+// What is refused writes nothing.
+pub fn not_written(refusal: Refusal) -> Written
+    ensures { λ r. ⌜ NotWritten refusal r ⌝ }
+{
+    Written {
+        outcome: Handling::Refuses { refusal },
+        count: 0,
+    }
 }

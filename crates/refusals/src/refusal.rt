@@ -25,6 +25,11 @@ pub enum Refusal {
     BadRequest,
 }
 
+// "lent output under 707 octets (any component)", "component over 1,024 octets"
+pub const OUTPUTLEAST: usize = 707;
+
+pub const COMPONENTMOST: usize = 1024;
+
 // The number of a refusal.
 pub fn refusal_no(refusal: Refusal) -> u8
     ensures { λ r. ⌜ RefusalNo refusal r ⌝ }

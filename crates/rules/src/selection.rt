@@ -1,4 +1,5 @@
 // Which instances a request selects (document 01, "Replies": "Served number").
+use instances::EVERYNUMBER;
 use instances::Selection;
 use profile::Profile;
 use profile::number_place;
@@ -6,9 +7,6 @@ use requests::Request;
 ghost use mathlib.Core.Path.{_≡_};
 ghost use Rattle.instances.specs.Instance.{everyNumber, named};
 ghost use Rattle.rules.specs.Selection.{numberAsked, SelectionOf};
-
-// What stands for every number in a selection.
-const EVERYNUMBER: u8 = 255;
 
 // The place of the one number that a request selects, or that it selects every number.
 fn number_asked(p: Profile, r: Request) -> u8

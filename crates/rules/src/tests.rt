@@ -1,6 +1,8 @@
 // The tests of registration, one by one.
 use crate::selection::is_asked;
 use numbers::Number;
+use numbers::OTHER;
+use numbers::PUBLIC;
 use profile::NUMBERS;
 use profile::Profile;
 use profile::number_place;
@@ -11,11 +13,7 @@ ghost use mathlib.Core.Path.{_≡_};
 ghost use Rattle.profile.specs.Profile.{servedNumbers};
 ghost use Rattle.rules.specs.Judge.{hasAllNumbers, isServed, servedInvalid, isProvided, notProvided, otherKind, selectedSame};
 
-// The forms and the type that are told apart, and the most digits of an international number.
-const PUBLIC: u8 = 1;
-
-const OTHER: u8 = 2;
-
+// The type that is told apart, and the most digits of an international number.
 const INTERNATIONAL: u8 = 1;
 
 const INTERNATIONALMOST: u8 = 15;

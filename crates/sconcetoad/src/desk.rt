@@ -1,15 +1,13 @@
 // The customer end, as C drives it.
+use crate::written::refusal_in;
 use end::End;
 use end::Shown;
 use end::arrived;
 use end::fresh_end;
 use lists::Entry;
-use refusals::Handling;
 use refusals::refusal_no;
 use requests::Request;
 ghost use mathlib.Core.Path.{_≡_};
-ghost use Rattle.refusals.specs.Refusal.{refusalIn};
-ghost use Rattle.refusals.specs.Handling.{handlingTold};
 ghost use Rattle.end.specs.End.{FreshEnd};
 ghost use Rattle.end.specs.Shown.{shownNo};
 ghost use Rattle.sconcetoad.specs.Desk.{pageOf, ActivatedBy, DeactivatedBy, InterrogatedBy, TakenBy, GivenUpBy, PageBy, PageEntryBy};
@@ -57,15 +55,6 @@ pub extern "C" fn sconcetoad_fresh_end() -> End
     ensures { λ r. ⌜ FreshEnd r ⌝ }
 {
     fresh_end()
-}
-
-fn refusal_in(outcome: Handling) -> u8
-    ensures { λ r. ⌜ r ≡ refusalIn (handlingTold outcome) ⌝ }
-{
-    match outcome {
-        Handling::Refuses { refusal } => refusal_no(refusal),
-        Handling::Done => 0,
-    }
 }
 
 // `end` sends an activation: its component stands at the start of `out`.

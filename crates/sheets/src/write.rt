@@ -11,6 +11,7 @@ use profile::read_access;
 use refusals::Handling;
 use refusals::Refusal;
 use refusals::Written;
+use refusals::not_written;
 ghost use mathlib.Core.Path.{_≡_};
 ghost use mathlib.Core.Bool.{true};
 ghost use mathlib.Core.List.{[], _∷_};
@@ -20,7 +21,6 @@ ghost use Rattle.numbers.specs.Number.{most};
 ghost use Rattle.numbers.specs.Address.{addressGood};
 ghost use Rattle.instances.specs.Run.{instancesOf};
 ghost use Rattle.forms.specs.Instance.{allGroups, addressFields};
-ghost use Rattle.refusals.specs.Handling.{notWritten};
 ghost use Rattle.sheets.specs.Sheets.{WritesSheet};
 ghost use Rattle.sheets.specs.inner.Write.{Room, above, NoneBelow, Space, WroteInstances, Writable, AllWritable};
 
@@ -94,29 +94,20 @@ fn write_run(out: &mut [u8], at: usize, run: Run) -> usize
     p
 }
 
-fn refuses(refusal: Refusal) -> Written
-    ensures { λ r. ⌜ r ≡ notWritten refusal ⌝ }
-{
-    Written {
-        outcome: Handling::Refuses { refusal },
-        count: 0,
-    }
-}
-
 // The table as a sheet at the start of the output, and how many octets that has.
 pub fn write_sheet(table: Table, access: &[u8], out: &mut [u8]) -> Written
     ensures { λ r. ⌜ WritesSheet (now (access .entry)) table (now (out .entry)) r (now (out .exit)) ⌝ }
 {
     if out.len() < SHEETMOST {
-        return refuses(Refusal::ShortOutput);
+        return not_written(Refusal::ShortOutput);
     }
     let read = read_access(access);
     if !read.ok {
-        return refuses(Refusal::BadProfile);
+        return not_written(Refusal::BadProfile);
     }
     let profile = read.profile;
     if !table.good(profile) {
-        return refuses(Refusal::BadTable);
+        return not_written(Refusal::BadTable);
     }
     let run = table.run;
     let f = form_one();

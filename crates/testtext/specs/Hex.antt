@@ -16,10 +16,6 @@ hexDigit c =
 unfoldable pub hexCharacter : ℕ → ℕ
 hexCharacter n = pick (ltb (n % 16) 10) (48 + n % 16) (65 + (n % 16 - 10))
 
--- what `hex_digit` promises
-abbrev pub HexDigit : ℕ → ℕ → Type 0
-HexDigit c r = r ≡ hexDigit c
-
 -- what `octet_of` promises
 abbrev pub OctetOf : ℕ → ℕ → ℕ → Type 0
 OctetOf high low r = r ≡ hexDigit high * 16 + hexDigit low

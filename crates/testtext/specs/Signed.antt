@@ -8,10 +8,6 @@ use lib.Dec.{ltb, eqb}
 use Rattle.laws.specs.Pick.{pick}
 use Rattle.testtext.specs.Line.{foundFrom, numberAfter}
 
--- what `below_zero` promises: 0 gives -1, 1 gives -2
-abbrev pub BelowZero : ℕ → ℤ → Type 0
-BelowZero n r = r ≡ negsuc (n % 32768)
-
 -- the number n with a minus before it
 unfoldable pub negated : ℕ → ℤ
 negated n = pick (eqb n 0) (pos 0) (negsuc ((n - 1) % 32768))

@@ -1,9 +1,10 @@
 // Octets in hexadecimal, with upper-case letters.
-ghost use Rattle.testtext.specs.Hex.{HexDigit, OctetOf, HexCharacter};
+ghost use mathlib.Core.Path.{_≡_};
+ghost use Rattle.testtext.specs.Hex.{hexDigit, OctetOf, HexCharacter};
 
 // What a hexadecimal digit stands for; 0 for any other character.
-pub fn hex_digit(c: u8) -> u8
-    ensures { λ r. ⌜ HexDigit c r ⌝ }
+pub(crate) fn hex_digit(c: u8) -> u8
+    ensures { λ r. ⌜ r ≡ hexDigit c ⌝ }
 {
     if c < b'0' {
         return 0;

@@ -6,12 +6,10 @@ mod signed;
 mod words;
 
 pub use hex::hex_character;
-pub use hex::hex_digit;
 pub use hex::octet_of;
 pub use line::find;
 pub use line::last_number;
 pub use outside::all_outside;
-pub use signed::below_zero;
 pub use signed::last_identifier;
 pub use signed::without_sign;
 pub use words::octets_from;

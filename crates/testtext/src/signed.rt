@@ -1,11 +1,14 @@
 // Numbers with a sign.
 use crate::line::find;
 use crate::line::last_number;
-ghost use Rattle.testtext.specs.Signed.{BelowZero, LastIdentifier, WithoutSign};
+ghost use Prim.Native.Nat.{_%_};
+ghost use mathlib.Core.Path.{_≡_};
+ghost use lib.IntN.{negsuc};
+ghost use Rattle.testtext.specs.Signed.{LastIdentifier, WithoutSign};
 
 // The number that stands `n % 32768` places below -1.
-pub fn below_zero(n: u32) -> i16
-    ensures { λ r. ⌜ BelowZero n r ⌝ }
+fn below_zero(n: u32) -> i16
+    ensures { λ r. ⌜ r ≡ negsuc (n % 32768) ⌝ }
 {
     -1 - ((n % 32768) as i16)
 }

@@ -7,20 +7,20 @@ use borrow.Author.Needs.{needs}
 use Rattle.components.proofs.write.write_list.Statement.{statement}
 use Rattle.components.proofs.write.write_list.Tie as tie
 
-refuses-requires : tie.Need-refuses-requires
-refuses-requires c κs = search needs
+not-written-requires : tie.Need-not-written-requires
+not-written-requires c κs = search needs
 
 returns : tie.Need-returns
 returns c =
     let a = c .before .before .before .args in
     refused-made _ (a .out .now) ShortOutput _ (list-short _ (a .list) (length (a .out .now)) (omega (arith, c .before .if1 .taken)))
-    (c .refuses .ensures)
+    (c .not-written .ensures)
 
 cast-if2 : tie.Need-cast-if2
 cast-if2 c = search needs
 
-refuses-requires-2 : tie.Need-refuses-requires-2
-refuses-requires-2 c κs = search needs
+not-written-requires-2 : tie.Need-not-written-requires-2
+not-written-requires-2 c κs = search needs
 
 returns-2 : tie.Need-returns-2
 returns-2 c =
@@ -28,7 +28,7 @@ returns-2 c =
     refused-made _ (a .out .now) BadTable _
     (list-many _ (a .list) (length (a .out .now)) (omega (arith, c .before .before .before .if1 .left))
     (omega (arith, c .before .if2 .taken)))
-    (c .refuses2 .ensures)
+    (c .not-written2 .ensures)
 
 put-list-requires : tie.Need-put-list-requires
 put-list-requires c κs = search needs
@@ -52,10 +52,10 @@ pub write-list-spec : {M : Type 1} → statement M
 write-list-spec =
     tie.close
     (tie.spec
-    refuses-requires
+    not-written-requires
     returns
     cast-if2
-    refuses-requires-2
+    not-written-requires-2
     returns-2
     put-list-requires
     done-requires

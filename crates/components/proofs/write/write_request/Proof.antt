@@ -11,20 +11,20 @@ use borrow.Author.Needs.{needs}
 use Rattle.components.proofs.write.write_request.Statement.{statement}
 use Rattle.components.proofs.write.write_request.Tie as tie
 
-refuses-requires : tie.Need-refuses-requires
-refuses-requires c κs = search needs
+not-written-requires : tie.Need-not-written-requires
+not-written-requires c κs = search needs
 
 returns : tie.Need-returns
 returns c =
     let a = c .before .before .before .args in
     refused-made _ (a .out .now) ShortOutput _
-    (request-short _ (a .operation) (a .r) (length (a .out .now)) (omega (arith, c .before .if1 .taken))) (c .refuses .ensures)
+    (request-short _ (a .operation) (a .r) (length (a .out .now)) (omega (arith, c .before .if1 .taken))) (c .not-written .ensures)
 
 is-sendable-requires : tie.Need-is-sendable-requires
 is-sendable-requires c κs = search needs
 
-refuses-requires-2 : tie.Need-refuses-requires-2
-refuses-requires-2 c κs = search needs
+not-written-requires-2 : tie.Need-not-written-requires-2
+not-written-requires-2 c κs = search needs
 
 returns-2 : tie.Need-returns-2
 returns-2 c =
@@ -32,7 +32,7 @@ returns-2 c =
     refused-made _ (a .out .now) BadRequest _
     (request-unfit _ (a .operation) (a .r) (length (a .out .now)) (omega (arith, c .before .before .before .if1 .left))
     (sym (c .before .before .is-sendable .ensures) ∙ not-true _ (c .before .if2 .taken)))
-    (c .refuses2 .ensures)
+    (c .not-written2 .ensures)
 
 put-request-requires : tie.Need-put-request-requires
 put-request-requires c κs = search needs
@@ -58,10 +58,10 @@ pub write-request-spec : {M : Type 1} → statement M
 write-request-spec =
     tie.close
     (tie.spec
-    refuses-requires
+    not-written-requires
     returns
     is-sendable-requires
-    refuses-requires-2
+    not-written-requires-2
     returns-2
     put-request-requires
     done-requires

@@ -63,40 +63,40 @@ good c =
 below : (c : tie.Else6) → entry4 (c .before .before .before .before) .args .e .used < usedMost
 below c = omega (arith, used-most instancesMost _ _ (good (c .before .before .before .before)), c .if6 .left)
 
-refuses-requires : tie.Need-refuses-requires
-refuses-requires c κs = search needs
+not-written-requires : tie.Need-not-written-requires
+not-written-requires c κs = search needs
 
 returns : tie.Need-returns
-returns c = refused-sends _ _ _ ShortOutput _ (sends-short _ _ _ _ _ (omega (arith, c .before .if1 .taken))) (c .refuses .ensures)
+returns c = refused-sends _ _ _ ShortOutput _ (sends-short _ _ _ _ _ (omega (arith, c .before .if1 .taken))) (c .not-written .ensures)
 
 read-access-requires : tie.Need-read-access-requires
 read-access-requires c κs = search needs
 
-refuses-requires-2 : tie.Need-refuses-requires-2
-refuses-requires-2 c κs = search needs
+not-written-requires-2 : tie.Need-not-written-requires-2
+not-written-requires-2 c κs = search needs
 
 returns-2 : tie.Need-returns-2
 returns-2 c =
     let bad = ap (λ (q : AccessRead). q .ok) (sym (c .before .before .before .read-access .ensures)) ∙ not-true _ (c .before .if2 .taken) in
-    refused-sends _ _ _ BadProfile _ (sends-profile _ _ _ _ _ (room (c .before .before .before .before)) bad) (c .refuses2 .ensures)
+    refused-sends _ _ _ BadProfile _ (sends-profile _ _ _ _ _ (room (c .before .before .before .before)) bad) (c .not-written2 .ensures)
 
 rules-hold-requires : tie.Need-rules-hold-requires
 rules-hold-requires c κs = search needs
 
-refuses-requires-3 : tie.Need-refuses-requires-3
-refuses-requires-3 c κs = search needs
+not-written-requires-3 : tie.Need-not-written-requires-3
+not-written-requires-3 c κs = search needs
 
 returns-3 : tie.Need-returns-3
 returns-3 c =
     let d = c .before .before .before .before in
     let bad = rules-fail instancesMost _ _ (sym (c .before .before .rules-hold .ensures) ∙ not-true _ (c .before .if3 .taken)) in
-    refused-sends _ _ _ BadTable _ (sends-end _ _ _ _ _ (room (from2 d)) (ok d) bad) (c .refuses3 .ensures)
+    refused-sends _ _ _ BadTable _ (sends-end _ _ _ _ _ (room (from2 d)) (ok d) bad) (c .not-written3 .ensures)
 
 good-requires : tie.Need-good-requires
 good-requires c κs = search needs
 
-refuses-requires-4 : tie.Need-refuses-requires-4
-refuses-requires-4 c κs = search needs
+not-written-requires-4 : tie.Need-not-written-requires-4
+not-written-requires-4 c κs = search needs
 
 returns-4 : tie.Need-returns-4
 returns-4 c =
@@ -104,20 +104,20 @@ returns-4 c =
     let read = from3 d .before .before .read-access in
     let bad = rw (read .ensures) at (sym (c .before .before .good2 .ensures) ∙ not-true _ (c .before .if4 .taken)) in
     refused-sends _ _ _ BadTable _
-    (sends-end _ _ _ _ _ (room (from2 (from3 d))) (ok (from3 d)) (rules-pass instancesMost _ _ (rules d) ∙ bad)) (c .refuses4 .ensures)
+    (sends-end _ _ _ _ _ (room (from2 (from3 d))) (ok (from3 d)) (rules-pass instancesMost _ _ (rules d) ∙ bad)) (c .not-written4 .ensures)
 
-refuses-requires-5 : tie.Need-refuses-requires-5
-refuses-requires-5 c κs = search needs
+not-written-requires-5 : tie.Need-not-written-requires-5
+not-written-requires-5 c κs = search needs
 
 returns-5 : tie.Need-returns-5
 returns-5 c =
     let d = c .before .before .before in
     let k = from3 (from4 d) in
     refused-sends _ _ _ Outstanding _
-    (sends-waiting _ _ _ _ _ (room (from2 k)) (ok k) (good d) (c .before .if5 .taken)) (c .refuses5 .ensures)
+    (sends-waiting _ _ _ _ _ (room (from2 k)) (ok k) (good d) (c .before .if5 .taken)) (c .not-written5 .ensures)
 
-refuses-requires-6 : tie.Need-refuses-requires-6
-refuses-requires-6 c κs = search needs
+not-written-requires-6 : tie.Need-not-written-requires-6
+not-written-requires-6 c κs = search needs
 
 returns-6 : tie.Need-returns-6
 returns-6 c =
@@ -125,13 +125,13 @@ returns-6 c =
     let k = from3 (from4 d) in
     refused-sends _ _ _ Exhausted _
     (sends-last _ _ _ _ _ (room (from2 k)) (ok k) (good d) (c .before .before .before .if5 .left) (c .before .if6 .taken))
-    (c .refuses6 .ensures)
+    (c .not-written6 .ensures)
 
 is-sendable-requires : tie.Need-is-sendable-requires
 is-sendable-requires c κs = search needs
 
-refuses-requires-7 : tie.Need-refuses-requires-7
-refuses-requires-7 c κs = search needs
+not-written-requires-7 : tie.Need-not-written-requires-7
+not-written-requires-7 c κs = search needs
 
 returns-7 : tie.Need-returns-7
 returns-7 c =
@@ -140,7 +140,7 @@ returns-7 c =
     let unfit = sym (c .before .before .is-sendable .ensures) ∙ not-true _ (c .before .if7 .taken) in
     refused-sends _ _ _ BadRequest _
     (sends-unfit _ _ _ _ _ (room (from2 k)) (ok k) (good d) (c .before .before .before .before .before .if5 .left)
-    (c .before .before .before .if6 .left) unfit) (c .refuses7 .ensures)
+    (c .before .before .before .if6 .left) unfit) (c .not-written7 .ensures)
 
 add-identifier : tie.Need-add-identifier
 add-identifier c = let h = below (c .before .before .before) in search (needs, h)
@@ -171,23 +171,23 @@ pub send-spec : {M : Type 1} → statement M
 send-spec =
     tie.close
     (tie.spec
-    refuses-requires
+    not-written-requires
     returns
     read-access-requires
-    refuses-requires-2
+    not-written-requires-2
     returns-2
     rules-hold-requires
-    refuses-requires-3
+    not-written-requires-3
     returns-3
     good-requires
-    refuses-requires-4
+    not-written-requires-4
     returns-4
-    refuses-requires-5
+    not-written-requires-5
     returns-5
-    refuses-requires-6
+    not-written-requires-6
     returns-6
     is-sendable-requires
-    refuses-requires-7
+    not-written-requires-7
     returns-7
     add-identifier
     cast-put-request

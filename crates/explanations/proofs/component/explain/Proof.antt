@@ -3,21 +3,21 @@ use borrow.Author.Needs.{needs}
 use Rattle.explanations.proofs.component.explain.Statement.{statement}
 use Rattle.explanations.proofs.component.explain.Tie as tie
 
-refuses-requires : tie.Need-refuses-requires
-refuses-requires c κs = search needs
+not-written-requires : tie.Need-not-written-requires
+not-written-requires c κs = search needs
 
 returns : tie.Need-returns
 returns c =
     let a = c .before .before .before .before .args in
-    explains-short (a .component .now) (a .out .now) (c .before .if1 .taken) _ (c .refuses .ensures)
+    explains-short (a .component .now) (a .out .now) (c .before .if1 .taken) _ (c .not-written .ensures)
 
-refuses-requires-2 : tie.Need-refuses-requires-2
-refuses-requires-2 c κs = search needs
+not-written-requires-2 : tie.Need-not-written-requires-2
+not-written-requires-2 c κs = search needs
 
 returns-2 : tie.Need-returns-2
 returns-2 c =
     let a = c .before .before .before .before .before .args in
-    explains-long (a .component .now) (a .out .now) (c .before .before .if1 .left) (c .before .if2 .taken) _ (c .refuses2 .ensures)
+    explains-long (a .component .now) (a .out .now) (c .before .before .if1 .left) (c .before .if2 .taken) _ (c .not-written2 .ensures)
 
 write-elements-requires : tie.Need-write-elements-requires
 write-elements-requires c κs = search needs
@@ -39,9 +39,9 @@ pub explain-spec : {M : Type 1} → statement M
 explain-spec =
     tie.close
     (tie.spec
-    refuses-requires
+    not-written-requires
     returns
-    refuses-requires-2
+    not-written-requires-2
     returns-2
     write-elements-requires
     write-said-requires

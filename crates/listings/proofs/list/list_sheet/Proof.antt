@@ -6,25 +6,25 @@ use Rattle.listings.proofs.Sheets.{listing-octets, listing-asks, lists-
 use Rattle.listings.proofs.list.list_sheet.Statement.{statement}
 use Rattle.listings.proofs.list.list_sheet.Tie as tie
 
-refuses-requires : tie.Need-refuses-requires
-refuses-requires c κs = search needs
+not-written-requires : tie.Need-not-written-requires
+not-written-requires c κs = search needs
 
 returns : tie.Need-returns
 returns c =
     let a = c .before .before .before .before .args in
-    lists-short (a .s .now) (a .out .now) (omega (arith, listing-octets, c .before .if1 .taken)) _ (c .refuses .ensures)
+    lists-short (a .s .now) (a .out .now) (omega (arith, listing-octets, c .before .if1 .taken)) _ (c .not-written .ensures)
 
 read-form-requires : tie.Need-read-form-requires
 read-form-requires c κs = search needs
 
-refuses-requires-2 : tie.Need-refuses-requires-2
-refuses-requires-2 c κs = search needs
+not-written-requires-2 : tie.Need-not-written-requires-2
+not-written-requires-2 c κs = search needs
 
 returns-2 : tie.Need-returns-2
 returns-2 c =
     let a = c .before .before .before .before .before .before .before .args in
     lists-none (a .s .now) (a .out .now) (omega (arith, listing-octets, c .before .before .before .before .if1 .left)) _
-    (c .before .before .before .read-form .ensures) (not-true _ (c .before .if2 .taken)) _ (c .refuses2 .ensures)
+    (c .before .before .before .read-form .ensures) (not-true _ (c .before .if2 .taken)) _ (c .not-written2 .ensures)
 
 write-listing-requires : tie.Need-write-listing-requires
 write-listing-requires c κs =
@@ -49,10 +49,10 @@ pub list-sheet-spec : {M : Type 1} → statement M
 list-sheet-spec =
     tie.close
     (tie.spec
-    refuses-requires
+    not-written-requires
     returns
     read-form-requires
-    refuses-requires-2
+    not-written-requires-2
     returns-2
     write-listing-requires
     same-length

@@ -49,7 +49,7 @@ use Rattle.end.specs.declared.end.End.{End}
 use Rattle.end.proofs.end.End as T
 use Rattle.end.proofs.arrived as step
 use Rattle.sconcetoad.specs.Desk.{TakenBy}
-use Rattle.sconcetoad.proofs.desk.refusal_in as number
+use Rattle.sconcetoad.proofs.written.refusal_in as number
 use Rattle.sconcetoad.proofs.desk.sconcetoad_arrived as arrived
 use Rattle.sconcetoad.proofs.desk.sconcetoad_arrived.Code as code
 
@@ -235,5 +235,5 @@ sconcetoad-arrived-spec 𝓤 H 𝓜 𝓖 𝓡 =
     (cited 𝓤 H (Step 𝓤 H (𝓖 .A) (𝓜 .mem) (𝓡 .run)) 𝓜 𝓡 code.env step.Symbol.name step.Symbol.routine code.calls-end·arrived
     (step.Met.met 𝓤 H 𝓜 𝓖 𝓡))
     (cited 𝓤 H (Number 𝓤 H (𝓖 .A) (𝓜 .mem) (𝓡 .run)) 𝓜 𝓡 code.env number.Symbol.name number.Symbol.routine
-    code.calls-sconcetoad·desk·refusal-in
+    code.calls-sconcetoad·written·refusal-in
     (number.Met.met 𝓤 H 𝓜 𝓖 𝓡)))

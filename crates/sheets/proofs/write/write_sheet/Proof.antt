@@ -24,21 +24,21 @@ use borrow.Author.Needs.{needs}
 use Rattle.sheets.proofs.write.write_sheet.Statement.{statement}
 use Rattle.sheets.proofs.write.write_sheet.Tie as tie
 
-refuses-requires : tie.Need-refuses-requires
-refuses-requires c κs = search needs
+not-written-requires : tie.Need-not-written-requires
+not-written-requires c κs = search needs
 
 returns : tie.Need-returns
 returns c =
     let a = c .before .before .before .before .args in
     refused-writes (a .access .now) (a .table) (a .out .now) ShortOutput _
     (writes-short (a .access .now) (a .table) (length (a .out .now)) (omega (arith, c .before .if1 .taken)))
-    (c .refuses .ensures)
+    (c .not-written .ensures)
 
 read-access-requires : tie.Need-read-access-requires
 read-access-requires c κs = search needs
 
-refuses-requires-2 : tie.Need-refuses-requires-2
-refuses-requires-2 c κs = search needs
+not-written-requires-2 : tie.Need-not-written-requires-2
+not-written-requires-2 c κs = search needs
 
 returns-2 : tie.Need-returns-2
 returns-2 c =
@@ -46,13 +46,13 @@ returns-2 c =
     refused-writes (a .access .now) (a .table) (a .out .now) BadProfile _
     (writes-profile (a .access .now) (a .table) (length (a .out .now)) (omega (arith, c .before .before .before .before .if1 .left))
     (ap (λ (r : AccessRead). r .ok) (sym (c .before .before .before .read-access .ensures)) ∙ not-true _ (c .before .if2 .taken)))
-    (c .refuses2 .ensures)
+    (c .not-written2 .ensures)
 
 good-requires : tie.Need-good-requires
 good-requires c κs = search needs
 
-refuses-requires-3 : tie.Need-refuses-requires-3
-refuses-requires-3 c κs = search needs
+not-written-requires-3 : tie.Need-not-written-requires-3
+not-written-requires-3 c κs = search needs
 
 returns-3 : tie.Need-returns-3
 returns-3 c =
@@ -63,7 +63,7 @@ returns-3 c =
     (omega (arith, c .before .before .before .before .before .before .before .if1 .left))
     (ap (λ (r : AccessRead). r .ok) (sym read) ∙ not-false _ (c .before .before .before .before .if2 .left))
     (rw read at (sym (c .before .before .good2 .ensures) ∙ not-true _ (c .before .if3 .taken))))
-    (c .refuses3 .ensures)
+    (c .not-written3 .ensures)
 
 -- where nothing is refused
 abbrev begun : tie.Else3 → tie.Start
@@ -162,13 +162,13 @@ pub write-sheet-spec : {M : Type 1} → statement M
 write-sheet-spec =
     tie.close
     (tie.spec
-    refuses-requires
+    not-written-requires
     returns
     read-access-requires
-    refuses-requires-2
+    not-written-requires-2
     returns-2
     good-requires
-    refuses-requires-3
+    not-written-requires-3
     returns-3
     form-one-requires
     cast-put-groups
