@@ -5,24 +5,7 @@ ghost use Rattle.codes.specs.Codes.{ServicePlace, ServiceCode, TrunkReas
 pub const SERVICECOUNT: usize = 16;
 
 // The basic services besides 0, all of them; ascending.
-const SERVICECODES: [u8; SERVICECOUNT] = [
-    1,
-    2,
-    3,
-    4,
-    5,
-    32,
-    33,
-    34,
-    35,
-    36,
-    37,
-    38,
-    39,
-    40,
-    41,
-    42,
-];
+const CODES: [u8; SERVICECOUNT] = [1, 2, 3, 4, 5, 32, 33, 34, 35, 36, 37, 38, 39, 40, 41, 42];
 
 const REASONCOUNT: usize = 4;
 
@@ -45,7 +28,7 @@ pub fn service_place(code: u8) -> usize
 {
     let mut i: usize = 0;
     while i < SERVICECOUNT {
-        if SERVICECODES[i] == code {
+        if CODES[i] == code {
             return i;
         }
         i += 1;
