@@ -1,4 +1,4 @@
--- Demand 3 over messages: both sentences, at every moment of every run.
+-- Demand 3 over messages: what holds at every moment of every run, and the second sentence from any such moment on.
 use Prim.Native.Nat.{ℕ, _<_}
 use mathlib.Core.Path.{_≡_, refl, ap, sym, _∙_, subst}
 use mathlib.Core.Option.{Option, none, some}
@@ -59,12 +59,6 @@ module _ (S : Topic) (X : Exchange S) (C : Customer S) (LX : ExchangeLaws S X) (
   pub starts : (t : X .Table) (e : C .End) → Fresh S X C t e → Holds S X C (start (messages S X C) t e)
   unfolding start
   starts t e f = I.begins S X C LX LC t e f
-
-  -- The first sentence.
-  pub known-equals :
-      (t : X .Table) (e : C .End) → Fresh S X C t e → {w : World (messages S X C)} → Trace (messages S X C) (start (messages S X C) t e) w →
-      (P : S .Proc) → C .mark (w .end) P ≡ known → C .pic (w .end) P ≡ X .held (w .table) P
-  known-equals t e f q P k = runs q (starts t e f) .right P k .0
 
   -- What was replied stays under way.
   sent-keeps :
@@ -193,16 +187,3 @@ module _ (S : Topic) (X : Exchange S) (C : Customer S) (LX : ExchangeLaws S X) (
         told-known w₂ (runs q h) n r m P (calms q n r m h k (first-waits w₁ n r i room ∙ p)) a g (X .serve (w₁ .table) n r .1) j
             (rw (z .1) tt),
       )
-
-  pub first-reply-known :
-      (t : X .Table) (e : C .End) → Fresh S X C t e → {w₁ : World (messages S X C)} →
-      Trace (messages S X C) (start (messages S X C) t e) w₁ →
-      (n : ℕ) (r : S .Req) (m : Mark) (P : S .Proc) → S .about r ≡ asks-for P → S .Allows P → C .waiting (w₁ .end) ≡ awaiting n r m →
-      (i : In (n, r) (w₁ .up)) → X .last (w₁ .table) < n → (room : S .Room) → X .enough room ≡ true →
-      {w₂ :
-      World (messages S X C)} (q : Trace (messages S X C) (after (messages S X C) w₁ (handles room (n, r) i)) w₂) → Quiet (messages S X C)
-      (Matching n) q →
-      (j :
-      In (n, X .serve (w₁ .table) n r .1) (w₂ .down)) ×
-      (C .mark (after (messages S X C) w₂ (comes-down (n, X .serve (w₁ .table) n r .1) j) .end) P ≡ known)
-  first-reply-known t e f {w₁} q₁ n r m P a g p i l room y q k = first-reply-from w₁ (runs q₁ (starts t e f)) n r m P a g p i l room y q k

@@ -7,11 +7,10 @@ use mathlib.Core.Logic.{_⊎_}
 use Rattle.laws.specs.Mark.{Mark, known}
 use Rattle.demand.specs.Machine.{Machine}
 
--- what a request is about: it changes a procedure (activation, deactivation), asks for one (interrogation), or neither
+-- what a request is about: it changes a procedure (activation, deactivation) or asks for one (interrogation)
 pub data About (Proc : Type 0) : Type 0 where
   changes : Proc → About Proc
   asks-for : Proc → About Proc
-  aside : About Proc
 
 -- what a reply says: a result without a list, a result with one, an error with its value, a reject with its problem; or nothing that its
 -- shape allows

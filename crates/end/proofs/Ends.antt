@@ -1,36 +1,27 @@
 -- Marks, and what it means that an end breaks no rule. Assumes nothing.
 use Prim.Native.Nat.{ℕ, zero, suc, _<_, _≤_}
-use mathlib.Core.Path.{_≡_, refl, ap, _∙_}
+use mathlib.Core.Path.{_≡_, refl, _∙_}
 use mathlib.Core.Bool.{true, false}
 use mathlib.Core.List.{List, [], _∷_}
 use native.Mathlib.Omega.{arith}
-use lib.ListN.{length, getD, set}
+use lib.ListN.{length, List·getD-eq-default}
 use lib.Dec.{leb}
 use borrow.Author.Tests.{lt-ltb, le-ltb, le-leb, lt-leb, leb-true, eq-eqb, ne-eqb}
 use Rattle.laws.specs.Pick.{pick}
 use Rattle.laws.specs.Tests.{all}
 use Rattle.laws.specs.Mark.{doubt, markNo}
 use Rattle.laws.proofs.Picks.{pick-last, pick-then}
+use Rattle.laws.proofs.Filled.{set-past}
 use Rattle.profile.specs.declared.profile.Profile.{Profile}
 use Rattle.requests.specs.Sent.{sendable}
 use Rattle.instances.specs.Run.{runGood}
 use Rattle.end.specs.End.{markAt, marked, usedMost, waitingGood, endRules, endGood}
 use Rattle.end.specs.declared.end.End.{End}
 
-set-past : (l : List ℕ) (i a : ℕ) → length l ≤ i → set l i a ≡ l
-set-past [] i a h = refl
-set-past (x ∷ xs) zero a h = absurd (omega (arith, h))
-set-past (x ∷ xs) (suc i) a h = ap (λ (r : List ℕ). x ∷ r) (set-past xs i a (omega (arith, h)))
-
-get-past : (l : List ℕ) (i d : ℕ) → length l ≤ i → getD l i d ≡ d
-get-past [] i d h = refl
-get-past (x ∷ xs) zero d h = absurd (omega (arith, h))
-get-past (x ∷ xs) (suc i) d h = get-past xs i d (omega (arith, h))
-
 -- a procedure that has no mark is in doubt, and none is put there
 pub mark-past : (procedure : ℕ) (marks : List ℕ) → length marks ≤ procedure → markAt procedure marks ≡ markNo doubt
 unfolding markAt
-mark-past procedure marks h = get-past marks procedure (markNo doubt) h
+mark-past procedure marks h = List·getD-eq-default marks (markNo doubt) h
 
 -- where all are in doubt, each is
 pub mark-doubt : (procedure : ℕ) → markAt procedure (markNo doubt ∷ markNo doubt ∷ markNo doubt ∷ []) ≡ markNo doubt

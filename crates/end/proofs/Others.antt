@@ -51,7 +51,7 @@ use Rattle.end.proofs.Marks.{mark-other, closed-marks, closed-picture, 
 -- ---- instances of another procedure
 
 -- a selection spares them
-spares-other :
+pub spares-other :
     (sel : Selection) (q : ℕ) → (q ≡ sel .procedure → ⊥) → (x : Instance) → isOf q x ≡ true → spared sel x ≡ true
 spares-other sel q other x h =
     by-bool (spared sel x ≡ true) (chosen sel x)
@@ -63,7 +63,7 @@ cleared-other :
     those (isOf q) (deactivated sel is) ≡ those (isOf q) is
 cleared-other sel q is other = those-sub (isOf q) (spared sel) (spares-other sel q other) is
 
-made-other :
+pub made-other :
     (procedure q : ℕ) (address : Address) (ws : List Place) → (q ≡ procedure → ⊥) →
     Each (λ x. isOf q x ≡ false) (map (instanceAt procedure address) ws)
 made-other procedure q address [] other = tt

@@ -1,8 +1,8 @@
 -- What the page reads: each refusal by its test, and what follows where a procedure is shown as known. Assumes nothing.
-use Prim.Native.Nat.{ℕ, zero, suc, _-_, _<_, _≤_}
-use mathlib.Core.Path.{_≡_, refl, sym, ap, _∙_}
+use Prim.Native.Nat.{ℕ, _-_, _<_, _≤_}
+use mathlib.Core.Path.{_≡_, sym, ap, _∙_}
 use mathlib.Core.Bool.{true, false}
-use mathlib.Core.List.{List, [], _∷_}
+use mathlib.Core.List.{List}
 use native.Mathlib.Omega.{arith}
 use lib.ListN.{length, take, getD, replicate, length-map, List·getD-append, List·getD-eq-default}
 use lib.Seq.{take-all}
@@ -10,6 +10,7 @@ use lib.Dec.{ltb, eqb}
 use borrow.Author.Tests.{lt-ltb, le-ltb, ltb-true, ltb-false, eq-eqb, ne-eqb, eqb-true, eqb-false}
 use Rattle.laws.specs.Mark.{known, markNo}
 use Rattle.laws.proofs.Picks.{by-bool}
+use Rattle.laws.proofs.Filled.{get-any}
 use Rattle.refusals.specs.Refusal.{refusalNo, Told, refuses, tells}
 use Rattle.refusals.specs.declared.refusal.Refusal.the-variants.{BadProfile, BadTable, BadRequest}
 use Rattle.refusals.proofs.Refusals.{tells-same, refuses-not}
@@ -112,12 +113,6 @@ module _ (access : List ℕ) (e : End) (procedure : ℕ) where
         (λ bad. no-refusal _ (shown-profile bad))
 
 -- ---- the entries that are handed out
-
--- what stands past a list does not matter before its end
-get-any : {A : Type 0} (l : List A) (i : ℕ) (a b : A) → i < length l → getD l i a ≡ getD l i b
-get-any [] i a b h = absurd (omega (arith, h))
-get-any (x ∷ xs) zero a b h = refl
-get-any (x ∷ xs) (suc i) a b h = get-any xs i a b (omega (arith, h))
 
 -- where the first `i` are not enough there is none, and of what is not known there is none at all
 pub entry-none :

@@ -9,6 +9,7 @@ use native.Mathlib.Omega.{arith}
 use lib.ListN.{length, drop, getD, set, replicate, length-append, length-map, length-drop, length-take, length-replicate, replicate-append-replicate}
 use lib.Seq.{set-at, getD-at, append-snoc}
 use Rattle.laws.proofs.Picks.{pick-last}
+use Rattle.laws.proofs.Lefts.{left-none}
 use Rattle.profile.specs.declared.profile.Profile.{Profile}
 use Rattle.lists.specs.Entry.{entryOf}
 use Rattle.lists.specs.Entries.{instancesMost, entriesIn}
@@ -19,7 +20,7 @@ use Rattle.instances.specs.Places.{runMost}
 use Rattle.instances.specs.Run.{instancesOf, packed, listed, merged, isOf, instancesGood, runGood}
 use Rattle.instances.specs.declared.instance.Instance.{Instance}
 use Rattle.instances.specs.declared.run.Run.{Run}
-use Rattle.instances.proofs.Runs.{step, no-step, packed-done}
+use Rattle.instances.proofs.Runs.{step, packed-done}
 use Rattle.instances.proofs.Choices.{chosen-every}
 use Rattle.instances.proofs.Merged.{nil-merged, merged-nil, merge-lower, merge-higher, merged-length}
 use Rattle.instances.proofs.Fits.{all-pass, not-all}
@@ -130,7 +131,7 @@ module _ (p : Profile) (list : Entries) (n : ℕ)
   pub array-none : replicate runMost blankInstance ≡ arrayFrom p list n n
   unfolding sorted
   array-none =
-      let none : drop n (entriesIn list) ≡ [] = no-step (list .count) (list .entries) n (omega (arith, few, long)) in
+      let none : drop n (entriesIn list) ≡ [] = left-none (list .count) (list .entries) n (omega (arith, few, long)) in
       let all : n + (runMost - n) ≡ runMost = omega (arith, few) in
       rw none (rw all at (sym (replicate-append-replicate n (runMost - n) blankInstance)))
 

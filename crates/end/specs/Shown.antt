@@ -48,8 +48,8 @@ entriesShown p e procedure = map (entryFor (p .numbers)) (listed (everyOf proced
 abbrev pub isKnown : End → ℕ → Bool
 isKnown e procedure = eqb (markAt procedure (e .marks)) (markNo known)
 
-abbrev pub tellsShown : Refusal → Told Seen
-tellsShown refusal = refuses (refusalNo refusal)
+abbrev pub notShown : Refusal → Told Seen
+notShown refusal = refuses (refusalNo refusal)
 
 unfoldable pub shown : List ℕ → End → ℕ → Told Seen
 shown access e procedure =
@@ -58,7 +58,7 @@ shown access e procedure =
     ∷ test (not (endGood instancesMost (accessRead access .profile) e)) BadTable
     ∷ test (not (procedureCode procedure)) BadRequest
     ∷ [])
-    tellsShown
+    notShown
     (tells
     (pick (isKnown e procedure) (seenKnown (length (entriesShown (accessRead access .profile) e procedure))) seenDoubt))
 

@@ -57,7 +57,7 @@ at-once-stays a (reject w q e) (result h) = omega (arith, ap answerNo e)
 at-once-stays a (reject w q e) (error h) = omega (arith, ap answerNo e)
 
 -- an operation that changes instances
-changing : {operation : ℕ} → Known operation → (operation ≡ interrogation → ⊥) → (operation ≡ activation) ⊎ (operation ≡ deactivation)
+pub changing : {operation : ℕ} → Known operation → (operation ≡ interrogation → ⊥) → (operation ≡ activation) ⊎ (operation ≡ deactivation)
 changing (activates e) other = inl e
 changing (deactivates e) other = inr e
 changing (interrogates e) other = absurd (other e)

@@ -1,6 +1,6 @@
 -- The laws of all writers that stop where the output ends: one, and then another (`pen-then`). Assumes nothing.
-use Prim.Native.Nat.{ℕ, zero, suc, _+_, _-_, _≤_, _<_}
-use mathlib.Core.Path.{_≡_, refl, sym, ap, _∙_}
+use Prim.Native.Nat.{ℕ, _+_, _-_, _≤_, _<_}
+use mathlib.Core.Path.{_≡_, sym, ap, _∙_}
 use mathlib.Core.List.{List, [], _∷_, _++_}
 use native.Mathlib.Omega.{arith}
 use lib.Dec.{leb}
@@ -8,13 +8,9 @@ use borrow.Author.Tests.{leb-true, leb-false}
 use lib.ListN.{length, set, length-append}
 use Rattle.laws.specs.Over.{over}
 use Rattle.laws.proofs.Picks.{by-bool}
+use Rattle.laws.proofs.Filled.{set-past}
 use Rattle.laws.proofs.Over.{over-over, over-nil, over-one, over-cons, length-over}
 use Rattle.explanations.specs.inner.Pen.{Penned}
-
-set-past : (xs : List ℕ) (at w : ℕ) → length xs ≤ at → set xs at w ≡ xs
-set-past [] at w h = refl
-set-past (x ∷ xs) zero w h = absurd (omega arith)
-set-past (x ∷ xs) (suc at) w h = ap (λ (l : List ℕ). x ∷ l) (set-past xs at w (omega arith))
 
 -- past the end nothing is written
 over-past : (xs : List ℕ) (at : ℕ) (ws : List ℕ) → length xs ≤ at → over xs at ws ≡ xs

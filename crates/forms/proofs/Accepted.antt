@@ -12,7 +12,7 @@ use borrow.Author.Tests.{eqb-true}
 use Rattle.laws.specs.Tests.{all}
 use Rattle.laws.specs.Got.{got}
 use Rattle.laws.specs.Stands.{Stands}
-use Rattle.laws.proofs.Gots.{found-is}
+use Rattle.laws.proofs.Gots.{found-is, FoundAt, found-at-then, found-at-is}
 use Rattle.laws.proofs.Picks.{pick-ind}
 use Rattle.laws.proofs.Tests.{both-hold}
 use Rattle.laws.proofs.Stands.{stands-first, stands-right, stands-nil, stands-cons, slice-stands}
@@ -22,6 +22,7 @@ use Rattle.groups.specs.declared.groups.Groups.the-variants as variants
 use Rattle.groups.proofs.GroupLaws.{StandsTo, groups-at-only}
 use Rattle.numbers.specs.Number.{most, fair}
 use Rattle.numbers.specs.declared.address.Address.{Address}
+use Rattle.numbers.proofs.Spellings.{padded-taken}
 use Rattle.instances.specs.declared.instance.Instance.{Instance}
 use Rattle.forms.specs.Form.{form1}
 use Rattle.forms.specs.Size.{sheetMost}
@@ -31,9 +32,8 @@ use Rattle.forms.specs.Sheet.{Sheet, instancesFrom, inOrder, instancesOc
 use Rattle.forms.specs.Formed.{ReadForm}
 use Rattle.forms.specs.declared.form.Form.{Form}
 use Rattle.forms.specs.declared.sheet.FormRead.{FormRead}
-use Rattle.forms.proofs.Parts.{FoundAt, found-at-then, found-at-is}
 use Rattle.forms.proofs.Fields.{Passing, field-passes, fields-passing}
-use Rattle.forms.proofs.Fits.{kept-fields, few-instances, Short, form1-short}
+use Rattle.forms.proofs.Fits.{few-instances, Short, form1-short}
 use Rattle.forms.proofs.Instances.{instances-count}
 use Rattle.forms.proofs.Sheets.{Allowed, sheet-allowed, form-found}
 use Rattle.forms.proofs.Octets.{fields-none, fields-more, fields-both, octets-none, octets-more, sheet-octets}
@@ -118,7 +118,7 @@ made-fields :
     addressFields (addressOf form kind ds sub) ≡ form ∷ kind ∷ length ds ∷ ds ++ (length sub ∷ sub)
 made-fields form kind ds sub =
     let cs : List ℕ = map (λ d. 48 + d) ds in
-    rw (kept-fields cs, kept-fields sub, digits-back ds, length-map ds (λ d. 48 + d))
+    rw (padded-taken cs, padded-taken sub, digits-back ds, length-map ds (λ d. 48 + d))
 
 module _ (s : List ℕ) (small : (i : ℕ) → getD s i 0 < 256) where
   abbrev Of : ℕ → Address → ℕ → Type 0

@@ -6,8 +6,7 @@ use mathlib.Core.Bool.{true, false}
 use mathlib.Core.List.{List, [], _∷_, map}
 use mathlib.Core.Logic.{⊎-elim}
 use native.Mathlib.Omega.{arith}
-use lib.ListN.{length, take, getD, replicate}
-use lib.Seq.{take-append-seam}
+use lib.ListN.{length, take, getD}
 use lib.Dec.{ltb}
 use borrow.Author.Tests.{lt-ltb, ltb-false}
 use Rattle.laws.specs.Pick.{pick}
@@ -16,10 +15,11 @@ use Rattle.laws.proofs.Tests.{both-hold}
 use Rattle.laws.proofs.Eaches.{Each, each-so, up-map}
 use Rattle.codes.specs.Digits.{allDigits}
 use Rattle.codes.proofs.Characters.{digits-step, type-most}
-use Rattle.numbers.specs.Number.{most, padded, digitsOf}
+use Rattle.numbers.specs.Number.{most, digitsOf}
 use Rattle.numbers.specs.Address.{subOctetsOf, tidyAddress, addressGood}
 use Rattle.numbers.specs.declared.address.Address.{Address}
 use Rattle.numbers.proofs.Goods.{digits-fair, good-number, good-address}
+use Rattle.numbers.proofs.Spellings.{padded-taken}
 use Rattle.numbers.proofs.Readers as readers
 use Rattle.instances.specs.Instance.{procedures, keyOf}
 use Rattle.instances.specs.Places.{runMost}
@@ -127,13 +127,9 @@ tidyInstance i = record {
   address = tidyAddress (i .address);
 }
 
--- zeros after octets stay out of what is counted
-pub kept-fields : (ws : List ℕ) → take (length ws) (padded ws) ≡ ws
-kept-fields ws = take-append-seam ws (replicate (most - length ws) 0)
-
 -- zeros past the digits and octets stay zeros
 pub tidy-twice : (i : Instance) → tidyInstance (tidyInstance i) ≡ tidyInstance i
-tidy-twice i = rw (kept-fields (digitsOf (i .address .number)), kept-fields (subOctetsOf (i .address)))
+tidy-twice i = rw (padded-taken (digitsOf (i .address .number)), padded-taken (subOctetsOf (i .address)))
 
 -- ---- in order
 

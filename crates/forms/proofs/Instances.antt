@@ -15,6 +15,7 @@ use Rattle.laws.proofs.Eaches.{Each}
 use Rattle.numbers.specs.Number.{most, padded, fair, numberOf}
 use Rattle.numbers.specs.Address.{subOf}
 use Rattle.numbers.proofs.Goods.{fair-some, parts-good}
+use Rattle.numbers.proofs.Spellings.{padded-taken}
 use Rattle.instances.specs.Instance.{blankInstance}
 use Rattle.instances.specs.Places.{runMost}
 use Rattle.instances.specs.Run.{packed}
@@ -27,7 +28,7 @@ use Rattle.forms.specs.declared.form.Form.{Form}
 use Rattle.forms.specs.declared.sheet.InstancesRead.{InstancesRead}
 use Rattle.forms.proofs.Fields.{AllPass, Passing, field-passes, below-small, fields-passing, ahead, ahead-none, ahead-one}
 use Rattle.forms.proofs.Readers.{characters, fair-good}
-use Rattle.forms.proofs.Fits.{Held, FieldsFit, kept-fields}
+use Rattle.forms.proofs.Fits.{Held, FieldsFit}
 
 -- ---- what is read of an instance is such as a sheet may hold
 
@@ -53,7 +54,7 @@ made-held form kind ds sub low type some digits few octets =
           (λ e. omega (arith, low, e));
       digits = long cs short;
       sub = long sub few;
-      octets = rw (kept-fields sub) octets;
+      octets = rw (padded-taken sub) octets;
     }
 
 module _ (s : List ℕ) where

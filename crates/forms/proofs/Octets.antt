@@ -26,10 +26,6 @@ fields-both (n ∷ ns) ms =
 
 -- ---- instances
 
-pub instance-fields : (i : Instance) → instanceOctets i ≡ allGroups (instanceFields i)
-unfolding instanceOctets
-instance-fields i = refl
-
 pub octets-none : instancesOctets [] ≡ []
 unfolding instancesOctets
 octets-none = refl

@@ -1,6 +1,6 @@
 -- What is found of a whole, and of its parts. Assumes nothing.
 use Prim.Native.Nat.{ℕ}
-use mathlib.Core.Path.{_≡_, refl, subst}
+use mathlib.Core.Path.{_≡_, refl}
 use mathlib.Core.Bool.{Bool, true, false}
 use Rattle.laws.specs.Pick.{pick}
 use Rattle.laws.specs.Got.{Got, got, wrong, andThen}
@@ -24,20 +24,3 @@ pub then-through :
     andThen g k ≡ andThen (andThen g f) h
 then-through (got a place) f k h e = e a place
 then-through wrong f k h e = refl
-
--- ---- what holds of a thing that is found and of the place after it
-
-abbrev pub FoundAt : {A : Type 0} → (A → ℕ → Type 0) → Got A → Type 0
-FoundAt P (got a next) = P a next
-FoundAt P wrong = Unit {0}
-
-pub found-at-then :
-    {A B : Type 0} (P : B → ℕ → Type 0) (g : Got A) (k : A → ℕ → Got B) →
-    ((a : A) (place : ℕ) → g ≡ got a place → FoundAt P (k a place)) →
-    FoundAt P (andThen g k)
-found-at-then P (got a place) k f = f a place refl
-found-at-then P wrong k f = tt
-
-pub found-at-is :
-    {A : Type 0} (P : A → ℕ → Type 0) {g : Got A} {a : A} {next : ℕ} → g ≡ got a next → FoundAt P g → P a next
-found-at-is P e h = subst (FoundAt P) e h

@@ -14,6 +14,7 @@ use Rattle.laws.specs.Pick.{pick}
 use Rattle.laws.specs.Those.{those}
 use Rattle.laws.proofs.Picks.{by-bool, pick-last}
 use Rattle.laws.proofs.Thoses.{those-take, those-skip, those-none}
+use Rattle.laws.proofs.Lefts.{left-none}
 use Rattle.laws.proofs.Filled.{Full}
 use Rattle.profile.specs.Profile.{servicesMost, subscribedServices}
 use Rattle.profile.specs.declared.profile.Profile.{Profile}
@@ -24,7 +25,7 @@ use Rattle.instances.specs.declared.instance.Selection.{Selection}
 use Rattle.instances.specs.declared.places.Named.{Named}
 use Rattle.instances.specs.declared.places.Place.{Place}
 use Rattle.instances.specs.declared.places.Places.{Places}
-use Rattle.instances.proofs.Runs.{step, no-step}
+use Rattle.instances.proofs.Runs.{step}
 use Rattle.instances.proofs.Choices.{named-every, named-one}
 
 places-more :
@@ -186,7 +187,7 @@ module _ (w : Places) (many m : ℕ) (few : many ≡ min (w .count) runMost) (lo
   next-place h = step (w .count) (w .places) m noPlace (omega arith) (omega arith)
 
   pub no-place : many ≤ m → drop m (placesIn w) ≡ []
-  no-place h = no-step (w .count) (w .places) m (omega (arith, few, long))
+  no-place h = left-none (w .count) (w .places) m (omega (arith, few, long))
 
 pub placed-back : (w : Places) (ws : List Place) → w ≡ placed ws → placesIn w ≡ ws
 placed-back w ws e = rw e (take-append-seam ws (replicate (runMost - length ws) noPlace))

@@ -21,9 +21,6 @@ pub step :
     drop i (take count l) ≡ getD l i d ∷ drop (i + 1) (take count l)
 step count l i d h long = rw add-one (left-cons count l i d h long)
 
-pub no-step : {A : Type 0} (count : ℕ) (l : List A) (i : ℕ) → min count (length l) ≤ i → drop i (take count l) ≡ []
-no-step count l i h = left-none count l i h
-
 -- what the machine reads past an array
 abbrev pub outside : Instance
 outside =
@@ -34,7 +31,7 @@ module _ (run : Run) (n i : ℕ) (few : n ≡ min (run .count) runMost) (long : 
   next-is h = step (run .count) (run .run) i outside (omega arith) (omega arith)
 
   pub none-left : n ≤ i → drop i (instancesOf run) ≡ []
-  none-left h = no-step (run .count) (run .run) i (omega (arith, few, long))
+  none-left h = left-none (run .count) (run .run) i (omega (arith, few, long))
 
 -- ---- the record of instances
 

@@ -20,11 +20,6 @@ module _ {A : Type 0} (f : ℕ → A) where
   each-spelled zero from = refl
   each-spelled (suc n) from = ap (λ (l : List A). f from ∷ l) (each-spelled n (suc from))
 
-  pub length-each : (n from : ℕ) → length (eachFrom f n from) ≡ n
-  unfolding eachFrom
-  length-each zero from = refl
-  length-each (suc n) from = ap suc (length-each n (suc from))
-
   -- the thing at a place
   pub getD-each : (n from i : ℕ) (d : A) → i < n → getD (eachFrom f n from) i d ≡ f (from + i)
   unfolding eachFrom

@@ -1,11 +1,11 @@
--- An array that is filled from the front with the things of a list, and blanks past them. Assumes nothing.
+-- An array that is filled from the front with the things of a list, and blanks past them; a list and what stands past it. Assumes nothing.
 use Prim.Native.Nat.{ℕ, zero, suc, min, _+_, _-_, _<_, _≤_}
 use mathlib.Core.Path.{_≡_, refl, sym, ap, _∙_}
 use mathlib.Core.List.{List, [], _∷_, _++_, append-nil}
 use native.Mathlib.Nat.{sub-zero, zero-min, min-zero, suc-min-suc}
 use native.Mathlib.Numerals.{add-one}
 use native.Mathlib.Omega.{arith}
-use lib.ListN.{length, take, drop, set, replicate, length-set, length-replicate, take-append-drop}
+use lib.ListN.{length, take, drop, getD, set, replicate, length-set, length-replicate, take-append-drop}
 use lib.Seq.{take-all, take-nil, take-append-le, take-suc-set, drop-set-lt, append-snoc, length-take-le}
 
 -- k of the things of `whole` stand in an array of `size`, blanks after them, and `left` is still to come
@@ -58,6 +58,18 @@ module _ {A : Type 0} (size : ℕ) (blank : A) (whole : List A) where
       rw (← so .come, all) (take-append-le size array left (omega (arith, so .long)) ∙ all) in
       let none : size - length array ≡ 0 = omega (arith, so .long) in
       (rw front (sym (so .long)), rw (front, none) (sym (append-nil array)), rw front (omega (arith, so .long)))
+
+-- what stands past a list does not matter before its end
+pub get-any : {A : Type 0} (l : List A) (i : ℕ) (a b : A) → i < length l → getD l i a ≡ getD l i b
+get-any [] i a b h = absurd (omega (arith, h))
+get-any (x ∷ xs) zero a b h = refl
+get-any (x ∷ xs) (suc i) a b h = get-any xs i a b (omega (arith, h))
+
+-- past the end nothing is stored
+pub set-past : {A : Type 0} (l : List A) (i : ℕ) (a : A) → length l ≤ i → set l i a ≡ l
+set-past [] i a h = refl
+set-past (x ∷ xs) zero a h = absurd (omega (arith, h))
+set-past (x ∷ xs) (suc i) a h = ap (λ (r : List _). x ∷ r) (set-past xs i a (omega (arith, h)))
 
 -- as many of a list as a count says, and no more than there are
 pub take-min : {A : Type 0} (count : ℕ) (l : List A) → take (min count (length l)) l ≡ take count l

@@ -98,20 +98,17 @@ wrote {xs} {at} {ws} h p =
     let fits : room xs at ws ≡ true = le-leb (at + length ws) (length xs) h in
     record { moved = rw fits at (p .moved); holds = rw fits at (p .holds) }
 
--- what was written from the start of a list on can be taken from it again
-module _ {xs ws : List ℕ} {n : ℕ} {ys : List ℕ} (w : Wrote xs 0 ws n ys) (fits : n ≤ length xs) where
-  pub wrote-taken : take n ys ≡ ws
-  wrote-taken =
-      let count : n ≡ length ws = omega (arith, w .moved) in
-      rw (w .holds, count) (take-over xs ws (omega (arith, count)))
-
-  pub wrote-count : n ≡ length (take n ys)
-  wrote-count = rw wrote-taken (omega (arith, w .moved))
-
 -- what is written over keeps its length
 pub wrote-length :
     {xs : List ℕ} {at : ℕ} {ws : List ℕ} {n : ℕ} {ys : List ℕ} → Wrote xs at ws n ys → length ys ≡ length xs
 wrote-length {xs} {at} {ws} w = ap length (w .holds) ∙ length-over xs at ws
+
+-- two octets that are stored one by one
+pub wrote-two : (xs : List ℕ) (at a b : ℕ) → Wrote xs at (a ∷ b ∷ []) (at + 2) (set (set xs at a) (at + 1) b)
+wrote-two xs at a b = record {
+  moved = refl;
+  holds = sym (over-cons xs at a (b ∷ []) ∙ over-one (set xs at a) (at + 1) b);
+}
 
 -- nothing is written
 pub wrote-none : {xs : List ℕ} {at : ℕ} → Wrote xs at [] at xs

@@ -152,9 +152,6 @@ module _ (form kind : ℕ) where
 
 -- ---- octets in hexadecimal
 
-pub pair-wrote : (xs : List ℕ) (at a b : ℕ) → Wrote xs at (a ∷ b ∷ []) (at + 2) (set (set xs at a) (at + 1) b)
-pair-wrote xs at a b = record { moved = refl; holds = then (wrote-one xs at a) (wrote-one (set xs at a) (at + 1) b) .holds }
-
 abbrev pub pairOf : ℕ → List ℕ
 pairOf o = hexOf (o / 16) ∷ hexOf o ∷ []
 

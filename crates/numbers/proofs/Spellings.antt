@@ -1,10 +1,10 @@
 -- Nothing else is read as a number or an address than what spells one, needless lengths aside, and its record is the one that the
 -- octets say. Assumes nothing.
 use Prim.Native.Nat.{ℕ, _-_, _≤_, _<_}
-use mathlib.Core.Path.{_≡_, refl, sym, ap, _∙_}
+use mathlib.Core.Path.{_≡_, refl}
 use mathlib.Core.Bool.{true}
 use mathlib.Core.List.{List, [], _∷_}
-use mathlib.Core.Logic.{inl, inr, ⊎-elim}
+use mathlib.Core.Logic.{inl, inr}
 use native.Mathlib.Omega.{arith}
 use lib.ListN.{length, getD, take, replicate}
 use lib.Seq.{slice, slice-empty, length-slice, take-append-seam}
@@ -13,7 +13,7 @@ use borrow.Author.Tests.{eqb-true}
 use Rattle.laws.specs.Pick.{pick}
 use Rattle.laws.specs.Tests.{all}
 use Rattle.laws.specs.Got.{Got, got, wrong, andThen}
-use Rattle.laws.proofs.Gots.{Something, found-is}
+use Rattle.laws.proofs.Gots.{Something, FoundAt, found-is, found-at-then}
 use Rattle.laws.proofs.Picks.{pick-ind}
 use Rattle.laws.proofs.Tests.{both-hold}
 use Rattle.codes.specs.Digits.{typeGood}
@@ -28,29 +28,14 @@ use Rattle.values.specs.declared.enumerated.Enumerated.{Enumerated}
 use Rattle.values.specs.declared.enumerated.Enumerated.the-variants as enumerated
 use Rattle.values.proofs.Enumerateds.{enumerated-within}
 use Rattle.values.proofs.Spellings.{enumerated-only}
-use Rattle.numbers.specs.Number.{most, unknown, public, other, padded, fair, digitsGood, numberOf, tidyNumber}
+use Rattle.numbers.specs.Number.{most, unknown, padded, fair, digitsGood}
 use Rattle.numbers.specs.Number.{digitsIn, valueOf, stringOf, stringAt, publicIn, otherTag, numberIn, numberAt}
-use Rattle.numbers.specs.Address.{octetsIn, subIn, subAt, forwardedOf, addressIn, addressAt, tidyAddress}
+use Rattle.numbers.specs.Address.{octetsIn, subIn, subAt, addressIn, addressAt}
 use Rattle.numbers.specs.Spelt.{NumberSpelt, SubSpelt, AddressSpelt}
 use Rattle.numbers.specs.declared.number.Number.{Number}
-use Rattle.numbers.specs.declared.address.Address.{Address}
 use Rattle.numbers.specs.declared.address.Sub.{Sub}
 use Rattle.numbers.specs.declared.address.Forwarded.{Forwarded}
 use Rattle.numbers.proofs.Readers.{number-within}
-
--- ---- what is found, and where it ends
-
--- P holds of what was found and of the place after it
-abbrev FoundIf : {A : Type 0} → (A → ℕ → Type 0) → Got A → Type 0
-FoundIf P (got a next) = P a next
-FoundIf P wrong = Unit {0}
-
-then-if :
-    {A B : Type 0} (P : B → ℕ → Type 0) (g : Got A) (next : A → ℕ → Got B) →
-    ((a : A) (place : ℕ) → g ≡ got a place → FoundIf P (next a place)) →
-    FoundIf P (andThen g next)
-then-if P (got a place) next f = f a place refl
-then-if P wrong next f = tt
 
 module _ (s : List ℕ) (small : (i : ℕ) → getD s i 0 < 256) where
   -- ---- numbers
@@ -61,10 +46,10 @@ module _ (s : List ℕ) (small : (i : ℕ) → getD s i 0 < 256) where
 
   unknown-only :
       (at start stop next : ℕ) → Spells 0x80 (slice start stop s) (slice at next s) →
-      FoundIf (Spelt at) (digitsIn unknown 0 s start stop next)
+      FoundAt (Spelt at) (digitsIn unknown 0 s start stop next)
   unfolding digitsIn
   unknown-only at start stop next sp =
-      pick-ind (FoundIf (Spelt at)) (digitsGood (slice start stop s))
+      pick-ind (FoundAt (Spelt at)) (digitsGood (slice start stop s))
       (λ good. inl (record { digits = slice start stop s; good = good; spells = sp; is = refl }))
       (λ _. tt)
 
@@ -72,12 +57,12 @@ module _ (s : List ℕ) (small : (i : ℕ) → getD s i 0 < 256) where
   string-head :
       (depth at start stop next kind place : ℕ) → start ≤ place → typeGood kind ≡ true →
       Spells enumeratedTag (kind ∷ []) (slice start place s) → Spells 0xA1 (slice start stop s) (slice at next s) →
-      (h : Head) → headAt depth s place stop ≡ h → FoundIf (Spelt at) (stringOf kind s stop next h)
+      (h : Head) → headAt depth s place stop ≡ h → FoundAt (Spelt at) (stringOf kind s stop next h)
   unfolding digitsIn
   string-head depth at start stop next kind place le kinds first sp (head.Is tag from to last) e =
-      pick-ind (FoundIf (Spelt at)) (all (eqb tag 0x12 ∷ eqb last stop ∷ []))
+      pick-ind (FoundAt (Spelt at)) (all (eqb tag 0x12 ∷ eqb last stop ∷ []))
       (λ both.
-      pick-ind (FoundIf (Spelt at)) (digitsGood (slice from to s))
+      pick-ind (FoundAt (Spelt at)) (digitsGood (slice from to s))
       (λ good.
       let b = both-hold (eqb tag 0x12) (eqb last stop) both in
       let h : HeadSpelt depth s place stop tag from to last = head-only s small depth place stop e in
@@ -101,16 +86,16 @@ module _ (s : List ℕ) (small : (i : ℕ) → getD s i 0 < 256) where
   -- the contents of a public number
   public-only :
       (depth at start stop next : ℕ) → Spells 0xA1 (slice start stop s) (slice at next s) →
-      FoundIf (Spelt at) (publicIn depth s start stop next)
+      FoundAt (Spelt at) (publicIn depth s start stop next)
   unfolding publicIn stringAt
   public-only depth at start stop next sp = from (enumeratedAt depth s start stop) refl
     where
       from :
           (v : Enumerated) → enumeratedAt depth s start stop ≡ v →
-          FoundIf (Spelt at)
+          FoundAt (Spelt at)
           (andThen (valueOf v) (λ kind place. pick (typeGood kind) (stringAt depth kind s place stop next) wrong))
       from (enumerated.Is kind place) e =
-          pick-ind (FoundIf (Spelt at)) (typeGood kind)
+          pick-ind (FoundAt (Spelt at)) (typeGood kind)
           (λ kinds.
           string-head depth at start stop next kind place (omega (arith, enumerated-within depth s start stop e)) kinds
           (enumerated-only s small depth start stop e) sp (headAt depth s place stop) refl)
@@ -119,9 +104,9 @@ module _ (s : List ℕ) (small : (i : ℕ) → getD s i 0 < 256) where
 
   number-head :
       (depth at end : ℕ) (h : Head) → headAt depth s at end ≡ h →
-      FoundIf (Spelt at) (numberIn depth s h)
+      FoundAt (Spelt at) (numberIn depth s h)
   number-head depth at end (head.Is tag start stop next) e =
-      let P : Got Number → Type 0 = FoundIf (Spelt at) in
+      let P : Got Number → Type 0 = FoundAt (Spelt at) in
       let sp : Spells tag (slice start stop s) (slice at next s) = head-only s small depth at end e .spells in
       pick-ind P (eqb tag 0x80) (λ t. unknown-only at start stop next (rw (eqb-true tag 0x80 t) at sp)) (λ _.
       pick-ind P (eqb tag 0xA1) (λ t. public-only (depth - 1) at start stop next (rw (eqb-true tag 0xA1 t) at sp)) (λ _.
@@ -183,15 +168,15 @@ module _ (s : List ℕ) (small : (i : ℕ) → getD s i 0 < 256) where
 
   address-head :
       (depth at end : ℕ) (h : Head) → headAt depth s at end ≡ h →
-      FoundIf (λ to next. AddressSpelt to (slice at next s)) (addressIn depth s h)
+      FoundAt (λ to next. AddressSpelt to (slice at next s)) (addressIn depth s h)
   address-head depth at end (head.Is tag start stop next) e =
       let P : Forwarded → ℕ → Type 0 = λ to next. AddressSpelt to (slice at next s) in
       let inner : ℕ = depth - 1 in
       let sp : Spells tag (slice start stop s) (slice at next s) = head-only s small depth at end e .spells in
-      pick-ind (FoundIf P) (eqb tag 0x30)
+      pick-ind (FoundAt P) (eqb tag 0x30)
       (λ t.
-      then-if P (numberAt inner s start stop) _ (λ number place f.
-      then-if P (subAt inner s place stop) _ (λ sub last g.
+      found-at-then P (numberAt inner s start stop) _ (λ number place f.
+      found-at-then P (subAt inner s place stop) _ (λ sub last g.
       let in-order = number-within inner s start stop number place f in
       record {
         number = number;
@@ -215,34 +200,8 @@ module _ (s : List ℕ) (small : (i : ℕ) → getD s i 0 < 256) where
   unfolding addressAt
   address-only depth at end e = rw e at (address-head depth at end (headAt depth s at end) refl)
 
--- ---- such a record is tidy: past its digits and its subaddress's octets it holds zeros
+-- ---- digits and octets with zeros past them
 
 -- what is padded begins with the octets that it was made of
 pub padded-taken : (ws : List ℕ) → take (length ws) (padded ws) ≡ ws
 padded-taken ws = take-append-seam ws (replicate (most - length ws) 0)
-
-pub number-tidy : {n : Number} {ws : List ℕ} → NumberSpelt n ws → tidyNumber n ≡ n
-number-tidy {n} {ws} sp =
-    ⊎-elim (λ u. made unknown 0 (u .digits) (u .is))
-    (⊎-elim (λ u. made public (u .kind) (u .digits) (u .is)) (λ u. made other 0 [] (u .is))) sp
-  where
-    made : (form kind : ℕ) (cs : List ℕ) → n ≡ numberOf form kind cs → tidyNumber n ≡ n
-    made form kind cs e = ap tidyNumber e ∙ ap (numberOf form kind) (padded-taken cs) ∙ sym e
-
-pub address-tidy : {to : Forwarded} {ws : List ℕ} → AddressSpelt to ws → tidyAddress (to .address) ≡ to .address
-address-tidy {to} sp =
-    ⊎-elim (λ u. made 0 [] (u .is)) (⊎-elim (λ u. made 0 (u .octets) (u .is)) (λ u. made 1 [] (u .is))) (sp .subs)
-  where
-    whole : (n : Number) (cs : List ℕ) → Address
-    whole n cs = record { number = n; subcount = length cs; sub = padded cs }
-
-    made :
-        (user : ℕ) (cs : List ℕ) → sp .sub ≡ record { user = user; count = length cs; octets = padded cs } →
-        tidyAddress (to .address) ≡ to .address
-    made user cs e =
-        let is : to .address ≡ whole (sp .number) cs =
-        ap (λ (x : Forwarded). x .address) (sp .is) ∙ ap (λ (x : Sub). forwardedOf (sp .number) x .address) e in
-        ap tidyAddress is
-        ∙ ap (whole (tidyNumber (sp .number))) (padded-taken cs)
-        ∙ ap (λ (n : Number). whole n cs) (number-tidy (sp .numbers))
-        ∙ sym is

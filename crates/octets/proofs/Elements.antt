@@ -4,7 +4,7 @@ use mathlib.Core.Path.{_≡_, ap}
 use mathlib.Core.Bool.{true}
 use mathlib.Core.List.{List, [], _∷_}
 use native.Mathlib.Omega.{arith}
-use lib.ListN.{length, getD, length-append}
+use lib.ListN.{length, length-append}
 use borrow.Author.Tests.{le-ltb, lt-leb, ne-eqb}
 use Rattle.laws.specs.Over.{Wrote}
 use Rattle.laws.specs.Stands.{Stands}
@@ -42,12 +42,6 @@ pub length-element :
     length (element tag contents) ≡ suc (suc (lengthFewest (length contents))) + length contents
 length-element tag contents = rw (length-append (headOctets tag (length contents)) contents, length-head tag (length contents))
 
--- what the code works out for the two: how many octets a head takes, and with its contents
-pub element-size :
-    (tag : ℕ) (contents : List ℕ) {n r : ℕ} → n ≡ length contents → HeadSize n r →
-    r + n ≡ length (element tag contents)
-element-size tag contents e h = omega (arith, e, rw e at h, length-element tag contents)
-
 -- a head has at most four octets
 pub head-most : (n : ℕ) {r : ℕ} → HeadSize n r → r ≤ 4
 head-most n h = omega (arith, h, shortest-most n)
@@ -74,13 +68,6 @@ element-back depth tag contents s at end deep low small st fit in-s =
       a,
       b,
     )
-
--- its first octet is its tag
-pub element-first :
-    (tag : ℕ) (contents s : List ℕ) (at : ℕ) → Stands s at (element tag contents) → getD s at 0 ≡ tag
-element-first tag contents s at st =
-    let n : ℕ = length contents in
-    stands-first s at tag (lengthWith (lengthFewest n) n) (stands-left s at (headOctets tag n) contents st)
 
 -- its contents stand after its head
 pub element-contents :

@@ -3,12 +3,11 @@ use Prim.Native.Nat.{ℕ, _≤_}
 use mathlib.Core.Path.{_≡_, refl, sym, ap, subst, _∙_}
 use mathlib.Core.Bool.{true}
 use mathlib.Core.List.{List, []}
-use mathlib.Core.Logic.{_⊎_, inl, inr}
 use native.Mathlib.Omega.{arith}
 use lib.IntN.{ℤ, pos}
 use lib.ListN.{length}
 use Rattle.refusals.specs.Refusal.{tells, outputLeast}
-use Rattle.codes.specs.Codes.{activation, deactivation, interrogation}
+use Rattle.codes.specs.Codes.{interrogation}
 use Rattle.profile.specs.Access.{accessRead}
 use Rattle.profile.specs.declared.profile.Profile.{Profile}
 use Rattle.requests.specs.Heard.{local, heard}
@@ -37,18 +36,12 @@ use Rattle.exchange.specs.declared.table.Table.{Table}
 use Rattle.exchange.proofs.Questions.{Known, activates, deactivates, interrogates, known-code}
 use Rattle.exchange.proofs.Steps.{lists, handled-ind, step-says, step-asks}
 use Rattle.exchange.proofs.Arrivals.{done-answers, StepFits, step-fits}
-use Rattle.exchange.proofs.Nexts.{heeded}
+use Rattle.exchange.proofs.Nexts.{changing, heeded}
 use Rattle.end.specs.Sending.{sends}
 use Rattle.end.specs.declared.end.End.{End}
 use Rattle.exchange.proofs.Askings.{Asking, rejected, judged, asking, asking-new}
 use Rattle.end.proofs.Waitings.{sends-waits}
 use Rattle.promise.specs.AnswerBack.{ListSaid, SaysBack, AnswersEnd}
-
--- an operation that is known, and not an interrogation
-changing : {operation : ℕ} → Known operation → (operation ≡ interrogation → ⊥) → (operation ≡ activation) ⊎ (operation ≡ deactivation)
-changing (activates e) other = inl e
-changing (deactivates e) other = inr e
-changing (interrogates e) other = absurd (other e)
 
 -- ---- what a step answers
 

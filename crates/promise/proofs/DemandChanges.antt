@@ -28,6 +28,7 @@ use Rattle.rules.proofs.Selections.{selection-procedure}
 use Rattle.rules.proofs.Judges.{count-afterwards, judge-fails, judge-rest}
 use Rattle.rules.proofs.Changes.{changed-activation, changed-deactivation, changed-other, changed-ind}
 use Rattle.forms.proofs.Fits.{tidyInstance}
+use Rattle.end.proofs.Others.{spares-other, made-other}
 use Rattle.promise.proofs.DemandLists as L
 use Rattle.promise.proofs.DemandLists.{heldOf}
 use Rattle.rules.proofs.Tidied.{Sized, selection-tidied}
@@ -105,11 +106,11 @@ module _ (p : Profile) (r : Request) where
       (operation o : ℕ) (is : List Instance) → (o ≡ r .procedure → ⊥) → heldOf o (changed p operation r is) ≡ heldOf o is
   changed-others operation o is other =
       let not : o ≡ sel .procedure → ⊥ = λ e. other (e ∙ own) in
-      let kept = L.held-kept o (spared sel) (L.spared-others sel o not) is in
+      let kept = L.held-kept o (spared sel) (spares-other sel o not) is in
       changed-ind p r is (λ l. heldOf o l ≡ heldOf o is) operation
       (λ _.
       L.held-past o (made p sel (r .to .address)) (deactivated sel is)
-      (L.made-past (sel .procedure) o (r .to .address) (placesOf p sel) not)
+      (made-other (sel .procedure) o (r .to .address) (placesOf p sel) not)
       ∙ kept)
       (λ _. kept)
       refl

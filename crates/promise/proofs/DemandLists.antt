@@ -7,7 +7,7 @@ use mathlib.Core.List.{List, [], _∷_, map}
 use native.Mathlib.Omega.{arith}
 use lib.ListN.{length, length-map}
 use lib.Dec.{ltb}
-use borrow.Author.Tests.{eq-eqb, ne-eqb, ltb-true, ltb-false, eqb-true}
+use borrow.Author.Tests.{eq-eqb, ltb-true, ltb-false}
 use Rattle.laws.specs.Those.{those}
 use Rattle.laws.proofs.Picks.{by-bool}
 use Rattle.laws.proofs.Thoses.{those-take, those-skip, those-none, those-sub}
@@ -19,7 +19,7 @@ use Rattle.instances.specs.Run.{instanceAt, merged, isOf, countOf}
 use Rattle.instances.specs.declared.instance.Instance.{Instance}
 use Rattle.instances.specs.declared.instance.Selection.{Selection}
 use Rattle.instances.specs.declared.places.Place.{Place}
-use Rattle.instances.proofs.Choices.{concerns-is, chosen-is, chosen-of, kept-test}
+use Rattle.instances.proofs.Choices.{concerns-is, chosen-is, chosen-of}
 use Rattle.instances.proofs.Merged.{nil-merged, merged-nil, merge-lower, merge-higher, gone-merged}
 use Rattle.forms.proofs.Fits.{tidyInstance, tidy-twice}
 
@@ -207,12 +207,6 @@ module _ (q : ℕ) where
 chosen-own : (sel : Selection) (x : Instance) → chosen sel x ≡ true → isOf (sel .procedure) x ≡ true
 chosen-own sel x h = eq-eqb (x .procedure) (sel .procedure) (concerns-is sel (x .procedure) (chosen-is sel x h .0))
 
-pub spared-others : (sel : Selection) (q : ℕ) → (q ≡ sel .procedure → ⊥) → (x : Instance) → isOf q x ≡ true → spared sel x ≡ true
-spared-others sel q other x h =
-    by-bool (spared sel x ≡ true) (chosen sel x)
-    (λ k. absurd (other (sym (eqb-true (x .procedure) q h) ∙ concerns-is sel (x .procedure) (chosen-is sel x k .0))))
-    (λ k. kept-test (chosen sel x) k)
-
 pub held-chosen : (sel : Selection) (is : List Instance) → length (those (chosen sel) (heldOf (sel .procedure) is)) ≡ length (those (chosen sel) is)
 unfolding heldOf
 held-chosen sel is =
@@ -226,9 +220,6 @@ held-chosen sel is =
 
 pub made-of : (q : ℕ) (a : Address) (ws : List Place) → Each (λ x. isOf q x ≡ true) (map (instanceAt q a) ws)
 made-of q a ws = each-map (λ x. isOf q x ≡ true) (instanceAt q a) ws (each-any _ (λ w. eq-eqb q q refl) ws)
-
-pub made-past : (q o : ℕ) (a : Address) (ws : List Place) → (o ≡ q → ⊥) → Each (λ x. isOf o x ≡ false) (map (instanceAt q a) ws)
-made-past q o a ws other = each-map (λ x. isOf o x ≡ false) (instanceAt q a) ws (each-any _ (λ w. ne-eqb q o (λ z. other (sym z))) ws)
 
 pub made-tidy :
     (q : ℕ) (a : Address) (ws : List Place) →

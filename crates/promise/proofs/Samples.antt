@@ -65,7 +65,7 @@ use Rattle.end.specs.Taking.{learned, took, gaveUp, takes, givesUp}
 use Rattle.end.specs.Shown.{seenKnown, shown, entriesOut}
 use Rattle.demand.specs.Machine as machine
 use Rattle.demand.specs.Machine.{Machine, World, Trace, still, further}
-use Rattle.promise.specs.Samples.{Sample, Each, samples, sampleAccess, activationOctets, activationOfCfb, interrogationOfCfb, activatedTable}
+use Rattle.promise.specs.Samples.{Sample, Each, samples, sampleAccess, activationOctets, activatedOctets, activationOfCfb, interrogationOfCfb, activatedTable}
 use Rattle.promise.specs.Demand.{Asking, sized, machine, begin, entriesHeld, Handled}
 use Rattle.promise.specs.DemandRun.{sampleProcedure, SampleRun, SampleHandled}
 
@@ -150,10 +150,7 @@ abbrev thirdOctets : List ℕ
 thirdOctets =
     0xA1 ∷ 0x10 ∷ 0x02 ∷ 0x01 ∷ 0x03 ∷ 0x02 ∷ 0x01 ∷ 0x0B ∷ 0x30 ∷ 0x08 ∷ 0x0A ∷ 0x01 ∷ 0x01 ∷ 0x0A ∷ 0x01 ∷ 0x00 ∷ 0x05 ∷ 0x00 ∷ []
 
--- the result of the second activation, and the list
-abbrev resultOctets : List ℕ
-resultOctets = 0xA2 ∷ 0x03 ∷ 0x02 ∷ 0x01 ∷ 0x02 ∷ []
-
+-- the list
 abbrev listingOctets : List ℕ
 listingOctets =
     0xA2 ∷ 0x22 ∷ 0x02 ∷ 0x01 ∷ 0x03 ∷ 0x30 ∷ 0x1D ∷ 0x02 ∷ 0x01 ∷ 0x0B ∷ 0x31 ∷ 0x18 ∷ 0x30 ∷ 0x16 ∷ 0x80 ∷ 0x05 ∷ 0x31 ∷ 0x33 ∷ 0x35 ∷
@@ -179,23 +176,23 @@ abbrev w3 : World M
 w3 = moment freshTable (waitsFor 2 0 activates) (activationOctets ∷ firstOctets ∷ []) []
 
 abbrev w4 : World M
-w4 = moment activatedTable (waitsFor 2 0 activates) (activationOctets ∷ firstOctets ∷ []) (resultOctets ∷ [])
+w4 = moment activatedTable (waitsFor 2 0 activates) (activationOctets ∷ firstOctets ∷ []) (activatedOctets ∷ [])
 
 abbrev w5 : World M
-w5 = moment activatedTable (waitsNot 2 0 (packed [])) (activationOctets ∷ firstOctets ∷ []) (resultOctets ∷ [])
+w5 = moment activatedTable (waitsNot 2 0 (packed [])) (activationOctets ∷ firstOctets ∷ []) (activatedOctets ∷ [])
 
 abbrev w6 : World M
-w6 = moment activatedTable (waitsFor 3 0 interrogates) (thirdOctets ∷ activationOctets ∷ firstOctets ∷ []) (resultOctets ∷ [])
+w6 = moment activatedTable (waitsFor 3 0 interrogates) (thirdOctets ∷ activationOctets ∷ firstOctets ∷ []) (activatedOctets ∷ [])
 
 abbrev w7 : World M
 w7 =
     moment interrogatedTable (waitsFor 3 0 interrogates) (thirdOctets ∷ activationOctets ∷ firstOctets ∷ [])
-    (listingOctets ∷ resultOctets ∷ [])
+    (listingOctets ∷ activatedOctets ∷ [])
 
 abbrev w8 : World M
 w8 =
     moment interrogatedTable (waitsNot 3 1 (activatedTable .run)) (thirdOctets ∷ activationOctets ∷ firstOctets ∷ [])
-    (listingOctets ∷ resultOctets ∷ [])
+    (listingOctets ∷ activatedOctets ∷ [])
 
 -- each moment follows on the one before
 abbrev Follows : Type 0

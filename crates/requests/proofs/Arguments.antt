@@ -2,7 +2,7 @@
 -- Assumes nothing.
 use Prim.Native.Nat.{ℕ, suc, _+_, _≤_}
 use mathlib.Core.Path.{_≡_, refl, sym, ap, _∙_}
-use mathlib.Core.Bool.{Bool, true}
+use mathlib.Core.Bool.{Bool}
 use mathlib.Core.List.{List, [], _∷_, _++_}
 use mathlib.Core.Logic.{⊎-elim}
 use native.Mathlib.Omega.{arith}
@@ -26,7 +26,6 @@ use Rattle.octets.proofs.Firsts.{spells-first}
 use Rattle.values.specs.Enumerated.{enumeratedTag}
 use Rattle.values.proofs.Enumerateds.{enumerated-spells-back}
 use Rattle.skip.specs.Depth.{argumentDepth, insideDepth}
-use Rattle.skip.proofs.Skips.{fills-past}
 use Rattle.codes.specs.Codes.{procedureCode, serviceCode, activation, deactivation, interrogation}
 use Rattle.numbers.specs.Number.{numberAt}
 use Rattle.numbers.specs.Spelt.{AddressSpelt}
@@ -37,7 +36,7 @@ use Rattle.numbers.proofs.SpellingTrips.{number-spelt-back, address-spelt-back}
 use Rattle.numbers.proofs.Firsts.{number-first}
 use Rattle.requests.specs.Heard.{local}
 use Rattle.requests.specs.Request.{codeAt, serviceAt, individual, servedIn, servedAt}
-use Rattle.requests.specs.Request.{privateAt, privates, noForwarded, requestOf}
+use Rattle.requests.specs.Request.{privates, noForwarded, requestOf}
 use Rattle.requests.specs.Request.{lastIn, activationIn, deactivationIn, interrogationIn, contentsIn, argumentAt}
 use Rattle.requests.specs.Spelt.{Known, activation-is, deactivation-is, interrogation-is}
 use Rattle.requests.specs.Spelt.{CodeSpelt, ServiceSpelt, ToSpelt, ServedSpelt, KnownSpelt}
@@ -124,11 +123,6 @@ service-back depth operation {service} q ws s at end sp served deep st fit in-s 
     sp
 
 -- ---- the known elements
-
--- where nothing is left, there are no private elements to skip
-pub privates-none : (s : List ℕ) (end : ℕ) → privates s end end ≡ true
-unfolding privates
-privates-none s end = fills-past (λ a. privateAt s a end) end end (omega arith) ∙ eq-eqb end end refl
 
 -- the served number is the last of them: what follows it decides
 last-back :

@@ -71,10 +71,6 @@ other-first {tag} {contents} {ws} sp other rest z first after same v =
     spells-first (first ++ after) 0 (v .spells) (stands-left (first ++ after) 0 first after (stands-whole (first ++ after))) in
     other (sym here ∙ ap (λ (l : List ℕ). getD l 0 0) same ∙ there)
 
--- nothing at all
-pub nothing-first : NoneFirst []
-nothing-first z first after same v = omega (arith, ap length same, length-append first after, spells-length (v .spells))
-
 -- ---- what an invoke component says
 
 -- where its contents stand

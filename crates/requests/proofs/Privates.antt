@@ -1,5 +1,5 @@
 -- What is passed over as private elements is exactly what spells some, any number of them. Assumes nothing.
-use Prim.Native.Nat.{ℕ, _+_, _-_, _/_, _%_, _≤_, _<_}
+use Prim.Native.Nat.{ℕ, _+_, _/_, _≤_, _<_}
 use mathlib.Core.Path.{_≡_, ap}
 use mathlib.Core.Bool.{true}
 use mathlib.Core.List.{List, [], _∷_}
@@ -11,14 +11,12 @@ use borrow.Author.Tests.{eq-eqb, eqb-true}
 use Rattle.laws.specs.Stands.{Stands}
 use Rattle.laws.proofs.Picks.{pick-ind}
 use Rattle.laws.proofs.Stands.{stands-first}
-use Rattle.octets.specs.Element.{element}
 use Rattle.skip.specs.Skip.{skipDepth}
-use Rattle.skip.specs.Spelt.{Run, Skippable}
 use Rattle.skip.specs.declared.skip.Skip.{Skip}
 use Rattle.skip.specs.declared.skip.Skip.the-variants.{To}
 use Rattle.skip.proofs.Skips.{Further, further}
 use Rattle.skip.proofs.Runs.{run-fills, run-only}
-use Rattle.skip.proofs.Spellings.{skip-back, element-skippable, skippable-some, skip-only, apart}
+use Rattle.skip.proofs.Spellings.{skip-back, skippable-some, skip-only, apart}
 use Rattle.requests.specs.Request.{privateAt, privates}
 use Rattle.requests.specs.Spelt.{PrivateSpelt, PrivatesSpelt}
 use Rattle.requests.proofs.Readers.{private-further}
@@ -64,12 +62,3 @@ module _ (s : List ℕ) (small : (i : ℕ) → getD s i 0 < 256) where
   privates-only at end le in-s h =
       run-only PrivateSpelt (λ a. privateAt s a end) s end (λ a. private-further s a end)
       (λ a next e. private-only end a next in-s e) at le h
-
--- an element of the private class as it is written, if what it holds may be skipped
-pub element-private :
-    (tag : ℕ) (contents : List ℕ) → tag / 64 ≡ 3 → (tag % 32 ≡ 31 → ⊥) → length contents < 65536 →
-    (tag / 32 % 2 ≡ 1 → Run (Skippable (skipDepth - 1)) contents) → PrivateSpelt (element tag contents)
-element-private tag contents class low small holds = record {
-  class = class;
-  skipped = element-skippable (skipDepth - 1) tag contents low small holds;
-}

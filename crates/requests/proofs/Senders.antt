@@ -1,6 +1,6 @@
 -- What the writer of requests leaves, from what each of its steps leaves. Assumes nothing.
 use Prim.Native.Nat.{ℕ, _+_, _≤_, _<_}
-use mathlib.Core.Path.{_≡_, sym, ap, _∙_}
+use mathlib.Core.Path.{_≡_, sym, _∙_}
 use mathlib.Core.Bool.{true, false}
 use mathlib.Core.List.{List, _++_}
 use native.Mathlib.Nat.{zero-add}
@@ -8,8 +8,7 @@ use native.Mathlib.Omega.{arith}
 use lib.IntN.{ℤ, pos}
 use lib.ListN.{length}
 use Rattle.laws.specs.Over.{Wrote}
-use Rattle.laws.proofs.Picks.{pick-ind}
-use Rattle.laws.proofs.Over.{length-over, then, puts-then, room-after, room-true, room-false}
+use Rattle.laws.proofs.Over.{then, puts-then, room-after, room-true, room-false}
 use Rattle.octets.specs.Element.{element, PutHead}
 use Rattle.values.specs.Enumerated.{enumeratedOctets, PutEnumerated}
 use Rattle.values.specs.Ident.{identOctets, PutIdent}
@@ -101,9 +100,3 @@ module _ (xs : List ℕ) (identifier : ℤ) (operation : ℕ) (r : Request) (n :
   sent-whole good fits =
       let all = room-true xs 0 (requestOctets identifier operation r) (omega arith) in
       record { moved = put .counted ∙ rw (good, all) (sym (zero-add _)); holds = put .holds ∙ rw (good, all) }
-
-  -- the output keeps its length, whether it is written or not
-  pub put-length : length ys ≡ length xs
-  put-length =
-      pick-ind (λ zs. ys ≡ zs → length ys ≡ length xs) (isSent xs identifier operation r)
-      (λ _ h. ap length h ∙ length-over xs 0 (requestOctets identifier operation r)) (λ _ h. ap length h) (put .holds)

@@ -7,7 +7,7 @@ use mathlib.Core.List.{List, [], _++_, append-nil}
 use native.Mathlib.Omega.{arith}
 use lib.IntN.{ℤ, pos}
 use lib.Signed.{mag}
-use lib.ListN.{length, getD, length-append}
+use lib.ListN.{length, length-append}
 use Rattle.laws.specs.Got.{got}
 use Rattle.laws.specs.Stands.{Stands}
 use Rattle.laws.proofs.Stands.{stands-left, stands-right}
@@ -18,7 +18,7 @@ use Rattle.octets.proofs.Spellings.{spells-length, spells-contents, element-spe
 use Rattle.values.specs.Ident.{identOctets}
 use Rattle.values.proofs.Idents.{ident-most}
 use Rattle.skip.specs.Spelt.{none}
-use Rattle.requests.specs.Heard.{local, heard, heardValues}
+use Rattle.requests.specs.Heard.{local, heard}
 use Rattle.requests.specs.Request.{contentsIn, argumentAt}
 use Rattle.requests.specs.Sent.{sendable, contentsOctets, requestOctets, tidyRequest}
 use Rattle.requests.specs.Invoke.{invokeInside, invokeOctets}
@@ -30,7 +30,6 @@ use Rattle.requests.proofs.Sizes.{inside-most}
 use Rattle.requests.proofs.Arguments.{contents-then, argument-back}
 use Rattle.requests.proofs.Privates.{privates-back}
 use Rattle.requests.proofs.Invokes.{Holds, holds, heard-asks}
-use Rattle.requests.proofs.Founds.{same-found}
 use Rattle.requests.proofs.Written.{signed-spells, contents-spells}
 
 -- ---- components that ask, whatever the contents of their argument
@@ -133,23 +132,6 @@ request-spelt-back identifier operation r s q =
     contents-reads
     (invoked-spelt identifier operation (q .first) (q .second) (q .third) (q .identifiers) (q .operations) (a .spells) (q .spells))
     (a .known) (a .inside)
-
--- so the same octets spell no other
-pub request-spelt-same :
-    (identifier other : ℤ) (operation code : ℕ) (r x : Request) (s : List ℕ) → RequestSpelt identifier operation r s →
-    RequestSpelt other code x s → (identifier ≡ other) × (operation ≡ code) × (r ≡ x)
-request-spelt-same identifier other operation code r x s p q =
-    let a = request-spelt-back identifier operation r s p in
-    let b = request-spelt-back other code x s q in
-    let same : Asks identifier (local (pos operation)) (a .at) (length s) ≡ Asks other (local (pos code)) (b .at) (length s) =
-    sym (a .hears) ∙ b .hears in
-    let values = ap heardValues same in
-    let codes : operation ≡ code = ap (λ (vs : List ℤ). mag (getD vs 1 (pos 0))) values in
-    let places : a .at ≡ b .at = ap (λ (vs : List ℤ). mag (getD vs 2 (pos 0))) values in
-    let asked : argumentAt (local (pos operation)) s (a .at) (length s) ≡ argumentAt (local (pos code)) s (b .at) (length s) =
-    ap (λ (n : ℕ). argumentAt (local (pos n)) s (a .at) (length s)) codes
-    ∙ ap (λ (n : ℕ). argumentAt (local (pos code)) s n (length s)) places in
-    (ap (λ (vs : List ℤ). getD vs 0 (pos 0)) values, codes, same-found (sym (a .asks) ∙ asked ∙ b .asks) .0)
 
 -- ---- requests as the end sends them
 

@@ -1,14 +1,8 @@
 -- Laws of the selection that a request makes, over plain values. Assumes nothing.
-use Prim.Native.Nat.{ℕ, _+_, _≤_, _<_}
 use mathlib.Core.Path.{_≡_, refl}
-use native.Mathlib.Omega.{arith}
-use lib.ListN.{length}
-use lib.Dec.{eqb}
 use borrow.Author.Tests.{eq-eqb, ne-eqb}
-use Rattle.laws.proofs.Picks.{pick-ind}
-use Rattle.profile.specs.Profile.{numbersMost, servedNumbers, placeIn}
+use Rattle.profile.specs.Profile.{servedNumbers, placeIn}
 use Rattle.profile.specs.declared.profile.Profile.{Profile}
-use Rattle.profile.proofs.Profiles.{place-most}
 use Rattle.requests.specs.declared.request.Served.{Served}
 use Rattle.requests.specs.declared.request.Request.{Request}
 use Rattle.instances.specs.Instance.{everyNumber}
@@ -44,15 +38,3 @@ module _ (p : Profile) (s : Served) where
       (p .msn ≡ 0 → ⊥) → (s .all ≡ 1 → ⊥) → numberAsked p s ≡ placeIn p (s .number) (servedNumbers p)
   unfolding numberAsked
   number-one msn one = rw (ne-eqb (p .msn) 0 msn, ne-eqb (s .all) 1 one)
-
-  -- it fits an octet; the place of one number is no further than a profile has numbers
-  abbrev Asked : ℕ → Type 0
-  Asked n = (n ≤ everyNumber) × ((n ≡ everyNumber → ⊥) → n < numbersMost + 1)
-
-  pub asked-most : length (servedNumbers p) ≤ numbersMost → Asked (numberAsked p s)
-  unfolding numberAsked
-  asked-most few =
-      let every : Asked everyNumber = (omega arith, λ one. absurd (one refl)) in
-      let place = place-most p (s .number) (servedNumbers p) in
-      pick-ind Asked (eqb (p .msn) 0) (λ _. every)
-      (λ _. pick-ind Asked (eqb (s .all) 1) (λ _. every) (λ _. (omega (arith, place), λ _. omega (arith, place))))

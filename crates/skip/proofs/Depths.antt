@@ -26,14 +26,7 @@ pub skip-none : (s : List ℕ) (at end : ℕ) → skipElement 0 s at end ≡ Wro
 unfolding skipElement
 skip-none s at end = refl
 
--- an element that stands there: a primitive one is skipped whole, whatever its contents
-pub skip-primitive :
-    (depth : ℕ) (s : List ℕ) (at end tag : ℕ) (ws : List ℕ) → tag / 32 % 2 ≡ 0 → Inside depth s at end tag ws →
-    skipElement depth s at end ≡ To (at + length (element tag ws))
-skip-primitive depth s at end tag ws plain i =
-    element-step depth s at end ∙ rw (i .is, eq-eqb (tag / 32 % 2) 0 plain, i .stop)
-
--- a constructed one exactly if its contents are good to one depth less
+-- a constructed element that stands there is skipped exactly if its contents are good to one depth less
 pub skip-constructed :
     (depth : ℕ) (s : List ℕ) (at end tag : ℕ) (ws : List ℕ) → tag / 32 % 2 ≡ 1 → (i : Inside depth s at end tag ws) →
     skipElement depth s at end
@@ -83,12 +76,6 @@ element-leaf tag ws low small passed = record { some = omega (arith, length-elem
     skipped (suc depth) s at end st fit in-s =
         rw (le-leb 1 (suc depth) (omega arith))
         (passed depth s at end (inside-element (suc depth) s at end tag ws (λ e. omega arith) low small st fit in-s))
-
--- a primitive one, whatever its contents
-pub primitive-leaf :
-    (tag : ℕ) (ws : List ℕ) → (tag % 32 ≡ 31 → ⊥) → tag / 32 % 2 ≡ 0 → length ws < 65536 → Leaf (element tag ws)
-primitive-leaf tag ws low plain small =
-    element-leaf tag ws low small (λ depth s at end i. skip-primitive (suc depth) s at end tag ws plain i)
 
 module _ (tag : ℕ) (low : tag % 32 ≡ 31 → ⊥) (holds : tag / 32 % 2 ≡ 1) where
   -- a constructed one of no contents

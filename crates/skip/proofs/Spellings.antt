@@ -12,10 +12,9 @@ use Rattle.laws.specs.Tests.{any}
 use Rattle.laws.specs.Stands.{Stands}
 use Rattle.laws.proofs.Picks.{pick-ind, pick-last, by-bool}
 use Rattle.octets.specs.Head.{headAt}
-use Rattle.octets.specs.Element.{element}
 use Rattle.octets.specs.declared.head.Head.{Head}
 use Rattle.octets.specs.declared.head.Head.the-variants as head
-use Rattle.octets.proofs.Spellings.{head-only, spells-length, spells-back, spells-contents, element-spells}
+use Rattle.octets.proofs.Spellings.{head-only, spells-length, spells-back, spells-contents}
 use Rattle.skip.specs.Skip.{pastElement, skipElement}
 use Rattle.skip.specs.Spelt.{Run, SkipSpelt, Skippable}
 use Rattle.skip.specs.inner.Skip.{skipContents}
@@ -61,18 +60,6 @@ skip-back (suc depth) ws s at end k st fit in-s =
     (λ a. further depth s a (start + length cs))
     (λ vs a p stands fits. skip-back depth vs s a (start + length cs) p stands fits room) run start here refl)
     st fit in-s
-
--- an element as it is written is one of those, if what it holds is
-pub element-skippable :
-    (depth tag : ℕ) (contents : List ℕ) → (tag % 32 ≡ 31 → ⊥) → length contents < 65536 →
-    (tag / 32 % 2 ≡ 1 → Run (Skippable depth) contents) → Skippable (suc depth) (element tag contents)
-element-skippable depth tag contents low small holds = record {
-  tag = tag;
-  contents = contents;
-  low = low;
-  spells = element-spells tag contents small;
-  holds = holds;
-}
 
 -- it has an octet at least
 pub skippable-some : (depth : ℕ) (ws : List ℕ) → Skippable depth ws → 0 < length ws

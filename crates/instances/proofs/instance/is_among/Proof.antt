@@ -3,9 +3,10 @@ use Prim.Native.Nat.{_-_, _≤_}
 use mathlib.Core.Path.{_≡_, refl, sym, _∙_}
 use native.Mathlib.Omega.{arith}
 use lib.ListN.{length, take, drop}
+use Rattle.laws.proofs.Lefts.{left-none}
 use Rattle.profile.specs.Profile.{servicesMost}
 use Rattle.instances.specs.Instance.{among}
-use Rattle.instances.proofs.Runs.{step, no-step}
+use Rattle.instances.proofs.Runs.{step}
 use Rattle.instances.proofs.Choices.{among-here, among-on, among-none}
 use Rattle.instances.proofs.instance.is_among.Statement.{statement}
 use Rattle.instances.proofs.instance.is_among.Tie as tie
@@ -23,7 +24,7 @@ returns : tie.Need-returns Inv-loop μ-loop
 returns c =
     let l = c .before .before .loop in
     let a = c .before .before .before .args in
-    sym (l .inv .1 ∙ among-none _ _ (no-step (a .count) (a .t2) (l .k) (omega arith)))
+    sym (l .inv .1 ∙ among-none _ _ (left-none (a .count) (a .t2) (l .k) (omega arith)))
 
 array-read-if2 : tie.Need-array-read-if2 Inv-loop μ-loop
 array-read-if2 c = search needs
@@ -53,7 +54,7 @@ returns-3 c =
     let l = c .before .loop in
     let a = c .before .before .args in
     let long : length (a .t2) ≡ servicesMost = search needs in
-    sym (l .inv .1 ∙ among-none _ _ (no-step (a .count) (a .t2) (l .k) (omega arith)))
+    sym (l .inv .1 ∙ among-none _ _ (left-none (a .count) (a .t2) (l .k) (omega arith)))
 
 pub is-among-spec : {M : Type 1} → statement M
 is-among-spec =

@@ -5,12 +5,13 @@ use mathlib.Core.Path.{_≡_, sym, _∙_}
 use mathlib.Core.Logic.{⊎-elim}
 use native.Mathlib.Omega.{arith}
 use lib.ListN.{length, take, drop}
+use Rattle.laws.proofs.Lefts.{left-none}
 use Rattle.laws.proofs.Filled.{Filled, filled-none, filled-next, filled-done}
 use Rattle.laws.proofs.Thoses.{those-take, those-skip, those-none}
 use Rattle.profile.specs.Profile.{servicesMost}
 use Rattle.instances.specs.Instance.{everyService, named}
 use Rattle.instances.specs.inner.Places.{servicesNamed}
-use Rattle.instances.proofs.Runs.{step, no-step}
+use Rattle.instances.proofs.Runs.{step}
 use Rattle.instances.proofs.places.services_named.Statement.{statement}
 use Rattle.instances.proofs.places.services_named.Tie as tie
 
@@ -67,7 +68,7 @@ returns : tie.Need-returns Inv-loop μ-loop
 returns c =
     let l = c .before .loop in
     let a = c .before .before .before .args in
-    let none = no-step (a .count) (a .t1) (l .i) (omega (arith, l .inv .1, l .inv .2)) in
+    let none = left-none (a .count) (a .t1) (l .i) (omega (arith, l .inv .1, l .inv .2)) in
     let left = those-none (named everyService (a .service)) _ none in
     (noted-done (servicesNamed (a .service) (take (a .count) (a .t1))) _ _ (filled-done _ _ _ _ _ (rw left at (l .inv .4))), omega arith)
 

@@ -1,6 +1,6 @@
 use native.Mathlib.Omega.{arith}
 use lib.ListN.{length-set}
-use Rattle.listings.proofs.Words.{pair-wrote}
+use Rattle.laws.proofs.Over.{wrote-two}
 use borrow.Author.Needs.{needs}
 use Rattle.listings.proofs.word.write_pair.Statement.{statement}
 use Rattle.listings.proofs.word.write_pair.Tie as tie
@@ -27,7 +27,7 @@ same-length : tie.Need-same-length
 same-length c = search needs
 
 returns : tie.Need-returns
-returns c = rw (← c .before .hex-of .ensures, ← c .hex-of2 .ensures) (pair-wrote _ _ _ _)
+returns c = rw (← c .before .hex-of .ensures, ← c .hex-of2 .ensures) (wrote-two _ _ _ _)
 
 pub write-pair-spec : {M : Type 1} → statement M
 write-pair-spec =
