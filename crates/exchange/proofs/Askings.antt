@@ -12,6 +12,7 @@ use Rattle.laws.proofs.Picks.{pick-ind}
 use Rattle.profile.specs.declared.profile.Profile.{Profile}
 use Rattle.requests.specs.Heard.{local, heard}
 use Rattle.requests.specs.Request.{argumentAt}
+use Rattle.requests.specs.Spelt.{Known, activation-is, deactivation-is, interrogation-is}
 use Rattle.requests.specs.declared.heard.Heard.the-variants as heard
 use Rattle.requests.specs.declared.heard.Operation.{Operation}
 use Rattle.requests.specs.declared.request.Request.{Request}
@@ -19,7 +20,6 @@ use Rattle.answers.specs.declared.answer.Problem.{Problem}
 use Rattle.answers.specs.declared.answer.Problem.the-variants.{Invoke}
 use Rattle.answers.specs.declared.answer.Whose.the-variants.{Own}
 use Rattle.exchange.specs.Question.{Question, asks, rejects, notAbove, duplicate, knownOperation, codeOf, argued, invoked, question}
-use Rattle.exchange.proofs.Questions.{Known, activates, deactivates, interrogates}
 
 -- ---- either
 
@@ -59,9 +59,9 @@ above-new p last n h = pick-ind (λ b. b ≡ false) (eqb (p .counted) 1) (λ _. 
 
 is-known : {operation : ℕ} → Known operation → knownOperation (pos operation) ≡ true
 unfolding knownOperation
-is-known (activates e) = rw e
-is-known (deactivates e) = rw e
-is-known (interrogates e) = rw e
+is-known (activation-is e) = rw e
+is-known (deactivation-is e) = rw e
+is-known (interrogation-is e) = rw e
 
 module _ (p : Profile) (last : ℕ) (s : List ℕ) where
   -- above the last handled identifier, with one of the three operations and an argument that can be read

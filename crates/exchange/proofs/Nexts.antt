@@ -23,6 +23,7 @@ use Rattle.profile.specs.Profile.{profileGood}
 use Rattle.profile.specs.declared.profile.Profile.{Profile}
 use Rattle.profile.proofs.Profiles.{good-profile}
 use Rattle.profile.proofs.Records.{access-good}
+use Rattle.requests.specs.Spelt.{Known, activation-is, deactivation-is, interrogation-is}
 use Rattle.requests.specs.declared.request.Request.{Request}
 use Rattle.lists.specs.Entries.{instancesMost}
 use Rattle.instances.specs.Run.{instancesOf, packed, runGood}
@@ -40,7 +41,7 @@ use Rattle.exchange.specs.Question.{asks, question}
 use Rattle.exchange.specs.Step.{Step, lastAfter, handled, step}
 use Rattle.exchange.specs.Arrive.{Done, refused, answered, done}
 use Rattle.exchange.specs.declared.table.Table.{Table}
-use Rattle.exchange.proofs.Questions.{Known, activates, deactivates, interrogates, RequestAsked, AtOnce, silence, reject, question-asks}
+use Rattle.exchange.proofs.Questions.{RequestAsked, AtOnce, silence, reject, question-asks}
 use Rattle.exchange.proofs.Tables.{table-good, good-table}
 use Rattle.exchange.proofs.Steps.{after-stays, after-moves, verdict, handled-ind, step-asks, step-ind}
 use Rattle.exchange.proofs.Arrivals.{step-fits}
@@ -58,9 +59,9 @@ at-once-stays a (reject w q e) (error h) = omega (arith, ap answerNo e)
 
 -- an operation that changes instances
 pub changing : {operation : ℕ} → Known operation → (operation ≡ interrogation → ⊥) → (operation ≡ activation) ⊎ (operation ≡ deactivation)
-changing (activates e) other = inl e
-changing (deactivates e) other = inr e
-changing (interrogates e) other = absurd (other e)
+changing (activation-is e) other = inl e
+changing (deactivation-is e) other = inr e
+changing (interrogation-is e) other = absurd (other e)
 
 last-most :
     (p : Profile) (identifier : ℤ) (last : ℕ) → mag identifier < 32768 → last ≤ lastMost → lastAfter p identifier last ≤ lastMost

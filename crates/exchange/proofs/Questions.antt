@@ -1,6 +1,6 @@
 -- Laws of questions, over plain values: what the machine's tests of signed numbers say, and what is known of a question, whatever
 -- component it came from. Assumes nothing.
-use Prim.Native.Nat.{ℕ, _<_, _≤_}
+use Prim.Native.Nat.{ℕ, _<_}
 use mathlib.Core.Path.{_≡_, refl, sym, ap, _∙_}
 use mathlib.Core.Bool.{Bool, true, false, false≢true}
 use mathlib.Core.List.{List, [], _∷_}
@@ -21,11 +21,13 @@ use Rattle.numbers.proofs.Goods.{ToUnless}
 use Rattle.profile.specs.declared.profile.Profile.{Profile}
 use Rattle.requests.specs.Heard.{heard}
 use Rattle.requests.specs.Request.{requestRead, argumentAt}
+use Rattle.requests.specs.Spelt.{Known, activation-is, deactivation-is, interrogation-is}
 use Rattle.requests.specs.declared.heard.Heard.{Heard}
 use Rattle.requests.specs.declared.heard.Heard.the-variants as heard
 use Rattle.requests.specs.declared.heard.Operation.{Operation}
 use Rattle.requests.specs.declared.request.Request.{Request}
 use Rattle.requests.specs.declared.request.RequestRead.{RequestRead}
+use Rattle.requests.proofs.Goods.{known-most}
 use Rattle.requests.proofs.Ranges.{HeardRanges, heard-range}
 use Rattle.requests.proofs.Requests.{argument-read}
 use Rattle.answers.specs.declared.answer.Answer.{Answer}
@@ -98,27 +100,16 @@ module _ (z : ℤ) (fits : SFits w16 z) where
 
 -- ---- operations
 
--- which of the three it is
-pub data Known (operation : ℕ) : Type 0 where
-  activates : operation ≡ activation → Known operation
-  deactivates : operation ≡ deactivation → Known operation
-  interrogates : operation ≡ interrogation → Known operation
-
 -- an operation that is known is one of the three, and its own code
 pub known-code : (z : ℤ) → knownOperation z ≡ true → (z ≡ pos (codeOf z)) × Known (codeOf z)
 unfolding knownOperation
 known-code (pos n) =
     let P : Bool → Type 0 = λ t. t ≡ true → (pos n ≡ pos n) × Known n in
-    pick-ind P (eqb n activation) (λ e _. (refl, activates (eqb-true n activation e)))
+    pick-ind P (eqb n activation) (λ e _. (refl, activation-is (eqb-true n activation e)))
     (λ _. pick-ind P (eqb n deactivation)
-    (λ e _. (refl, deactivates (eqb-true n deactivation e)))
-    (λ _ e. (refl, interrogates (eqb-true n interrogation e))))
+    (λ e _. (refl, deactivation-is (eqb-true n deactivation e)))
+    (λ _ e. (refl, interrogation-is (eqb-true n interrogation e))))
 known-code (negsuc n) = λ e. absurd (false≢true e)
-
-known-small : {operation : ℕ} → Known operation → operation ≤ 11
-known-small (activates e) = omega arith
-known-small (deactivates e) = omega arith
-known-small (interrogates e) = omega arith
 
 -- so that the machine can cast it
 module _ (z : ℤ) (fits : SFits w16 z) (e : knownOperation z ≡ true) where
@@ -127,7 +118,7 @@ module _ (z : ℤ) (fits : SFits w16 z) (e : knownOperation z ≡ true) where
 
   pub code-fits : T (nonNeg (toZ w16 (ofZ w16 z))) × Fits w8 (natAbs (toZ w16 (ofZ w16 z)))
   code-fits =
-      rw machine-code (tt, record { fits = omega (arith, known-small (known-code z e .1)) })
+      rw machine-code (tt, record { fits = omega (arith, known-most (known-code z e .1)) })
 
   pub code-cast : natAbs (toZ w16 (ofZ w16 z)) ≡ codeOf z
   code-cast = ap natAbs machine-code

@@ -12,6 +12,7 @@ use borrow.Author.Tests.{eqb-false, eqb-true}
 use Rattle.laws.proofs.Picks.{by-bool}
 use Rattle.codes.specs.Codes.{activation, interrogation}
 use Rattle.requests.specs.declared.request.Request.{Request}
+use Rattle.requests.specs.Spelt.{Known, activation-is, deactivation-is, interrogation-is}
 use Rattle.profile.specs.declared.profile.Profile.{Profile}
 use Rattle.lists.specs.Entries.{instancesMost}
 use Rattle.instances.specs.Run.{entryFor, instancesOf, listed}
@@ -24,7 +25,7 @@ use Rattle.exchange.specs.Question.{Question, asks, question, says}
 use Rattle.exchange.specs.Step.{Step, handled, lastAfter, step}
 use Rattle.exchange.specs.declared.table.Table.{Table}
 use Rattle.exchange.proofs.Nexts.{applied-holds}
-use Rattle.exchange.proofs.Questions.{Known, RequestAsked, activates, deactivates, interrogates, question-asks}
+use Rattle.exchange.proofs.Questions.{RequestAsked, question-asks}
 use Rattle.exchange.proofs.Steps.{after-moves, after-stays, handled-changes, handled-fails, handled-lists, step-asks, step-says}
 use Rattle.grid.specs.Equal.{HoldSame}
 use Rattle.grid.specs.Grid.{rowAt}
@@ -82,7 +83,7 @@ module _ (p : Profile) (whole : WholeProfile p) (g : GridTable) (t : Table) (so 
     changed-held :
         verdict ≡ none → Known operation → (operation ≡ interrogation → ⊥) →
         holds (gridChanged p g identifier operation r .grid) ≡ changed p operation r (holds (g .grid))
-    changed-held passes (activates e) other =
+    changed-held passes (activation-is e) other =
         let judged : gridJudge instancesMost p activation r (cellPlaces p r) row ≡ none = rw e at passes in
         let told = judge-activation instancesMost p r (cellPlaces p r) row judged in
         let flag = subscribed instancesMost p activation r row (whole .good) (asked .procedure) judged in
@@ -91,12 +92,12 @@ module _ (p : Profile) (whole : WholeProfile p) (g : GridTable) (t : Table) (so 
         (ap (λ (x : Row). holds (gridWithRow (r .procedure) x g .grid)) (applied-activation r (cellPlaces p r) row)
         ∙ activation-held p whole r g (so .shaped) (asked .procedure) flag address (so .grid-good) (told .room)
         ∙ sym (changed-activation p r (holds (g .grid))))
-    changed-held passes (deactivates e) other =
+    changed-held passes (deactivation-is e) other =
         rw e
         (ap (λ (x : Row). holds (gridWithRow (r .procedure) x g .grid)) (applied-deactivation r (cellPlaces p r) row)
         ∙ clear-held p whole r g (so .shaped) (asked .procedure) instancesMost (so .grid-good)
         ∙ sym (changed-deactivation p r (holds (g .grid))))
-    changed-held passes (interrogates e) other = absurd (other e)
+    changed-held passes (interrogation-is e) other = absurd (other e)
 
     judged-same : (v : Option ℕ) → verdict ≡ v → StepSame (gridAsks p g identifier operation r) (handled p t identifier operation r)
     judged-same (some error) fails =

@@ -14,9 +14,9 @@ use Rattle.requests.specs.Heard.{local, heard}
 use Rattle.requests.specs.declared.heard.Heard.the-variants as heard
 use Rattle.requests.specs.declared.heard.Operation.{Operation}
 use Rattle.requests.specs.Sent.{sendable, requestOctets, tidyRequest}
+use Rattle.requests.specs.Spelt.{Known}
 use Rattle.requests.specs.declared.request.Request.{Request}
-use Rattle.requests.proofs.Goods.{good-request}
-use Rattle.requests.proofs.Goods as goods
+use Rattle.requests.proofs.Goods.{readable}
 use Rattle.requests.proofs.Sizes.{request-most}
 use Rattle.requests.proofs.Trips.{request-back}
 use Rattle.lists.specs.Entries.{instancesMost}
@@ -33,7 +33,7 @@ use Rattle.exchange.specs.Step.{Step, stays, handled, step}
 use Rattle.exchange.specs.Table.{tableGood}
 use Rattle.exchange.specs.Arrive.{Done, done}
 use Rattle.exchange.specs.declared.table.Table.{Table}
-use Rattle.exchange.proofs.Questions.{Known, activates, deactivates, interrogates, known-code}
+use Rattle.exchange.proofs.Questions.{known-code}
 use Rattle.exchange.proofs.Steps.{lists, handled-ind, step-says, step-asks}
 use Rattle.exchange.proofs.Arrivals.{done-answers, StepFits, step-fits}
 use Rattle.exchange.proofs.Nexts.{changing, heeded}
@@ -115,11 +115,6 @@ answer-back access t s size x identifier operation at end n hears told same =
 
 -- ---- to a request that the end sent
 
-pub known-sent : {operation : ℕ} {r : Request} → goods.Asked operation r → Known operation
-known-sent (goods.activates e) = activates e
-known-sent (goods.deactivates e) = deactivates e
-known-sent (goods.interrogates e _ _) = interrogates e
-
 module _
     (access : List ℕ) (t : Table) (size : ℕ) (ok : accessRead access .ok ≡ true)
     (good : tableGood instancesMost (accessRead access .profile) t ≡ true) (room : outputLeast ≤ size)
@@ -143,7 +138,7 @@ module _
               step-asks p t s (pos (e .used)) (e .operation) (tidyRequest (e .operation) (e .request))
               (asking-new p (t .last) s (e .used) (e .operation) (back .at) (length s)
               (tidyRequest (e .operation) (e .request)) (length s) (back .hears) new
-              (known-sent (good-request (e .operation) (e .request) fit .asked)) (back .asks));
+              (readable (e .operation) (e .request) fit .known) (back .asks));
         }
 
 -- For every end, request and output of the end that is not refused, every good table and every output of the exchange that is not

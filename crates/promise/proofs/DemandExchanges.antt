@@ -20,7 +20,7 @@ use Rattle.profile.proofs.Records.{access-good}
 use Rattle.requests.specs.Heard.{local}
 use Rattle.requests.specs.Sent.{tidyRequest}
 use Rattle.requests.specs.declared.request.Request.{Request}
-use Rattle.requests.proofs.Goods.{good-request}
+use Rattle.requests.proofs.Goods.{good-request, readable}
 use Rattle.requests.proofs.Goods as goods
 use Rattle.requests.proofs.Sizes.{request-most}
 use Rattle.requests.proofs.Trips.{ReadsBack, request-back}
@@ -56,7 +56,7 @@ use Rattle.demand.specs.Rules as rules
 use Rattle.demand.specs.Rules.{says-error, Served, ExchangeLaws, answering}
 use Rattle.promise.specs.AnswerBack.{SaysBack}
 use Rattle.promise.specs.Demand.{Asking, goesDown, sentDown, WholeAllowed}
-use Rattle.promise.proofs.AnswerBack.{known-sent, request-answered}
+use Rattle.promise.proofs.AnswerBack.{request-answered}
 use Rattle.promise.proofs.DemandLists as L
 use Rattle.promise.proofs.DemandLists.{heldOf}
 use Rattle.rules.proofs.Tidied.{judge-tidied, whole-passes}
@@ -97,7 +97,7 @@ module _ (access : List ℕ) (ok : accessRead access .ok ≡ true) (counted : ac
     asked-new : t .last < n → question p (t .last) s ≡ q.asks (pos n) op read
     asked-new new =
         asking-new p (t .last) s n op (back .at) (length s) read (length s) (back .hears) new
-        (known-sent (good-request op r (fit .goes) .asked)) (back .asks)
+        (readable op r (fit .goes) .known) (back .asks)
 
     step-new : t .last < n → step p t s ≡ handled p t (pos n) op read
     step-new new = step-asks p t s (pos n) op read (asked-new new)
