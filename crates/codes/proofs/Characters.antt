@@ -1,6 +1,6 @@
 -- Laws of digits and of the types of a number, over plain values. Assumes nothing.
 use Prim.Native.Nat.{ℕ, zero, suc, _+_, _≤_, _<_}
-use mathlib.Core.Path.{_≡_, refl}
+use mathlib.Core.Path.{_≡_, refl, _∙_}
 use mathlib.Core.Bool.{Bool, true, false}
 use mathlib.Core.List.{List, [], _∷_}
 use native.Mathlib.Numerals.{add-one}
@@ -24,12 +24,18 @@ digit-step c rest =
     (λ high. rw (le-leb 48 c (ltb-false c 48 low), le-leb c 57 (ltb-false 57 c high))))
 
 -- what is left of a string decides: one character more
+pub digits-next :
+    (s : List ℕ) (i : ℕ) → i < length s →
+    allDigits (drop i s) ≡ pick (digit (getD s i 0)) (allDigits (drop (i + 1) s)) false
+unfolding allDigits
+digits-next s i h = rw (add-one, drop-cons s i 0 h)
+
+-- the same by the two tests of a character
 pub digits-step :
     (s : List ℕ) (i : ℕ) → i < length s →
     allDigits (drop i s)
     ≡ pick (ltb (getD s i 0) 48) false (pick (ltb 57 (getD s i 0)) false (allDigits (drop (i + 1) s)))
-unfolding allDigits
-digits-step s i h = rw (add-one, drop-cons s i 0 h) (digit-step (getD s i 0) (allDigits (drop (suc i) s)))
+digits-step s i h = digits-next s i h ∙ digit-step (getD s i 0) (allDigits (drop (i + 1) s))
 
 -- nothing is left
 pub digits-end : (s : List ℕ) → allDigits (drop (length s) s) ≡ true
