@@ -8,8 +8,6 @@ use native.Mathlib.Nat.{eq-or-lt-of-le}
 use native.Mathlib.Numerals.{add-one}
 use native.Mathlib.Omega.{arith}
 use lib.ListN.{length, take, getD}
-use lib.Dec.{ltb}
-use borrow.Author.Tests.{ltb-true, ltb-false}
 use Rattle.laws.specs.Pick.{pick}
 use Rattle.laws.specs.Places.{countTo}
 use Rattle.laws.proofs.Picks.{pick-ind}
@@ -25,7 +23,7 @@ module _ (p : Profile) (numbers : List Number) (n : Number) where
   sameAt k = same p (getD numbers k noNumber) n
 
   -- one that is the same is counted
-  pub same-counted : (count k : ℕ) → k < count → sameAt k ≡ true → 0 < countTo sameAt count
+  same-counted : (count k : ℕ) → k < count → sameAt k ≡ true → 0 < countTo sameAt count
   same-counted zero k h e = absurd (omega arith)
   same-counted (suc count) k h e =
       ⊎-elim
@@ -60,18 +58,16 @@ module _ (p : Profile) (numbers : List Number) (n : Number) where
 module _ (p : Profile) (numbers : List Number) (count k : ℕ) (long : count ≤ length numbers) (h : k < count) where
   -- a search for a number finds it at its own place where none before it is the same
   pub first-here :
-      ltb 0 (countTo (sameAt p numbers (getD numbers k noNumber)) k) ≡ false →
+      countTo (sameAt p numbers (getD numbers k noNumber)) k ≡ 0 →
       placeIn p (getD numbers k noNumber) (take count numbers) ≡ k
   first-here none =
       let n : Number = getD numbers k noNumber in
-      let few = ltb-false 0 (countTo (sameAt p numbers n) k) none in
-      let come = passes p numbers n count long k (omega arith) (omega (arith, few)) in
-      sym (number-here p n count numbers k h (omega arith) (same-refl p n) come)
+      sym (number-here p n count numbers k h (omega arith) (same-refl p n) (passes p numbers n count long k (omega arith) none))
 
   -- and elsewhere where one is
   pub later-not :
-      ltb 0 (countTo (sameAt p numbers (getD numbers k noNumber)) k) ≡ true →
+      (j : ℕ) → j < k → sameAt p numbers (getD numbers k noNumber) j ≡ true →
       placeIn p (getD numbers k noNumber) (take count numbers) ≡ k → ⊥
-  later-not some e =
+  later-not j lt same e =
       let n : Number = getD numbers k noNumber in
-      omega (arith, stops p numbers n count long k (omega arith) (ltb-true 0 (countTo (sameAt p numbers n) k) some))
+      omega (arith, stops p numbers n count long k (omega arith) (same-counted p numbers n k j lt same))

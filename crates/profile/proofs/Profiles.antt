@@ -25,22 +25,26 @@ use Rattle.profile.specs.Profile.{profileRules, profileGood}
 use Rattle.profile.specs.declared.profile.Prefix.{Prefix}
 use Rattle.profile.specs.declared.profile.Profile.{Profile}
 
--- ---- tests that must all pass
-
 -- ---- the digits of two numbers
 
--- what is left of both decides: one digit more
-pub same-step :
-    (a b : List ℕ) (n i : ℕ) → i < n → n ≤ length a → n ≤ length b →
-    sameDigits (slice i n a) (slice i n b)
-    ≡ pick (eqb (getD a i 0) (getD b i 0)) (sameDigits (slice (i + 1) n a) (slice (i + 1) n b)) false
-unfolding sameDigits
-same-step a b n i h la lb = rw (slice-cons i n a 0 h la, slice-cons i n b 0 h lb, add-one, pick-last)
+-- a test that stands behind another may come first
+swap : (b c d : Bool) → all (b ∷ pick c d false ∷ []) ≡ pick c (all (b ∷ d ∷ [])) false
+swap b true d = refl
+swap true false d = refl
+swap false false d = refl
 
--- nothing is left
-pub same-end : (a b : List ℕ) (n : ℕ) → sameDigits (slice n n a) (slice n n b) ≡ true
+-- the last digits of both, and those before them
+pub same-last :
+    (a b : List ℕ) (n i : ℕ) → n ≡ suc i → n ≤ length a → n ≤ length b →
+    sameDigits (take n a) (take n b)
+    ≡ pick (eqb (getD a i 0) (getD b i 0)) (sameDigits (take i a) (take i b)) false
 unfolding sameDigits
-same-end a b n = rw (slice-empty n a, slice-empty n b)
+same-last [] b n i e la lb = absurd (omega arith)
+same-last (x ∷ xs) [] n i e la lb = absurd (omega arith)
+same-last (x ∷ xs) (y ∷ ys) n zero e la lb = rw e
+same-last (x ∷ xs) (y ∷ ys) n (suc i) e la lb =
+    rw (e, same-last xs ys (suc i) i refl (omega arith) (omega arith))
+    (swap (eqb x y) (eqb (getD xs i 0) (getD ys i 0)) (sameDigits (take i xs) (take i ys)))
 
 -- a record that counts more digits than it has room for has all of them
 pub same-all :

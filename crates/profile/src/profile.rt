@@ -5,11 +5,9 @@ use numbers::Number;
 use numbers::number_good;
 ghost use mathlib.Core.Path.{_≡_};
 ghost use Prim.Native.Nat.{_≤_};
-ghost use lib.ListN.{take, getD};
-ghost use lib.Dec.{ltb};
-ghost use Rattle.laws.specs.Places.{countTo};
+ghost use lib.ListN.{take};
 ghost use Rattle.numbers.specs.Number.{most};
-ghost use Rattle.profile.specs.Profile.{numbersMost, sameDigits, sameNumber, same, noNumber, prefixGood, numbersGood, servicesGood, subscriptionsGood, usesGood, diversionGood, prefixesGood, profileGood, Same, NumberPlace, ServiceSlot};
+ghost use Rattle.profile.specs.Profile.{sameDigits, sameNumber, prefixGood, numbersGood, servicesGood, subscriptionsGood, usesGood, diversionGood, prefixesGood, profileGood, Same, NumberPlace, ServiceSlot};
 
 // The most numbers, services and prefixes of a profile.
 pub const NUMBERS: usize = 4;
@@ -45,16 +43,17 @@ pub struct Profile {
     pub prefixes: [Prefix; PREFIXES],
 }
 
+// From the last digit to the first: the numbers of an access differ at their ends.
 fn same_digits(a: [u8; MOST], b: [u8; MOST], n: usize) -> bool
     requires { ⌜ n ≤ most ⌝ }
     ensures { λ r. ⌜ r ≡ sameDigits (take n a) (take n b) ⌝ }
 {
-    let mut i: usize = 0;
-    while i < n {
+    let mut i = n;
+    while 0 < i {
+        i -= 1;
         if a[i] != b[i] {
             return false;
         }
-        i += 1;
     }
     true
 }
@@ -72,12 +71,12 @@ fn same_number(a: Number, b: Number) -> bool
     if a.count != b.count {
         return false;
     }
-    let count = a.count as usize;
+    let mut count = a.count as usize;
+    if MOST < count {
+        count = MOST;
+    }
     let x = a.digits;
     let y = b.digits;
-    if MOST < count {
-        return same_digits(x, y, MOST);
-    }
     same_digits(x, y, count)
 }
 
@@ -127,23 +126,6 @@ pub fn service_slot(p: Profile, service: u8) -> usize
     k
 }
 
-// Whether one of the first `count` numbers is the same.
-fn same_before(p: Profile, n: Number, count: usize) -> bool
-    requires { ⌜ count ≤ numbersMost ⌝ }
-    ensures { λ r. ⌜ r ≡ ltb 0 (countTo (λ k. same p (getD (p .numbers) k noNumber) n) count) ⌝ }
-{
-    let numbers = p.numbers;
-    let mut k: usize = 0;
-    while k < count {
-        let x = numbers[k];
-        if same(p, x, n) {
-            return true;
-        }
-        k += 1;
-    }
-    false
-}
-
 fn numbers_good(p: Profile) -> bool
     ensures { λ r. ⌜ r ≡ numbersGood p ⌝ }
 {
@@ -161,8 +143,13 @@ fn numbers_good(p: Profile) -> bool
         if !number_good(n) {
             return false;
         }
-        if same_before(p, n, k) {
-            return false;
+        let mut j: usize = 0;
+        while j < k {
+            let x = numbers[j];
+            if same(p, x, n) {
+                return false;
+            }
+            j += 1;
         }
         k += 1;
     }
