@@ -7,6 +7,7 @@ use native.Mathlib.Omega.{arith}
 use lib.ListN.{length, getD}
 use lib.Dec.{ltb, eqb}
 use borrow.Author.Tests.{eq-eqb, lt-ltb, ltb-true, eqb-true}
+use Rattle.laws.specs.Tests.{all}
 use Rattle.laws.specs.Those.{those}
 use Rattle.laws.proofs.Picks.{pick-ind, pick-last, by-bool}
 use Rattle.laws.proofs.Tests.{all-at, both-hold}
@@ -120,3 +121,28 @@ module _ (subscribed : List ℕ) (numbers : ℕ) (services : List ℕ) (x : Inst
     h .service,
     h .address,
   )
+
+  -- what fits has a place
+  pub fits-place : Fits subscribed numbers services x → all (ltb (x .number) numbers ∷ among (x .service) services ∷ []) ≡ true
+  fits-place h = rw (lt-ltb (x .number) numbers (h .number), h .service)
+
+  -- what has a place fits, by its procedure and address
+  pub fits-made :
+      x .procedure < 3 → getD subscribed (x .procedure) 0 ≡ 1 →
+      all (ltb (x .number) numbers ∷ among (x .service) services ∷ []) ≡ true → addressGood (x .address) ≡ true →
+      instanceFits subscribed numbers services x ≡ true
+  fits-made three subscribes place address =
+      let t = both-hold (ltb (x .number) numbers) (among (x .service) services) place in
+      fits-is record {
+        procedure = three;
+        subscribes = subscribes;
+        number = ltb-true (x .number) numbers (t .0);
+        service = t .1;
+        address = address;
+      }
+
+  -- what breaks a rule does not fit
+  pub not-fits : (Fits subscribed numbers services x → ⊥) → instanceFits subscribed numbers services x ≡ false
+  not-fits h =
+      let fits = instanceFits subscribed numbers services x in
+      by-bool (fits ≡ false) fits (λ t. absurd (h (fits-of t))) (λ t. t)

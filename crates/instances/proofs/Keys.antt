@@ -89,6 +89,15 @@ key-earlier q a c r b d hb hd h =
     (λ (less : q < r). inl less)
     (eq-or-lt-of-le (omega arith))
 
+-- a procedure's keys begin with that of no number and service, and who has one above it is of no earlier procedure
+pub key-first : (q r a c : ℕ) → q ≤ r → key q 0 0 ≤ key r a c
+unfolding key
+key-first q r a c h = omega arith
+
+pub key-least : (q r a c below : ℕ) → a < 256 → c < 256 → key q 0 0 ≤ below → below < key r a c → q ≤ r
+unfolding key
+key-least q r a c below ha hc low above = omega arith
+
 abbrev pub Small : Instance → Type 0
 Small x = (x .number < 256) × (x .service < 256)
 

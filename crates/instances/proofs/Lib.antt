@@ -9,6 +9,7 @@ pub mod Renewals
 pub mod Fits
 pub mod Keys
 pub mod Goods
+pub mod Blocks
 pub mod Finds
 pub mod Founds
 pub mod Listings

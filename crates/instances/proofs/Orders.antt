@@ -75,6 +75,10 @@ module _ (p : Profile) (run : Run) (most : ℕ) (few : run .count ≤ runMost) w
   pub not-good : sound (instanceGood p) 0 (instancesOf run) ≡ false → runGood most p run ≡ false
   not-good h = run-parts ∙ rw h
 
+  -- there are too many of a procedure
+  pub not-few : fewOfEach most (instancesOf run) ≡ false → runGood most p run ≡ false
+  not-few h = run-parts ∙ rw h (pick-ind (λ t. t ≡ false) (sound (instanceGood p) 0 (instancesOf run)) (λ _. refl) (λ _. refl))
+
   pub is-good : sound (instanceGood p) 0 (instancesOf run) ≡ true → runGood most p run ≡ fewOfEach most (instancesOf run)
   is-good h = run-parts ∙ rw h
 

@@ -1,11 +1,13 @@
 // Instances, and which of them a selection chooses (document 01, "Profile and table").
 use numbers::Address;
-use numbers::address_good;
 use numbers::blank_address;
 use profile::SERVICES;
 ghost use mathlib.Core.Path.{_≡_};
+ghost use mathlib.Core.List.{[], _∷_};
 ghost use lib.ListN.{take};
-ghost use Rattle.instances.specs.Instance.{named, selected, concerns, chosen, isAt, among, instanceFits, IsBefore, KeyOf, BlankInstance};
+ghost use lib.Dec.{ltb};
+ghost use Rattle.laws.specs.Tests.{all};
+ghost use Rattle.instances.specs.Instance.{named, selected, concerns, chosen, isAt, among, IsBefore, KeyOf, BlankInstance};
 
 // cfu 0, cfb 1, cfnr 2.
 pub const PROCEDURES: usize = 3;
@@ -129,30 +131,12 @@ fn is_among(code: u8, codes: [u8; SERVICES], count: u8) -> bool
     false
 }
 
-// Whether an instance breaks no rule of a profile with these subscribed flags, so many numbers, and these services.
-pub(crate) fn instance_good(
-    subscribed: [u8; PROCEDURES],
-    numbers: u8,
-    services: [u8; SERVICES],
-    count: u8,
-    x: Instance,
-) -> bool
-    ensures { λ r. ⌜ r ≡ instanceFits subscribed numbers (take count services) x ⌝ }
+// Whether an instance has a place in a profile of so many numbers and these services.
+pub(crate) fn place_good(numbers: u8, services: [u8; SERVICES], count: u8, x: Instance) -> bool
+    ensures { λ r. ⌜ r ≡ all (ltb (x .number) numbers ∷ among (x .service) (take count services) ∷ []) ⌝ }
 {
-    let procedure = x.procedure as usize;
-    if PROCEDURES <= procedure {
+    if numbers <= x.number {
         return false;
     }
-    if subscribed[procedure] != 1 {
-        return false;
-    }
-    let number = x.number;
-    if numbers <= number {
-        return false;
-    }
-    if !is_among(x.service, services, count) {
-        return false;
-    }
-    let address = x.address;
-    address_good(address)
+    is_among(x.service, services, count)
 }

@@ -3,12 +3,12 @@ use crate::instance::Instance;
 use crate::instance::PROCEDURES;
 use crate::instance::Selection;
 use crate::instance::blank_instance;
-use crate::instance::instance_good;
 use crate::instance::is_at;
 use crate::instance::is_before;
 use crate::instance::is_chosen;
 use crate::instance::is_concerned;
 use crate::instance::key_of;
+use crate::instance::place_good;
 use crate::places::places_count;
 use crate::places::places_of;
 use crate::places::stored;
@@ -18,6 +18,7 @@ use lists::INSTANCESMOST;
 use lists::no_entries;
 use numbers::Address;
 use numbers::Number;
+use numbers::address_good;
 use numbers::blank_address;
 use numbers::blank_number;
 use profile::NUMBERS;
@@ -137,38 +138,43 @@ impl Run {
         let services = p.services;
         let numbers = p.numbercount;
         let count = p.servicecount;
-        let mut cfu: usize = 0;
-        let mut cfb: usize = 0;
-        let mut cfnr: usize = 0;
+        let mut beyond: usize = 0;
+        let mut from: usize = 0;
         let mut below: usize = 0;
         let mut i: usize = 0;
         while i < n {
             let x = self.run[i];
-            let procedure = x.procedure;
-            let key = key_of(procedure, x.number, x.service);
+            let key = key_of(x.procedure, x.number, x.service);
             if key <= below {
                 return false;
             }
-            if !instance_good(subscribed, numbers, services, count, x) {
+            let procedure = x.procedure as usize;
+            if beyond <= procedure {
+                if PROCEDURES <= procedure {
+                    return false;
+                }
+                if subscribed[procedure] != 1 {
+                    return false;
+                }
+                if from + INSTANCESMOST < i {
+                    return false;
+                }
+                beyond = procedure + 1;
+                from = i;
+            }
+            if !place_good(numbers, services, count, x) {
                 return false;
             }
-            if procedure == 0 {
-                cfu += 1;
-            } else if procedure == 1 {
-                cfb += 1;
-            } else {
-                cfnr += 1;
+            // Read here, the address need not be kept while the tests above run.
+            let same = self.run[i];
+            let address = same.address;
+            if !address_good(address) {
+                return false;
             }
             below = key;
             i += 1;
         }
-        if INSTANCESMOST < cfu {
-            return false;
-        }
-        if INSTANCESMOST < cfb {
-            return false;
-        }
-        cfnr <= INSTANCESMOST
+        n <= from + INSTANCESMOST
     }
 
     // Whether the instances ascend, and there are at most so many of each procedure.

@@ -1,32 +1,32 @@
 use borrow.Author.Needs.{needs}
-use Prim.Native.Nat.{_-_, _≤_}
+use Prim.Native.Nat.{_-_, _<_, _≤_}
 use mathlib.Core.Path.{_≡_, refl, sym, _∙_}
+use mathlib.Core.Bool.{true, false≢true}
 use mathlib.Core.Logic.{⊎-elim}
 use native.Mathlib.Omega.{arith}
-use lib.ListN.{length, drop, take}
+use lib.ListN.{length, drop, getD, take}
+use borrow.Author.Tests.{not-true, not-false, lt-leb}
 use Rattle.laws.proofs.Parts.{unmapped}
-use borrow.Author.Tests.{not-true, not-false, le-leb, lt-leb}
-use Rattle.laws.proofs.Picks.{pick-last}
 use Rattle.lists.specs.Entries.{instancesMost}
-use Rattle.instances.specs.Instance.{instanceFits, instanceGood}
+use Rattle.instances.specs.Instance.{keyOf, instanceFits, instanceGood}
 use Rattle.instances.specs.Places.{runMost}
 use Rattle.instances.specs.Run.{instancesOf}
-use Rattle.instances.proofs.Runs.{next-is, none-left}
-use Rattle.instances.proofs.Orders.{sound, sound-on, sound-low, sound-bad, sound-none, not-good, is-good, too-long}
-use Rattle.instances.proofs.Fits.{fits-of}
-use Rattle.instances.proofs.Counts.{Tallied, tally-first, tally-second, tally-third, tallied}
+use Rattle.instances.proofs.Runs.{outside, next-is, none-left}
+use Rattle.instances.proofs.Orders.{sound, sound-on, sound-low, sound-bad, sound-none, not-good, not-few, is-good, too-long}
+use Rattle.instances.proofs.Fits.{fits-made, fits-place, not-fits}
+use Rattle.instances.proofs.Blocks.{Blocks, blocks-first, blocks-over, blocks-last, blocks-same, blocks-on, blocks-next}
 use Rattle.instances.proofs.run.Run.good.Statement.{statement}
 use Rattle.instances.proofs.run.Run.good.Tie as tie
 
 abbrev Inv-loop : tie.InvT-loop
-Inv-loop self n subscribed services numbers count cfu₀ cfb₀ cfnr₀ below₀ i₀ cfu cfb cfnr below i =
-    (i ≤ self .count) × (self .count ≤ runMost) × (length (self .run) ≡ runMost) × (cfu ≤ i) × (cfb ≤ i) × (cfnr ≤ i) ×
+Inv-loop self n subscribed services numbers count beyond₀ from₀ below₀ i₀ beyond from below i =
+    (i ≤ self .count) × (self .count ≤ runMost) × (length (self .run) ≡ runMost) × (from ≤ i) ×
     (sound (instanceFits subscribed numbers (take count services)) 0 (instancesOf self) ≡
     sound (instanceFits subscribed numbers (take count services)) below (drop i (instancesOf self))) ×
-    Tallied (instancesOf self) (drop i (instancesOf self)) cfu cfb cfnr
+    Blocks subscribed (instancesOf self) (drop i (instancesOf self)) beyond from below i
 
 abbrev μ-loop : tie.MeasureT-loop
-μ-loop self n subscribed services numbers count cfu₀ cfb₀ cfnr₀ below₀ i₀ cfu cfb cfnr below i = self .count - i
+μ-loop self n subscribed services numbers count beyond₀ from₀ below₀ i₀ beyond from below i = self .count - i
 
 cast-n : tie.Need-cast-n Inv-loop μ-loop
 cast-n c = search needs
@@ -38,13 +38,10 @@ loop-holds : tie.Need-loop-holds Inv-loop μ-loop
 loop-holds c = (
   omega arith,
   c .before .before .if1 .left,
-  search
-      (unmapped, needs),
-  omega arith,
-  omega arith,
+  search (unmapped, needs),
   omega arith,
   refl,
-  record { cfu = omega arith; cfb = omega arith; cfnr = omega arith },
+  blocks-first _ _,
 )
 
 mul-x : tie.Need-mul-x Inv-loop μ-loop
@@ -62,27 +59,71 @@ returns-2 c =
     let a = c .before .before .before .before .before .before .before .before .args in
     let on = next-is (a .t1) (a .t1 .count) (l .i) (omega (arith, l .inv .1)) (l .inv .2) (omega arith) in
     let low = sound-low (instanceGood (a .p)) _ _ _ on (l .below) (omega (arith, c .before .key-of .ensures, c .if2 .taken)) in
-    sym (not-good (a .p) (a .t1) instancesMost (l .inv .1) (l .inv .6 ∙ low))
+    sym (not-good (a .p) (a .t1) instancesMost (l .inv .1) (l .inv .4 ∙ low))
 
-instance-good-requires : tie.Need-instance-good-requires Inv-loop μ-loop
-instance-good-requires c κs = search needs
+cast-procedure : tie.Need-cast-procedure Inv-loop μ-loop
+cast-procedure c = search needs
 
 returns-3 : tie.Need-returns-3 Inv-loop μ-loop
 returns-3 c =
-    let l = c .before .before .before .before .before .before .loop in
-    let a = c .before .before .before .before .before .before .before .before .before .before .args in
+    let l = c .before .before .before .before .before .before .before .loop in
+    let a = c .before .before .before .before .before .before .before .before .before .before .before .args in
     let on = next-is (a .t1) (a .t1 .count) (l .i) (omega (arith, l .inv .1)) (l .inv .2) (omega arith) in
-    let bad = sound-bad (instanceGood (a .p)) _ _ _ on (l .below) (sym (c .before .instance-good .ensures) ∙ not-true _ (c .if3 .taken)) in
-    sym (not-good (a .p) (a .t1) instancesMost (l .inv .1) (l .inv .6 ∙ bad))
+    let bad = sound-bad (instanceGood (a .p)) _ _ _ on (l .below) (not-fits _ _ _ _ (λ f. omega (arith, f .procedure, c .if4 .taken))) in
+    sym (not-good (a .p) (a .t1) instancesMost (l .inv .1) (l .inv .4 ∙ bad))
 
-add-cfu : tie.Need-add-cfu Inv-loop μ-loop
-add-cfu c = search needs
+array-read-if5 : tie.Need-array-read-if5 Inv-loop μ-loop
+array-read-if5 c = search needs
 
-add-cfb : tie.Need-add-cfb Inv-loop μ-loop
-add-cfb c = search needs
+returns-4 : tie.Need-returns-4 Inv-loop μ-loop
+returns-4 c =
+    let l = c .before .before .before .before .before .before .before .before .loop in
+    let a = c .before .before .before .before .before .before .before .before .before .before .before .before .args in
+    let on = next-is (a .t1) (a .t1 .count) (l .i) (omega (arith, l .inv .1)) (l .inv .2) (omega arith) in
+    let bad = sound-bad (instanceGood (a .p)) _ _ _ on (l .below) (not-fits _ _ _ _ (λ f. c .if5 .taken (f .subscribes))) in
+    sym (not-good (a .p) (a .t1) instancesMost (l .inv .1) (l .inv .4 ∙ bad))
 
-add-cfnr : tie.Need-add-cfnr Inv-loop μ-loop
-add-cfnr c = search needs
+add-if6 : tie.Need-add-if6 Inv-loop μ-loop
+add-if6 c = search needs
+
+returns-5 : tie.Need-returns-5 Inv-loop μ-loop
+returns-5 c =
+    let l = c .before .before .before .before .before .before .before .before .before .loop in
+    let a = c .before .before .before .before .before .before .before .before .before .before .before .before .before .args in
+    sym (not-few (a .p) (a .t1) instancesMost (l .inv .1) (blocks-over _ _ _ _ _ _ _ (l .inv .5) (c .if6 .taken)))
+
+add-beyond : tie.Need-add-beyond Inv-loop μ-loop
+add-beyond c = search needs
+
+place-good-requires : tie.Need-place-good-requires Inv-loop μ-loop
+place-good-requires c κs = search needs
+
+returns-6 : tie.Need-returns-6 Inv-loop μ-loop
+returns-6 c =
+    let l = c .before .before .before .before .before .before .before .before .loop in
+    let a = c .before .before .before .before .before .before .before .before .before .before .before .before .args in
+    let on = next-is (a .t1) (a .t1 .count) (l .i) (omega (arith, l .inv .1)) (l .inv .2) (omega arith) in
+    let fails = sym (not-true _ (c .if7 .taken)) ∙ c .before .place-good .ensures in
+    let bad = sound-bad (instanceGood (a .p)) _ _ _ on (l .below) (not-fits _ _ _ _ (λ f. false≢true (fails ∙ fits-place _ _ _ _ f))) in
+    sym (not-good (a .p) (a .t1) instancesMost (l .inv .1) (l .inv .4 ∙ bad))
+
+mul-same : tie.Need-mul-same Inv-loop μ-loop
+mul-same c = search needs
+
+element-copy-out-same : tie.Need-element-copy-out-same Inv-loop μ-loop
+element-copy-out-same c = search needs
+
+address-good-requires : tie.Need-address-good-requires Inv-loop μ-loop
+address-good-requires c κs = search needs
+
+returns-7 : tie.Need-returns-7 Inv-loop μ-loop
+returns-7 c =
+    let l = c .before .before .before .before .before .before .before .before .before .before .before .before .loop in
+    let a = c .before .before .before .before .before .before .before .before .before .before .before .before .before .before .before .before .args in
+    let on = next-is (a .t1) (a .t1 .count) (l .i) (omega (arith, l .inv .1)) (l .inv .2) (omega arith) in
+    let fails = sym (not-true _ (c .if8 .taken)) ∙ c .before .address-good .ensures in
+    let bad = sound-bad (instanceGood (a .p)) _ _ _ on (l .below) (not-fits _ _ _ _ (λ f. false≢true (fails ∙ f .address))) in
+    sym (not-good (a .p) (a .t1) instancesMost (l .inv .1) (l .inv .4 ∙ bad))
 
 add-i : tie.Need-add-i Inv-loop μ-loop
 add-i c = search needs
@@ -92,82 +133,50 @@ loop-less c = search needs
 
 loop-again : tie.Need-loop-again Inv-loop μ-loop
 loop-again c =
-    let l = c .before .before .before .before .before .before .before .loop in
-    let a = c .before .before .before .before .before .before .before .before .before .before .before .args in
+    let l = c .before .before .before .before .before .before .before .before .before .before .before .before .loop in
+    let a = c .before .before .before .before .before .before .before .before .before .before .before .before .before .before .before .before .args in
     let on = next-is (a .t1) (a .t1 .count) (l .i) (omega (arith, l .inv .1)) (l .inv .2) (omega arith) in
-    let key = c .before .before .before .before .key-of .ensures in
-    let good = sym (c .before .before .instance-good .ensures) ∙ not-false _ (c .before .if3 .left) in
-    let three = fits-of _ _ _ _ good .procedure in
-    let sounds = l .inv .6 ∙ rw (← key) at
-    (sound-on (instanceGood (a .p)) _ _ _ on (l .below) (omega (arith, key, c .before .before .before .if2 .left)) good) in
-    let so = l .inv .7 in
+    let key = c .before .before .before .before .before .before .before .before .before .key-of .ensures in
+    let x = getD (a .t1 .run) (l .i) outside in
+    let above : l .below < keyOf x = omega (arith, key, c .before .before .before .before .before .before .before .before .if2 .left) in
+    let place = sym (c .before .before .before .before .before .place-good .ensures) ∙ not-false _ (c .before .before .before .before .if7 .left) in
+    let address = sym (c .before .address-good .ensures) ∙ not-false _ (c .if8 .left) in
+    let so = l .inv .5 in
     ⊎-elim
-    (λ v. rw (v .1, v .2, v .3) (
+    (λ v.
+    let good : instanceGood (a .p) x ≡ true = fits-made _ _ _ _ (v .1 .left) (v .2 .left) place address in
+    rw (v .4, v .5) (
       omega arith,
       l .inv .1,
       l .inv .2,
       omega arith,
-      omega arith,
-      omega arith,
-      sounds,
-      tally-first _ _ _ _ _ _ _ on so (v .0 .taken),
+      l .inv .4 ∙ rw (← key) at (sound-on (instanceGood (a .p)) _ _ _ on (l .below) above good),
+      rw (← key) at (blocks-next _ _ _ _ _ _ _ so _ _ on above (v .0 .taken) (v .1 .left) (v .2 .left) (v .3 .left)),
     ))
-    (⊎-elim
-    (λ v. rw (v .2, v .3, v .4) (
+    (λ v.
+    let same = blocks-same _ _ _ _ _ _ _ so _ _ on above (search needs, search needs) (λ k. omega (arith, k, v .0 .left)) in
+    let good : instanceGood (a .p) x ≡ true = fits-made _ _ _ _ (omega (arith, same, so .three)) (so .subscribes _ same) place address in
+    rw (v .1, v .2) (
       omega arith,
       l .inv .1,
       l .inv .2,
       omega arith,
-      omega arith,
-      omega arith,
-      sounds,
-      tally-second _ _ _ _ _ _ _ on so (v .1 .taken),
+      l .inv .4 ∙ rw (← key) at (sound-on (instanceGood (a .p)) _ _ _ on (l .below) above good),
+      rw (← key) at (blocks-on _ _ _ _ _ _ _ so _ _ on above same),
     ))
-    (λ v. rw (v .2, v .3, v .4) (
-      omega arith,
-      l .inv .1,
-      l .inv .2,
-      omega arith,
-      omega arith,
-      omega arith,
-      sounds,
-      tally-third _ _ _ _ _ _ _ on so (omega (arith, three, v .0 .left, v .1 .left)),
-    )))
-    (c .if4 .came)
+    (c .before .before .before .before .before .before .if3 .came)
 
-returns-4 : tie.Need-returns-4 Inv-loop μ-loop
-returns-4 c =
-    let l = c .before .before .loop in
-    let a = c .before .before .before .before .before .before .args in
-    let none = none-left (a .t1) (a .t1 .count) (l .i) (omega (arith, l .inv .1)) (l .inv .2) (omega arith) in
-    let all = tallied _ _ _ _ _ instancesMost none (l .inv .7) in
-    let sounds = l .inv .6 ∙ sound-none (instanceGood (a .p)) (l .below) _ none in
-    rw (is-good (a .p) (a .t1) instancesMost (l .inv .1) sounds, ← all, lt-leb _ _ (c .if6 .taken))
+add-result : tie.Need-add-result Inv-loop μ-loop
+add-result c = search needs
 
-returns-5 : tie.Need-returns-5 Inv-loop μ-loop
-returns-5 c =
-    let l = c .before .before .before .loop in
-    let a = c .before .before .before .before .before .before .before .args in
+returns-8 : tie.Need-returns-8 Inv-loop μ-loop
+returns-8 c =
+    let l = c .before .loop in
+    let a = c .before .before .before .before .before .args in
     let none = none-left (a .t1) (a .t1 .count) (l .i) (omega (arith, l .inv .1)) (l .inv .2) (omega arith) in
-    let all = tallied _ _ _ _ _ instancesMost none (l .inv .7) in
-    let sounds = l .inv .6 ∙ sound-none (instanceGood (a .p)) (l .below) _ none in
-    rw (is-good (a .p) (a .t1) instancesMost (l .inv .1) sounds, ← all, le-leb _ _ (c .before .if6 .left), lt-leb _ _ (c .if7 .taken))
-
-returns-6 : tie.Need-returns-6 Inv-loop μ-loop
-returns-6 c =
-    let l = c .before .before .before .loop in
-    let a = c .before .before .before .before .before .before .before .args in
-    let none = none-left (a .t1) (a .t1 .count) (l .i) (omega (arith, l .inv .1)) (l .inv .2) (omega arith) in
-    let all = tallied _ _ _ _ _ instancesMost none (l .inv .7) in
-    let sounds = l .inv .6 ∙ sound-none (instanceGood (a .p)) (l .below) _ none in
-    rw (
-      is-good (a .p) (a .t1) instancesMost (l .inv .1) sounds,
-      ← all,
-      le-leb _ _ (c .before .if6 .left),
-      le-leb _ _
-          (c .if7 .left),
-      pick-last _,
-    )
+    let sounds = l .inv .4 ∙ sound-none (instanceGood (a .p)) (l .below) _ none in
+    let end : l .i ≡ a .t1 .count = omega (arith, l .inv .0, c .loop-test .left) in
+    sym (is-good (a .p) (a .t1) instancesMost (l .inv .1) sounds ∙ rw end at (blocks-last _ _ _ _ _ _ _ (l .inv .5) none))
 
 pub good-spec : {M : Type 1} → statement M
 good-spec =
@@ -182,14 +191,21 @@ good-spec =
     element-copy-out-x
     key-of-requires
     returns-2
-    instance-good-requires
+    cast-procedure
     returns-3
-    add-cfu
-    add-cfb
-    add-cfnr
+    array-read-if5
+    returns-4
+    add-if6
+    returns-5
+    add-beyond
+    place-good-requires
+    returns-6
+    mul-same
+    element-copy-out-same
+    address-good-requires
+    returns-7
     add-i
     loop-less
     loop-again
-    returns-4
-    returns-5
-    returns-6)
+    add-result
+    returns-8)
