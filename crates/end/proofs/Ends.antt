@@ -35,6 +35,10 @@ pub marked-past : (procedure mark : ℕ) (marks : List ℕ) → length marks ≤
 unfolding marked
 marked-past procedure mark marks h = set-past marks procedure mark h
 
+-- by its own rules an end has used no identifier past the last
+pub rules-used : (e : End) → all (endRules e) ≡ true → e .used ≤ usedMost
+rules-used e h = leb-true (e .used) usedMost (pick-then (leb (e .used) usedMost) _ h .0)
+
 module _ (most : ℕ) (p : Profile) (e : End) where
   -- where its own rules fail the picture is not looked at
   pub rules-fail : all (endRules e) ≡ false → endGood most p e ≡ false
@@ -44,8 +48,7 @@ module _ (most : ℕ) (p : Profile) (e : End) where
   -- an end that breaks no rule has used no identifier past the last
   pub used-most : endGood most p e ≡ true → e .used ≤ usedMost
   unfolding endGood
-  used-most good =
-      leb-true (e .used) usedMost (pick-then (leb (e .used) usedMost) _ (pick-then (all (endRules e)) _ good .0) .0)
+  used-most good = rules-used e (pick-then (all (endRules e)) _ good .0)
 
   pub picture-good : endGood most p e ≡ true → runGood most p (e .picture) ≡ true
   unfolding endGood

@@ -9,6 +9,7 @@ use lib.IntN.{pos}
 use lib.ListN.{length}
 use borrow.Author.Tests.{lt-ltb, le-ltb, eq-eqb, ne-eqb}
 use Rattle.laws.proofs.Over.{over-nil}
+use Rattle.laws.proofs.Picks.{by-bool}
 use Rattle.refusals.specs.Refusal.{tells, outputLeast}
 use Rattle.refusals.specs.declared.refusal.Refusal.{Refusal}
 use Rattle.refusals.specs.declared.refusal.Refusal.the-variants.{ShortOutput, BadProfile, BadTable, Outstanding, Exhausted, BadRequest}
@@ -16,9 +17,9 @@ use Rattle.refusals.specs.declared.handling.Handling.the-variants.{Done}
 use Rattle.refusals.specs.declared.handling.Written.{Written}
 use Rattle.profile.specs.Access.{accessRead}
 use Rattle.requests.specs.Sent.{sendable, requestOctets}
-use Rattle.requests.specs.Sending.{PutRequest}
+use Rattle.requests.specs.Sending.{isSent, PutRequest}
 use Rattle.requests.specs.declared.request.Request.{Request}
-use Rattle.requests.proofs.Sizes.{request-most}
+use Rattle.requests.proofs.Sizes.{request-most, request-size}
 use Rattle.requests.proofs.Senders.{sent-whole}
 use Rattle.lists.specs.Entries.{instancesMost}
 use Rattle.end.specs.End.{usedMost, endGood}
@@ -96,3 +97,22 @@ all-sends d operation r e xs n ys is below room fit put =
       count = rw is (whole .moved ∙ zero-add _);
       lent = rw is (whole .holds);
     }
+
+-- where there is room, nothing is written of a request that may not be sent, and of no other
+module _ (operation : ℕ) (r : Request) (e : End) (xs : List ℕ) (n : ℕ) (ys : List ℕ) (below : e .used < usedMost) (room : outputLeast ≤ length xs)
+    (put : PutRequest xs (pos (suc (e .used))) operation r n ys) where
+  pub unfit-sends : n ≡ 0 → (sendable operation r ≡ false) × (ys ≡ xs)
+  unfolding isSent
+  unfit-sends none =
+      by-bool ((sendable operation r ≡ false) × (ys ≡ xs)) (sendable operation r)
+      (λ fit.
+      let identifier = pos (suc (e .used)) in
+      let few = request-most identifier operation r (omega arith) fit in
+      let whole = sent-whole xs identifier operation r n ys put fit (omega (arith, room, few)) in
+      absurd (omega (arith, none, whole .moved, request-size identifier operation r (omega arith) fit)))
+      (λ unfit. (unfit, put .holds ∙ rw unfit))
+
+  pub fit-sends : (n ≡ 0 → ⊥) → sendable operation r ≡ true
+  unfolding isSent
+  fit-sends some =
+      by-bool (sendable operation r ≡ true) (sendable operation r) (λ fit. fit) (λ unfit. absurd (some (put .counted ∙ rw unfit)))

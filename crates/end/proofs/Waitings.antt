@@ -1,7 +1,7 @@
 -- An end that has sent waits for the answer to what it wrote. Assumes nothing.
 use Prim.Native.Nat.{ℕ, _<_, _≤_}
-use mathlib.Core.Path.{_≡_, refl, sym, _∙_}
-use mathlib.Core.Bool.{true}
+use mathlib.Core.Path.{_≡_, refl, sym, ap, _∙_}
+use mathlib.Core.Bool.{Bool, true}
 use mathlib.Core.List.{List}
 use native.Mathlib.Omega.{arith}
 use lib.IntN.{pos}
@@ -13,12 +13,14 @@ use Rattle.refusals.specs.declared.handling.Handling.the-variants.{Refuses, Don
 use Rattle.refusals.specs.declared.handling.Written.{Written}
 use Rattle.refusals.proofs.Refusals.{refuses-not}
 use Rattle.profile.specs.Access.{accessRead}
+use Rattle.profile.specs.declared.access.AccessRead.{AccessRead}
 use Rattle.requests.specs.Sent.{sendable, requestOctets}
 use Rattle.requests.specs.declared.request.Request.{Request}
 use Rattle.lists.specs.Entries.{instancesMost}
+use Rattle.instances.specs.Run.{runGood}
 use Rattle.end.specs.End.{usedMost}
 use Rattle.end.specs.Sending.{sent, Sends, sends, SendsBy}
-use Rattle.end.specs.inner.Sending.{WrittenBy, endAfter, IdentifierLeft}
+use Rattle.end.specs.inner.Sending.{WrittenBy, WrittenWhere, endAfter, IdentifierLeft}
 use Rattle.end.specs.declared.end.End.{End}
 use Rattle.end.proofs.Ends.{used-most}
 use Rattle.end.proofs.Steps.{ours, sends-ind}
@@ -70,6 +72,14 @@ module _ (access : List ℕ) (operation : ℕ) (r : Request) (e : End) (size : �
       sends-ind access e operation r size (λ d. tells tt ≡ d .told → sent operation r e ≡ d .end)
       (λ _ h. absurd (refuses-not _ _ (sym h)))
       (λ _ _ _ _ _. refl)
+
+-- what was written is right of an access whose profile was read and by whose profile the picture was judged
+pub written-for :
+    (access : List ℕ) (read : AccessRead) (good : Bool) (operation : ℕ) (r : Request) (e : End) (xs : List ℕ) (w : Written) (ys : List ℕ) →
+    read ≡ accessRead access → good ≡ runGood instancesMost (read .profile) (e .picture) →
+    WrittenWhere (read .ok) good operation r e xs w ys → WrittenBy (sends access operation r e (length xs)) xs w ys
+written-for access read good operation r e xs w ys is judged by =
+    by access (ap (λ (q : AccessRead). q .ok) (sym is)) (rw is at (sym judged))
 
 module _ (access : List ℕ) (operation : ℕ) (r : Request) (e : End) (xs : List ℕ) (w : Written) (ys : List ℕ)
     (by : WrittenBy (sends access operation r e (length xs)) xs w ys) where

@@ -59,8 +59,9 @@ fn marks_good(marks: [u8; PROCEDURES]) -> bool
     marks[2] <= 1
 }
 
-// Whether all but the picture breaks no rule.
-pub(crate) fn rules_hold(e: End) -> bool
+// Whether all but the picture breaks no rule. The request stands beside its end: taken out of it here, it would cost callers a copy of the end.
+pub(crate) fn rules_hold(e: End, request: Request) -> bool
+    requires { ⌜ request ≡ e .request ⌝ }
     ensures { λ r. ⌜ r ≡ all (endRules e) ⌝ }
 {
     if USEDMOST < e.used {
@@ -82,7 +83,6 @@ pub(crate) fn rules_hold(e: End) -> bool
     if 1 < e.before {
         return false;
     }
-    let request = e.request;
     is_sendable(e.operation, request)
 }
 
@@ -91,7 +91,8 @@ impl End {
     pub fn good(self, p: Profile) -> bool
         ensures { λ r. ⌜ EndGood p self r ⌝ }
     {
-        if !rules_hold(self) {
+        let request = self.request;
+        if !rules_hold(self, request) {
             return false;
         }
         let picture = self.picture;

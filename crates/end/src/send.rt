@@ -17,14 +17,13 @@ use refusals::not_written;
 use requests::Request;
 use requests::Served;
 use requests::blank_request;
-use requests::is_sendable;
 use requests::put_request;
 ghost use mathlib.Core.Path.{_≡_};
 ghost use Prim.Native.Nat.{_<_};
-ghost use lib.ListN.{length};
-ghost use Rattle.end.specs.End.{usedMost, markAt, marked};
-ghost use Rattle.end.specs.Sending.{interrogationOf, marksSent, sent, sends, Activates, Deactivates, Interrogates};
-ghost use Rattle.end.specs.inner.Sending.{WrittenBy, IdentifierLeft, endAfter};
+ghost use Rattle.laws.specs.Tests.{all};
+ghost use Rattle.end.specs.End.{usedMost, endRules, markAt, marked};
+ghost use Rattle.end.specs.Sending.{interrogationOf, marksSent, sent, Activates, Deactivates, Interrogates};
+ghost use Rattle.end.specs.inner.Sending.{WrittenWhere, IdentifierLeft, endAfter};
 
 // The next end, a refusal or none, and how many octets the component has.
 pub struct Sent {
@@ -96,23 +95,31 @@ fn waiting(e: End, operation: u8, r: Request) -> End
     }
 }
 
-// Writes the request, or refuses it; the next end is built outside, since each function that hands an end back copies it.
-fn send(e: End, access: &[u8], operation: u8, r: Request, out: &mut [u8]) -> Written
-    ensures { λ w. ⌜ WrittenBy (sends (now (access .entry)) operation r e (length (now (out .entry)))) (now (out .entry)) w (now (out .exit)) ⌝ }
+// Writes the request, or refuses it, where it was found whether profile, end and picture break no rule. An output of the least size has room
+// for every request: where none is written, it may not be sent. The next end is built outside, since each function that hands an end back
+// copies it.
+fn send(
+    e: End,
+    profile: bool,
+    rules: bool,
+    picture: bool,
+    operation: u8,
+    r: Request,
+    out: &mut [u8],
+) -> Written
+    requires { ⌜ rules ≡ all (endRules e) ⌝ }
+    ensures { λ w. ⌜ WrittenWhere profile picture operation r e (now (out .entry)) w (now (out .exit)) ⌝ }
 {
     if out.len() < OUTPUTLEAST {
         return not_written(Refusal::ShortOutput);
     }
-    let read = read_access(access);
-    if !read.ok {
+    if !profile {
         return not_written(Refusal::BadProfile);
     }
-    let p = read.profile;
-    if !rules_hold(e) {
+    if !rules {
         return not_written(Refusal::BadTable);
     }
-    let picture = e.picture;
-    if !picture.good(p) {
+    if !picture {
         return not_written(Refusal::BadTable);
     }
     if e.outstanding == 1 {
@@ -121,11 +128,11 @@ fn send(e: End, access: &[u8], operation: u8, r: Request, out: &mut [u8]) -> Wri
     if e.used == USEDMOST {
         return not_written(Refusal::Exhausted);
     }
-    if !is_sendable(operation, r) {
-        return not_written(Refusal::BadRequest);
-    }
     let identifier = e.used + 1;
     let count = put_request(out, identifier as i16, operation, r);
+    if count == 0 {
+        return not_written(Refusal::BadRequest);
+    }
     Written {
         outcome: Handling::Done,
         count,
@@ -148,7 +155,13 @@ impl End {
     pub fn activate(self, access: &[u8], request: Request, out: &mut [u8]) -> Sent
         ensures { λ r. ⌜ Activates (now (access .entry)) request self (now (out .entry)) r (now (out .exit)) ⌝ }
     {
-        let written = send(self, access, ACTIVATION, request, out);
+        let waits = self.request;
+        let rules = rules_hold(self, waits);
+        let read = read_access(access);
+        let p = read.profile;
+        let picture = self.picture;
+        let good = picture.good(p);
+        let written = send(self, read.ok, rules, good, ACTIVATION, request, out);
         let outcome = written.outcome;
         let end = end_after(self, ACTIVATION, request, outcome);
         Sent {
@@ -162,7 +175,13 @@ impl End {
     pub fn deactivate(self, access: &[u8], request: Request, out: &mut [u8]) -> Sent
         ensures { λ r. ⌜ Deactivates (now (access .entry)) request self (now (out .entry)) r (now (out .exit)) ⌝ }
     {
-        let written = send(self, access, DEACTIVATION, request, out);
+        let waits = self.request;
+        let rules = rules_hold(self, waits);
+        let read = read_access(access);
+        let p = read.profile;
+        let picture = self.picture;
+        let good = picture.good(p);
+        let written = send(self, read.ok, rules, good, DEACTIVATION, request, out);
         let outcome = written.outcome;
         let end = end_after(self, DEACTIVATION, request, outcome);
         Sent {
@@ -177,7 +196,13 @@ impl End {
         ensures { λ r. ⌜ Interrogates (now (access .entry)) procedure self (now (out .entry)) r (now (out .exit)) ⌝ }
     {
         let request = interrogation_of(procedure);
-        let written = send(self, access, INTERROGATION, request, out);
+        let waits = self.request;
+        let rules = rules_hold(self, waits);
+        let read = read_access(access);
+        let p = read.profile;
+        let picture = self.picture;
+        let good = picture.good(p);
+        let written = send(self, read.ok, rules, good, INTERROGATION, request, out);
         let outcome = written.outcome;
         let end = end_after(self, INTERROGATION, request, outcome);
         Sent {

@@ -16,6 +16,7 @@ use profile::read_access;
 use refusals::COMPONENTMOST;
 use refusals::Handling;
 use refusals::Refusal;
+use requests::Request;
 use requests::blank_request;
 use rules::Verdict;
 use rules::apply_request;
@@ -60,12 +61,12 @@ fn doubted(e: End) -> End
     closed(e, DOUBT, picture)
 }
 
-// A result of an activation or a deactivation: the request is applied to the picture by the exchange's own rules.
-fn applied(p: Profile, e: End) -> End
+// A result of an activation or a deactivation: the request is applied to the picture by the exchange's own rules. Both stand beside their
+// end, as for `rules_hold`.
+fn applied(p: Profile, e: End, request: Request, picture: Run) -> End
+    requires { ⌜ (request ≡ e .request) × (picture ≡ e .picture) ⌝ }
     ensures { λ r. ⌜ r ≡ appliedBy p e (judge instancesMost p (e .operation) (e .request) (instancesOf (e .picture))) ⌝ }
 {
-    let picture = e.picture;
-    let request = e.request;
     match judge_request(p, e.operation, request, picture) {
         Verdict::Fails { error: _ } => doubted(e),
         Verdict::Passes { renews: _ } => {
@@ -110,7 +111,11 @@ fn took(p: Profile, e: End, s: &[u8]) -> End
             let picture = e.picture;
             closed(e, e.before, picture)
         }
-        Reply::Done => applied(p, e),
+        Reply::Done => {
+            let request = e.request;
+            let picture = e.picture;
+            applied(p, e, request, picture)
+        }
         Reply::Listed { at, end } => learned(p, e, s, at, end),
         Reply::Wrong => doubted(e),
     }
@@ -138,7 +143,8 @@ impl End {
             return refuses(self, Refusal::BadProfile);
         }
         let p = read.profile;
-        if !rules_hold(self) {
+        let request = self.request;
+        if !rules_hold(self, request) {
             return refuses(self, Refusal::BadTable);
         }
         let picture = self.picture;

@@ -1,7 +1,7 @@
 use Rattle.end.proofs.Ends.{waiting-none, waiting-unused, waiting-mark, waiting-sends}
 use Rattle.requests.specs.Sent.{sendable}
 use borrow.Author.Tests.{le-leb, not-true, not-false}
-use mathlib.Core.Path.{sym, _∙_}
+use mathlib.Core.Path.{sym, ap, _∙_}
 use Rattle.end.specs.End.{waitingGood}
 use Rattle.laws.proofs.Picks.{pick-last}
 use Rattle.laws.proofs.Cases.{cases}
@@ -74,19 +74,16 @@ is-sendable-requires c κs = search needs
 
 returns-7 : tie.Need-returns-7
 returns-7 c =
+    let start = c .before .before .before .before .before .before .before .before .before .before .before .before .before .before in
+    let a = start .args in
     rw (
-      le-leb _ _ (c .before .before .before .before .before .before .before .before .before .before .before .before .before .if1 .left),
-      le-leb _ _ (c .before .before .before .before .before .before .before .before .before .before .before .if2 .left),
-      sym
-          (c .before .before .before .before .before .before .before .before .before .marks-good .ensures)
-          ∙ not-false _ (c .before .before .before .before .before .before .before .before .if3 .left),
-      waiting-sends
-          (c .before .before .before .before .before .before .before .before .before .before .before .before .before .before .before .args .e)
-          (c .before .before .before .before .before .before .if4 .left) (c .before .before .before .before .if5 .left)
-          (c .before .before .if6 .left),
+      le-leb _ _ (c .before .before .before .before .before .before .before .before .before .before .before .before .if1 .left),
+      le-leb _ _ (c .before .before .before .before .before .before .before .before .before .before .if2 .left),
+      sym (c .before .before .before .before .before .before .before .before .marks-good .ensures)
+          ∙ not-false _ (c .before .before .before .before .before .before .before .if3 .left),
+      waiting-sends (a .e) (c .before .before .before .before .before .if4 .left) (c .before .before .before .if5 .left) (c .before .if6 .left),
     )
-    (c .is-sendable .ensures ∙ sym
-    (pick-last (sendable (c .before .before .before .before .before .before .before .before .before .before .before .before .before .before .before .args .e .operation) (c .before .before .before .before .before .before .before .before .before .before .before .before .before .before .before .args .e .request))))
+    (c .is-sendable .ensures ∙ ap (sendable (a .e .operation)) (start .pre) ∙ sym (pick-last (sendable (a .e .operation) (a .e .request))))
 
 pub rules-hold-spec : {M : Type 1} → statement M
 rules-hold-spec =

@@ -24,15 +24,18 @@ closed-requires c κs = search needs
 
 returns : tie.Need-returns
 returns c =
-    let a = c .before .before .before .before .before .before .args in
-    c .doubted .ensures ∙ applied-fails (a .p) (a .e) _ (c .before .before .before .judge-request .ensures .verdict) _
+    let start = c .before .before .before .before in
+    c .doubted .ensures
+    ∙ applied-fails (start .args .p) (start .args .e) _
+    (rw (start .pre .0, start .pre .1) at (c .before .before .before .judge-request .ensures .verdict)) _
     (c .before .enum-told .given .1)
 
 returns-2 : tie.Need-returns-2
 returns-2 c =
-    let a = c .before .before .before .before .before .before .before .args in
-    rw (c .before .apply-request .ensures) at (c .closed .ensures)
-    ∙ applied-passes (a .p) (a .e) _ (c .before .before .before .before .judge-request .ensures .verdict) _
+    let start = c .before .before .before .before .before in
+    rw (c .before .apply-request .ensures, start .pre .0, start .pre .1) at (c .closed .ensures)
+    ∙ applied-passes (start .args .p) (start .args .e) _
+    (rw (start .pre .0, start .pre .1) at (c .before .before .before .before .judge-request .ensures .verdict)) _
     (c .before .before .enum-told2 .given .1)
 
 pub applied-spec : {M : Type 1} → statement M

@@ -82,13 +82,12 @@ returns-4 c =
 
 returns-5 : tie.Need-returns-5
 returns-5 c =
-    let id : SFits w16 (pos (c .before .before .before .before .before .before .before .before .args .e .used)) =
-    omega (arith, c .before .before .before .before .before .before .before .before .pre) in
-    c .applied .ensures ∙ took-reply (c .before .before .before .before .before .before .before .before .args .p)
-    (c .before .before .before .before .before .before .before .before .args .e)
-    (c .before .before .before .before .before .before .before .before .args .s .now) _ _
-    (c .before .before .before .before .before .if1 .left) (rw (toZ-ofZ id) at (c .before .before .before .reply-to .ensures))
-    (c .before .enum-told4 .given .1)
+    let start = c .before .before .before .before .before .before .before .before .before .before in
+    let id : SFits w16 (pos (start .args .e .used)) = omega (arith, start .pre) in
+    c .applied .ensures ∙ took-reply (start .args .p) (start .args .e) (start .args .s .now) _ _
+    (c .before .before .before .before .before .before .before .if1 .left)
+    (rw (toZ-ofZ id) at (c .before .before .before .before .before .reply-to .ensures))
+    (c .before .before .before .enum-told4 .given .1)
 
 returns-6 : tie.Need-returns-6
 returns-6 c =

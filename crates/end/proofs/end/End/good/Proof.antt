@@ -11,7 +11,7 @@ rules-hold-requires c κs = search needs
 
 returns : tie.Need-returns
 returns c =
-    let a = c .before .before .args in
+    let a = c .before .before .before .args in
     sym (rules-fail instancesMost (a .p) (a .self) (sym (c .before .rules-hold .ensures) ∙ not-true _ (c .if1 .taken)))
 
 good-requires : tie.Need-good-requires
@@ -19,7 +19,7 @@ good-requires c κs = search needs
 
 returns-2 : tie.Need-returns-2
 returns-2 c =
-    let a = c .before .before .before .before .args in
+    let a = c .before .before .before .before .before .args in
     c .good2 .ensures ∙ sym (rules-pass instancesMost (a .p) (a .self)
     (sym (c .before .before .before .rules-hold .ensures) ∙ not-false _ (c .before .before .if1 .left)))
 

@@ -22,7 +22,7 @@ abbrev from2 : tie.Else2 → tie.Else1
 from2 c = c .before .before .before
 
 abbrev from3 : tie.Else3 → tie.Else2
-from3 c = c .before .before .before
+from3 c = c .before .before .before .before
 
 abbrev from4 : tie.Else4 → tie.Else3
 from4 c = c .before .before .before
@@ -79,7 +79,7 @@ refuses-requires-3 c κs = search needs
 
 returns-3 : tie.Need-returns-3
 returns-3 c =
-    let d = c .before .before .before .before in
+    let d = c .before .before .before .before .before in
     let bad = rules-fail instancesMost _ _ (sym (c .before .before .rules-hold .ensures) ∙ not-true _ (c .before .if3 .taken)) in
     refused-moves _ _ BadTable _ (takes-end _ _ _ (fair (from2 d)) (ok d) bad) (c .refuses3 .ensures)
 
