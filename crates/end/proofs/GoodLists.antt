@@ -38,6 +38,11 @@ module _ (most : ℕ) (p : Profile) (procedure : ℕ) (new : List Instance) wher
   unfolding listGood
   is-list own good = rw (goods-all (isOf procedure) new own, list-good p most new good)
 
+  -- the first of the two alone, as `replaced_by` asks it
+  pub list-own : listGood most p procedure new ≡ true → eachGood (isOf procedure) new ≡ true
+  unfolding listGood
+  list-own h = both-hold (eachGood (isOf procedure) new) (instancesGood most p new) h .0
+
   pub list-is : listGood most p procedure new ≡ true → Each (λ x. isOf procedure x ≡ true) new × GoodList p most new
   unfolding listGood
   list-is h =

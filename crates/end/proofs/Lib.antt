@@ -4,6 +4,7 @@ pub mod Movings
 pub mod Shows
 pub mod Sorted
 pub mod Replaced
+pub mod Judged
 pub mod Pictures
 pub mod Learnings
 pub mod Tolds

@@ -35,7 +35,7 @@ none-of q (x ∷ l) h = ap length (those-skip (isOf q) (x ∷ l) l x refl (h .0)
 
 -- ---- two things that hold of each hold of it together
 
-each-both :
+pub each-both :
     (P Q : Instance → Type 0) (l : List Instance) → Each P l → Each Q l → Each (λ x. P x × Q x) l
 each-both P Q [] h k = tt
 each-both P Q (x ∷ l) h k = ((h .0, k .0), each-both P Q l (h .1) (k .1))

@@ -5,7 +5,7 @@ use mathlib.Core.Bool.{true, false}
 use mathlib.Core.List.{List}
 use native.Mathlib.Nat.{zero-add}
 use native.Mathlib.Omega.{arith}
-use lib.IntN.{pos}
+use lib.IntN.{ℤ, pos}
 use lib.ListN.{length}
 use borrow.Author.Tests.{lt-ltb, le-ltb, eq-eqb, ne-eqb}
 use Rattle.laws.proofs.Over.{over-nil}
@@ -17,10 +17,10 @@ use Rattle.refusals.specs.declared.handling.Handling.the-variants.{Done}
 use Rattle.refusals.specs.declared.handling.Written.{Written}
 use Rattle.profile.specs.Access.{accessRead}
 use Rattle.requests.specs.Sent.{sendable, requestOctets}
-use Rattle.requests.specs.Sending.{isSent, PutRequest}
+use Rattle.requests.specs.Sending.{PutRequest}
 use Rattle.requests.specs.declared.request.Request.{Request}
 use Rattle.requests.proofs.Sizes.{request-most, request-size}
-use Rattle.requests.proofs.Senders.{sent-whole}
+use Rattle.requests.proofs.Senders.{sent-whole, sent-not}
 use Rattle.lists.specs.Entries.{instancesMost}
 use Rattle.end.specs.End.{usedMost, endGood}
 use Rattle.end.specs.Sending.{sent, Sends, notSent, sends}
@@ -101,18 +101,19 @@ all-sends d operation r e xs n ys is below room fit put =
 -- where there is room, nothing is written of a request that may not be sent, and of no other
 module _ (operation : ℕ) (r : Request) (e : End) (xs : List ℕ) (n : ℕ) (ys : List ℕ) (below : e .used < usedMost) (room : outputLeast ≤ length xs)
     (put : PutRequest xs (pos (suc (e .used))) operation r n ys) where
+  abbrev identifier : ℤ
+  identifier = pos (suc (e .used))
+
   pub unfit-sends : n ≡ 0 → (sendable operation r ≡ false) × (ys ≡ xs)
-  unfolding isSent
   unfit-sends none =
       by-bool ((sendable operation r ≡ false) × (ys ≡ xs)) (sendable operation r)
       (λ fit.
-      let identifier = pos (suc (e .used)) in
       let few = request-most identifier operation r (omega arith) fit in
       let whole = sent-whole xs identifier operation r n ys put fit (omega (arith, room, few)) in
       absurd (omega (arith, none, whole .moved, request-size identifier operation r (omega arith) fit)))
-      (λ unfit. (unfit, put .holds ∙ rw unfit))
+      (λ unfit. (unfit, sent-not xs identifier operation r n ys put unfit .1))
 
   pub fit-sends : (n ≡ 0 → ⊥) → sendable operation r ≡ true
-  unfolding isSent
   fit-sends some =
-      by-bool (sendable operation r ≡ true) (sendable operation r) (λ fit. fit) (λ unfit. absurd (some (put .counted ∙ rw unfit)))
+      by-bool (sendable operation r ≡ true) (sendable operation r) (λ fit. fit)
+      (λ unfit. absurd (some (sent-not xs identifier operation r n ys put unfit .0)))

@@ -1,31 +1,26 @@
--- The instances of a list put in order, one after the other, and whether it is a good list. Assumes nothing.
+-- The instances of a list put in order, one after the other. Assumes nothing.
 use Prim.Native.Nat.{ℕ, suc, min, _+_, _-_, _<_, _≤_}
 use mathlib.Core.Path.{_≡_, refl, sym, ap, _∙_}
-use mathlib.Core.Bool.{false}
 use mathlib.Core.List.{List, [], _∷_, _++_, map}
 use mathlib.Core.Logic.{_⊎_, ⊎-elim}
 use native.Mathlib.Numerals.{add-one}
 use native.Mathlib.Omega.{arith}
 use lib.ListN.{length, drop, getD, set, replicate, length-append, length-map, length-drop, length-take, length-replicate, replicate-append-replicate}
 use lib.Seq.{set-at, getD-at, append-snoc}
-use Rattle.laws.proofs.Picks.{pick-last}
 use Rattle.laws.proofs.Lefts.{left-none}
 use Rattle.profile.specs.declared.profile.Profile.{Profile}
 use Rattle.lists.specs.Entry.{entryOf}
 use Rattle.lists.specs.Entries.{instancesMost, entriesIn}
 use Rattle.lists.specs.declared.entry.Entry.{Entry}
 use Rattle.lists.specs.declared.entries.Entries.{Entries}
-use Rattle.instances.specs.Instance.{blankInstance, keyOf, chosen}
+use Rattle.instances.specs.Instance.{blankInstance, keyOf}
 use Rattle.instances.specs.Places.{runMost}
-use Rattle.instances.specs.Run.{instancesOf, packed, listed, merged, isOf, instancesGood, runGood}
+use Rattle.instances.specs.Run.{packed, merged}
 use Rattle.instances.specs.declared.instance.Instance.{Instance}
 use Rattle.instances.specs.declared.run.Run.{Run}
 use Rattle.instances.proofs.Runs.{step, packed-done}
-use Rattle.instances.proofs.Choices.{chosen-every}
 use Rattle.instances.proofs.Merged.{nil-merged, merged-nil, merge-lower, merge-higher, merged-length}
-use Rattle.instances.proofs.Fits.{all-pass, not-all}
-use Rattle.instances.proofs.Goods.{run-by}
-use Rattle.end.specs.Listed.{instanceFor, sorted, instancesListed, listGood, everyOf}
+use Rattle.end.specs.Listed.{instanceFor, sorted, instancesListed}
 
 -- ---- none is lost
 
@@ -161,28 +156,3 @@ module _ (p : Profile) (list : Entries) (n : ℕ)
   array-done array so =
       let many : n ≡ length (sortedFrom p list 0) = omega (arith, length-from 0) in
       packed-done (sortedFrom p list 0) n array (many, rw (← many) so, omega (arith, many, few))
-
--- ---- a good list
-
--- a list of which not every instance is of the procedure is bad; of any other the table's rules decide
-module _ (most : ℕ) (p : Profile) (procedure : ℕ) (run : Run) (few : run .count ≤ runMost) (long : length (run .run) ≡ runMost) where
-  by-procedure : (x : Instance) → chosen (everyOf procedure) x ≡ isOf procedure x
-  by-procedure = chosen-every (everyOf procedure) refl refl
-
-  counted : length (instancesOf run) ≡ run .count
-  counted = omega (arith, length-take (run .count) (run .run))
-
-  pub list-bad :
-      (length (listed (everyOf procedure) (instancesOf run)) ≡ run .count → ⊥) →
-      listGood most p procedure (instancesOf run) ≡ false
-  unfolding listGood
-  list-bad h =
-      rw (not-all (chosen (everyOf procedure)) (isOf procedure) by-procedure (instancesOf run) (λ k. h (k ∙ counted)))
-
-  pub list-by :
-      length (listed (everyOf procedure) (instancesOf run)) ≡ run .count →
-      listGood most p procedure (instancesOf run) ≡ runGood most p run
-  unfolding listGood
-  list-by h =
-      let all = all-pass (chosen (everyOf procedure)) (isOf procedure) by-procedure (instancesOf run) (h ∙ sym counted) in
-      rw all (pick-last (instancesGood most p (instancesOf run)) ∙ sym (run-by p most run few))

@@ -2,6 +2,7 @@
 use instances::EVERYNUMBER;
 use instances::EVERYSERVICE;
 use instances::Instance;
+use instances::PROCEDURES;
 use instances::Run;
 use instances::Selection;
 use instances::fresh_run;
@@ -11,13 +12,16 @@ use lists::Entries;
 use lists::Entry;
 use lists::INSTANCESMOST;
 use profile::Profile;
+use profile::SERVICES;
 use profile::number_place;
+use profile::service_slot;
 ghost use mathlib.Core.Path.{_≡_};
+ghost use mathlib.Core.Bool.{true};
 ghost use Prim.Native.Nat.{_≤_};
-ghost use Rattle.instances.specs.Places.{runMost};
 ghost use Rattle.lists.specs.Entries.{instancesMost, entriesIn};
-ghost use Rattle.instances.specs.Run.{instancesOf, packed};
+ghost use Rattle.instances.specs.Run.{instancesOf, packed, eachGood};
 ghost use Rattle.end.specs.Listed.{instanceFor, instancesListed, listGood, everyOf};
+ghost use Rattle.end.specs.inner.Listed.{addressHeld};
 
 // Every instance of a procedure.
 pub(crate) fn every_of(procedure: u8) -> Selection
@@ -72,14 +76,42 @@ pub(crate) fn run_from(p: Profile, list: Entries) -> Run
     next
 }
 
-// Whether a list's instances are all of the procedure, and obey the rules of a table.
+// Whether a list's instances are all of the procedure, and obey the rules of a table; the addresses do, since entries with others are not read.
 pub(crate) fn list_good(p: Profile, procedure: u8, run: Run) -> bool
-    requires { ⌜ run .count ≤ runMost ⌝ }
+    requires { ⌜ (run .count ≤ instancesMost) × (eachGood addressHeld (instancesOf run) ≡ true) ⌝ }
     ensures { λ r. ⌜ r ≡ listGood instancesMost p procedure (instancesOf run) ⌝ }
 {
-    let sel = every_of(procedure);
-    if run.chosen_count(sel) != run.count as usize {
+    let n = stored(run.count, INSTANCESMOST);
+    if n == 0 {
+        return true;
+    }
+    let subscribed = p.subscribed;
+    if PROCEDURES <= procedure as usize {
         return false;
     }
-    run.good(p)
+    if subscribed[procedure as usize] != 1 {
+        return false;
+    }
+    let services = stored(p.servicecount, SERVICES);
+    let mut below: usize = 0;
+    let mut i: usize = 0;
+    while i < n {
+        let x = run.run[i];
+        if x.procedure != procedure {
+            return false;
+        }
+        let key = key_of(x.procedure, x.number, x.service);
+        if key <= below {
+            return false;
+        }
+        if p.numbercount <= x.number {
+            return false;
+        }
+        if services <= service_slot(p, x.service) {
+            return false;
+        }
+        below = key;
+        i += 1;
+    }
+    true
 }

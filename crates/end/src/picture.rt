@@ -2,14 +2,15 @@
 use instances::ROOM;
 use instances::Run;
 use instances::fresh_run;
-use instances::is_before;
 use instances::stored;
 ghost use mathlib.Core.Path.{_≡_};
-ghost use Rattle.instances.specs.Run.{instancesOf, packed};
+ghost use mathlib.Core.Bool.{true};
+ghost use Rattle.instances.specs.Run.{instancesOf, packed, isOf, eachGood};
 ghost use Rattle.end.specs.Listed.{replaced};
 
-// The procedure's instances make way for those of the list: two ascending runs as one.
+// The procedure's instances make way for those of the list, which are of that procedure: two ascending runs as one.
 pub(crate) fn replaced_by(picture: Run, procedure: u8, list: Run) -> Run
+    requires { ⌜ eachGood (isOf procedure) (instancesOf list) ≡ true ⌝ }
     ensures { λ r. ⌜ r ≡ packed (replaced procedure (instancesOf list) (instancesOf picture)) ⌝ }
 {
     let n = stored(picture.count, ROOM);
@@ -24,12 +25,11 @@ pub(crate) fn replaced_by(picture: Run, procedure: u8, list: Run) -> Run
             if x.procedure == procedure {
                 i += 1;
             } else if m < many {
-                let w = list.run[m];
-                if is_before(w.procedure, w.number, w.service, x) {
+                if x.procedure < procedure {
                     next.run[k] = x;
                     i += 1;
                 } else {
-                    next.run[k] = w;
+                    next.run[k] = list.run[m];
                     m += 1;
                 }
                 k += 1;

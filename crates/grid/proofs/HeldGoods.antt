@@ -13,6 +13,7 @@ use Rattle.profile.specs.declared.profile.Profile.{Profile}
 use Rattle.instances.specs.Instance.{instanceGood}
 use Rattle.instances.specs.Run.{countOf}
 use Rattle.instances.specs.declared.instance.Instance.{Instance}
+use Rattle.instances.proofs.Choices.{place-among}
 use Rattle.instances.proofs.Fits.{fits-is}
 use Rattle.instances.proofs.Goods.{GoodList, small-good}
 use Rattle.instances.proofs.Keys.{Small}
@@ -22,7 +23,7 @@ use Rattle.grid.specs.Row.{active, cellAt, places}
 use Rattle.grid.specs.Table.{GridTable, gridTableGood}
 use Rattle.grid.proofs.InstanceCounts.{procedure-count}
 use Rattle.grid.proofs.InstanceOrders.{instances-up}
-use Rattle.grid.proofs.ProfilePlaces.{WholeProfile, place-among, rules, services-many}
+use Rattle.grid.proofs.ProfilePlaces.{WholeProfile, rules, services-many}
 use Rattle.grid.proofs.RowInstances.{rowOf, rows-all, slot-is}
 use Rattle.grid.proofs.Rows.{active-rules, good-few}
 use Rattle.grid.proofs.Tables.{table-row}

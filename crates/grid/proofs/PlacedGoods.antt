@@ -19,6 +19,7 @@ use Rattle.profile.proofs.Profiles.{good-profile}
 use Rattle.instances.specs.Instance.{instanceGood, keyOf}
 use Rattle.instances.specs.Run.{countOf}
 use Rattle.instances.specs.declared.instance.Instance.{Instance}
+use Rattle.instances.proofs.Choices.{among-place, place-among}
 use Rattle.instances.proofs.Fits.{among-known, among-small, fits-is, fits-of}
 use Rattle.instances.proofs.Goods.{Few, GoodList}
 use Rattle.grid.specs.Grid.{Grid, GridShaped, gridGood, gridProcedures, noGrid, rowAt}
@@ -31,7 +32,7 @@ use Rattle.grid.proofs.InstanceCounts.{procedure-count}
 use Rattle.grid.proofs.PlacedCells.{Fitting, Holdable, all-parts, cell-else, cell-here, fitting, fitting-in, none-there, place-inside}
 use Rattle.grid.proofs.PlacedCells.{place-number, place-slot, placed-shaped}
 use Rattle.grid.proofs.PlacedOrders.{all-shaped, placed-instances}
-use Rattle.grid.proofs.ProfilePlaces.{WholeProfile, among-place, place-among, rules, services-many}
+use Rattle.grid.proofs.ProfilePlaces.{WholeProfile, rules, services-many}
 use Rattle.grid.proofs.Rows.{cell-good, good-row}
 use Rattle.grid.proofs.Shapes.{shaped-none}
 

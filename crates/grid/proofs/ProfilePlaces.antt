@@ -1,19 +1,17 @@
 -- The place that a number and a service of the profile have in a row: which have one, and that they are those of the place.
 -- Assumes nothing.
-use Prim.Native.Nat.{_*_, _+_, _<_, _≤_, suc, zero, ℕ}
-use mathlib.Core.Bool.{false≢true, true}
-use mathlib.Core.List.{List, [], _∷_}
-use mathlib.Core.Path.{_∙_, _≡_, ap, refl, sym}
+use Prim.Native.Nat.{_*_, _+_, _<_, _≤_, ℕ}
+use mathlib.Core.Bool.{true}
+use mathlib.Core.List.{List}
+use mathlib.Core.Path.{_∙_, _≡_, ap, sym}
 use native.Mathlib.Omega.{arith}
-use lib.Dec.{eqb, ltb}
+use lib.Dec.{ltb}
 use lib.ListN.{List·getD-eq-default, getD, length, length-take}
 use lib.Seq.{getD-take}
-use borrow.Author.Tests.{eqb-false, eqb-true, lt-ltb, ltb-false, ltb-true}
-use Rattle.laws.proofs.Chosen.{StandsIn}
-use Rattle.laws.proofs.Eaches.{Each}
+use borrow.Author.Tests.{lt-ltb, ltb-false, ltb-true}
 use Rattle.laws.proofs.Picks.{by-bool, pick-then}
 use Rattle.codes.specs.Codes.{placeOf}
-use Rattle.codes.proofs.Tables.{place-first, place-stands}
+use Rattle.codes.proofs.Tables.{place-stands}
 use Rattle.numbers.specs.declared.number.Number.{Number}
 use Rattle.profile.specs.Access.{accessRead}
 use Rattle.profile.specs.Profile.{noNumber, numbersMost, profileGood, servedNumbers, servicesMost, subscribedServices}
@@ -21,35 +19,9 @@ use Rattle.profile.specs.declared.profile.Profile.{Profile}
 use Rattle.profile.proofs.Profiles.{GoodProfile, good-profile}
 use Rattle.profile.proofs.Records.{access-good, access-numbers, access-services}
 use Rattle.instances.specs.Instance.{among}
-use Rattle.instances.proofs.Choices.{among-none, among-on}
+use Rattle.instances.proofs.Choices.{among-place, place-among}
 use Rattle.instances.proofs.Finds.{hasPlace}
-use Rattle.instances.proofs.Fits.{among-all}
 use Rattle.grid.specs.Row.{numberOfPlace, places, serviceOfPlace}
-
--- ---- a code stands among others exactly if it has a place there
-
-each-at : {A : Type 0} (P : A → Type 0) (l : List A) (k : ℕ) (d : A) → Each P l → k < length l → P (getD l k d)
-each-at P [] k d each lt = absurd (omega arith)
-each-at P (x ∷ l) zero d each lt = each .0
-each-at P (x ∷ l) (suc k) d each lt = each-at P l k d (each .1) (omega arith)
-
-pub place-among : (code : ℕ) (l : List ℕ) → placeOf code l < length l → among code l ≡ true
-place-among code l lt =
-    ap (λ (c : ℕ). among c l) (sym (place-stands code l lt)) ∙ each-at (λ c. among c l ≡ true) l (placeOf code l) 0 (among-all l) lt
-
-among-stands : (code : ℕ) (l : List ℕ) → among code l ≡ true → StandsIn l code
-among-stands code [] h = absurd (false≢true (sym (among-none code [] refl) ∙ h))
-among-stands code (x ∷ l) h =
-    by-bool (StandsIn (x ∷ l) code) (eqb x code)
-    (λ e. record { place = 0; inside = omega arith; is = eqb-true x code e })
-    (λ e.
-    let rest = among-stands code l (sym (among-on code (x ∷ l) x l refl (eqb-false x code e)) ∙ h) in
-    record { place = suc (rest .place); inside = omega (arith, rest .inside); is = rest .is })
-
-pub among-place : (code : ℕ) (l : List ℕ) → among code l ≡ true → placeOf code l < length l
-among-place code l h =
-    let at = among-stands code l h in
-    omega (arith, at .inside, place-first code l (at .place) (at .inside) (at .is))
 
 -- ---- a profile as a machine reads it
 

@@ -1,13 +1,17 @@
 -- Which instances a selection chooses, which one stands at a place, and codes among others. Assumes nothing.
-use Prim.Native.Nat.{ℕ}
+use Prim.Native.Nat.{ℕ, zero, suc, _<_}
 use mathlib.Core.Path.{_≡_, refl, sym, ap, _∙_}
-use mathlib.Core.Bool.{Bool, true, false, not}
+use mathlib.Core.Bool.{Bool, true, false, not, false≢true}
 use mathlib.Core.List.{List, [], _∷_}
 use mathlib.Core.Option.{none, some}
+use native.Mathlib.Omega.{arith}
+use lib.ListN.{length, getD}
 use lib.Dec.{eqb}
 use borrow.Author.Tests.{eq-eqb, ne-eqb, eqb-true, eqb-false}
 use Rattle.laws.specs.Pick.{pick}
-use Rattle.laws.proofs.Picks.{pick-then, pick-last, not-passed}
+use Rattle.laws.proofs.Picks.{pick-then, pick-last, by-bool, not-passed}
+use Rattle.codes.specs.Codes.{placeOf}
+use Rattle.codes.proofs.Tables.{place-first, place-stands}
 use Rattle.instances.specs.Instance.{everyNumber, everyService, named, selected, concerns, chosen, spared, isAt, among}
 use Rattle.instances.specs.Run.{forwardedTo, isOf}
 use Rattle.instances.specs.declared.instance.Instance.{Instance}
@@ -73,6 +77,29 @@ module _ (code : ℕ) (l : List ℕ) where
   pub among-none : l ≡ [] → among code l ≡ false
   unfolding among
   among-none e = rw e
+
+-- what stands at a place is among them
+stands-among : (code : ℕ) (codes : List ℕ) (k : ℕ) → k < length codes → getD codes k 0 ≡ code → among code codes ≡ true
+stands-among code [] k h e = absurd (omega arith)
+stands-among code (x ∷ codes) zero h e = among-here code (x ∷ codes) x codes refl e
+stands-among code (x ∷ codes) (suc k) h e =
+    by-bool (among code (x ∷ codes) ≡ true) (eqb x code)
+    (λ t. among-here code (x ∷ codes) x codes refl (eqb-true x code t))
+    (λ t. among-on code (x ∷ codes) x codes refl (eqb-false x code t) ∙ stands-among code codes k (omega arith) e)
+
+-- one that has a place is among them
+pub place-among : (code : ℕ) (codes : List ℕ) → placeOf code codes < length codes → among code codes ≡ true
+place-among code codes h = stands-among code codes (placeOf code codes) h (place-stands code codes h)
+
+-- and one that is among them has a place
+pub among-place : (code : ℕ) (codes : List ℕ) → among code codes ≡ true → placeOf code codes < length codes
+among-place code [] h = absurd (false≢true (sym (among-none code [] refl) ∙ h))
+among-place code (x ∷ codes) h =
+    by-bool (placeOf code (x ∷ codes) < length (x ∷ codes)) (eqb x code)
+    (λ t. omega (arith, place-first code (x ∷ codes) 0 (omega arith) (eqb-true x code t)))
+    (λ t.
+    let later = among-place code codes (sym (among-on code (x ∷ codes) x codes refl (eqb-false x code t)) ∙ h) in
+    omega (arith, later, place-first code (x ∷ codes) (suc (placeOf code codes)) (omega arith) (place-stands code codes later)))
 
 -- ---- the instance of a procedure, number and service
 

@@ -1,17 +1,15 @@
 -- What the rules say of an instance, and codes among those of a profile. Assumes nothing.
 use Prim.Native.Nat.{ℕ, _<_, _≤_}
-use mathlib.Core.Path.{_≡_, refl, sym, ap, _∙_}
+use mathlib.Core.Path.{_≡_, refl, sym, _∙_}
 use mathlib.Core.Bool.{Bool, true, false, false≢true}
 use mathlib.Core.List.{List, [], _∷_}
 use native.Mathlib.Omega.{arith}
-use lib.ListN.{length, getD}
+use lib.ListN.{getD}
 use lib.Dec.{ltb, eqb}
 use borrow.Author.Tests.{eq-eqb, lt-ltb, ltb-true, eqb-true}
 use Rattle.laws.specs.Tests.{all}
-use Rattle.laws.specs.Those.{those}
 use Rattle.laws.proofs.Picks.{pick-ind, pick-last, by-bool}
 use Rattle.laws.proofs.Tests.{all-at, both-hold}
-use Rattle.laws.proofs.Thoses.{those-take, those-skip, those-none, those-most}
 use Rattle.laws.proofs.Eaches.{Each, each-so}
 use Rattle.codes.specs.Codes.{serviceCode}
 use Rattle.codes.proofs.Tables.{service-most}
@@ -66,26 +64,6 @@ pub goods-all : (good : Instance → Bool) (l : List Instance) → Each (λ x. g
 unfolding eachGood
 goods-all good [] h = refl
 goods-all good (x ∷ l) h = rw (h .0, goods-all good l (h .1))
-
--- the test by which they are counted may be worded otherwise
-module _ (f g : Instance → Bool) (same : (x : Instance) → f x ≡ g x) where
-  -- where as many pass as there are, each does
-  pub all-pass : (l : List Instance) → length (those f l) ≡ length l → eachGood g l ≡ true
-  unfolding eachGood
-  all-pass [] h = refl
-  all-pass (x ∷ l) h =
-      by-bool (eachGood g (x ∷ l) ≡ true) (f x)
-      (λ t. rw (sym (same x) ∙ t, all-pass l (omega (arith, h, ap length (those-take f (x ∷ l) l x refl t)))))
-      (λ t. absurd (omega (arith, h, those-most f l, ap length (those-skip f (x ∷ l) l x refl t))))
-
-  -- and otherwise not
-  pub not-all : (l : List Instance) → (length (those f l) ≡ length l → ⊥) → eachGood g l ≡ false
-  unfolding eachGood
-  not-all [] h = absurd (h (ap length (those-none f [] refl)))
-  not-all (x ∷ l) h =
-      by-bool (eachGood g (x ∷ l) ≡ false) (f x)
-      (λ t. rw (sym (same x) ∙ t, not-all l (λ k. h (omega (arith, k, ap length (those-take f (x ∷ l) l x refl t))))))
-      (λ t. rw (sym (same x) ∙ t))
 
 pub record Fits (subscribed : List ℕ) (numbers : ℕ) (services : List ℕ) (x : Instance) : Type 0 where
   pub procedure : x .procedure < 3

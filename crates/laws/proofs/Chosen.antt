@@ -6,7 +6,6 @@ use mathlib.Core.List.{List, [], _∷_, _++_, map}
 use mathlib.Core.Logic.{⊎-elim}
 use native.Mathlib.Nat.{not-suc-le-zero, le-of-suc-le-suc, eq-or-lt-of-le}
 use native.Mathlib.Omega.{arith}
-use lib.ListN.{length, getD}
 use Rattle.laws.specs.Pick.{pick}
 use Rattle.laws.specs.Places.{countTo, gathered, placesWhere}
 use Rattle.laws.proofs.Picks.{pick-map}
@@ -30,13 +29,6 @@ nothing-counted f (suc n) e k h =
     (λ (last : k ≡ n). rw last (one-or-none (f n) (omega (arith, count-more f n))))
     (λ (before : k < n). nothing-counted f n (omega (arith, count-more f n)) k before)
     (eq-or-lt-of-le (le-of-suc-le-suc h))
-
--- ---- a number that stands in a list
-
-pub record StandsIn (js : List ℕ) (j : ℕ) : Type 0 where
-  pub place : ℕ
-  pub inside : place < length js
-  pub is : getD js place 0 ≡ j
 
 -- ---- what is gathered from those that pass
 

@@ -1,9 +1,7 @@
 use borrow.Author.Needs.{needs}
 use Prim.Native.Nat.{_+_, _-_, _≤_}
-use mathlib.Core.Path.{sym, _∙_}
 use mathlib.Core.Logic.{⊎-elim}
 use native.Mathlib.Omega.{arith}
-use borrow.Author.Tests.{ltb-true, ltb-false}
 use lib.ListN.{drop}
 use Rattle.laws.proofs.Parts.{unmapped}
 use Rattle.laws.proofs.Filled.{Filled, filled-none, filled-next}
@@ -11,7 +9,7 @@ use Rattle.instances.specs.Instance.{blankInstance}
 use Rattle.instances.specs.Places.{runMost}
 use Rattle.instances.specs.Run.{instancesOf}
 use Rattle.end.specs.Listed.{replaced}
-use Rattle.end.proofs.Replaced.{Met, met-next, turn-skip, turn-rest, turn-lower, turn-higher, turn-last, answer-done, answer-full}
+use Rattle.end.proofs.Replaced.{Met, met-next, owned-small, turn-skip, turn-rest, turn-lower, turn-higher, turn-last, answer-done, answer-full}
 use Rattle.end.proofs.picture.replaced_by.Statement.{statement}
 use Rattle.end.proofs.picture.replaced_by.Tie as tie
 
@@ -62,15 +60,6 @@ loop-again c =
     let turn = turn-skip (a .t3) (a .t1) (a .procedure) _ _ (l .m) (l .i) new old (omega arith) (c .if2 .taken) in
     (new, met-next _ _ _ old (omega arith), l .inv .2, rw turn at (l .inv .3))
 
-mul-w : tie.Need-mul-w Inv-loop μ-loop
-mul-w c = search needs
-
-element-copy-out-w : tie.Need-element-copy-out-w Inv-loop μ-loop
-element-copy-out-w c = search needs
-
-is-before-requires : tie.Need-is-before-requires Inv-loop μ-loop
-is-before-requires c κs = search needs
-
 mul-x-2 : tie.Need-mul-x-2 Inv-loop μ-loop
 mul-x-2 c = search needs
 
@@ -80,11 +69,17 @@ element-set-from-x c = search needs
 add-i-2 : tie.Need-add-i-2 Inv-loop μ-loop
 add-i-2 c = search needs
 
-mul-w-2 : tie.Need-mul-w-2 Inv-loop μ-loop
-mul-w-2 c = search needs
+mul-next : tie.Need-mul-next Inv-loop μ-loop
+mul-next c = search needs
 
-element-set-from-w : tie.Need-element-set-from-w Inv-loop μ-loop
-element-set-from-w c = search needs
+element-copy-out-next : tie.Need-element-copy-out-next Inv-loop μ-loop
+element-copy-out-next c = search needs
+
+mul-t30 : tie.Need-mul-t30 Inv-loop μ-loop
+mul-t30 c = search needs
+
+element-set-from-next : tie.Need-element-set-from-next Inv-loop μ-loop
+element-set-from-next c = search needs
 
 add-m : tie.Need-add-m Inv-loop μ-loop
 add-m c = search needs
@@ -93,20 +88,20 @@ add-k : tie.Need-add-k Inv-loop μ-loop
 add-k c = search needs
 
 loop-less-2 : tie.Need-loop-less-2 Inv-loop μ-loop
-loop-less-2 c = ⊎-elim (λ v. omega (arith, v .2, v .3)) (λ v. omega (arith, v .2, v .3)) (c .if4 .came)
+loop-less-2 c = ⊎-elim (λ v. omega (arith, v .2, v .3)) (λ v. omega (arith, v .3, v .4)) (c .if4 .came)
 
 loop-again-2 : tie.Need-loop-again-2 Inv-loop μ-loop
 loop-again-2 c =
-    let l = c .before .before .before .before .before .before .before .before .before .loop in
-    let a = c .before .before .before .before .before .before .before .before .before .before .before .before .before .args in
+    let l = c .before .before .before .before .before .before .before .before .loop in
+    let k = c .before .before .before .before .before .before .before .before .before .before .before .before in
+    let a = k .args in
     let new = l .inv .0 in
     let old = l .inv .1 in
-    let other = c .before .before .before .before .if2 .left in
-    let test = sym (c .before .is-before .ensures) in
+    let other = c .before .before .before .if2 .left in
     ⊎-elim
     (λ v.
-    let turn = turn-lower (a .t3) (a .t1) (a .procedure) _ _ (l .m) (l .i) new old (omega arith) other (omega arith)
-    (ltb-true _ _ (test ∙ v .0 .taken)) in
+    let turn = turn-lower (a .t3) (a .t1) (a .procedure) _ _ (l .m) (l .i) new old (omega arith) other (omega arith) (k .pre)
+    (search needs, search needs) (v .0 .taken) in
     rw (v .1, v .2, v .3) (
       new,
       met-next _ _ _ old (omega arith),
@@ -115,9 +110,9 @@ loop-again-2 c =
           (rw turn at (l .inv .3)),
     ))
     (λ v.
-    let turn = turn-higher (a .t3) (a .t1) (a .procedure) _ _ (l .m) (l .i) new old (omega arith) other (omega arith)
-    (ltb-false _ _ (test ∙ v .0 .left)) in
-    rw (v .1, v .2, v .3) (
+    let turn = turn-higher (a .t3) (a .t1) (a .procedure) _ _ (l .m) (l .i) new old (omega arith) other (omega arith) (k .pre)
+    (search (owned-small, needs, k .good .1 .1 .0)) (v .0 .left) in
+    rw (v .2, v .3, v .4) (
       met-next _ _ _ new (omega arith),
       old,
       omega arith,
@@ -150,17 +145,17 @@ loop-again-3 c =
     let turn = turn-rest (a .t3) (a .t1) (a .procedure) _ _ (l .m) (l .i) new old (omega arith) (c .before .if2 .left) (omega arith) in
     (new, met-next _ _ _ old (omega arith), omega arith, filled-next _ _ _ _ _ _ _ (omega arith) (rw turn at (l .inv .3)))
 
-mul-next : tie.Need-mul-next Inv-loop μ-loop
-mul-next c = search needs
+mul-next-2 : tie.Need-mul-next-2 Inv-loop μ-loop
+mul-next-2 c = search needs
 
-element-copy-out-next : tie.Need-element-copy-out-next Inv-loop μ-loop
-element-copy-out-next c = search needs
+element-copy-out-next-2 : tie.Need-element-copy-out-next-2 Inv-loop μ-loop
+element-copy-out-next-2 c = search needs
 
-mul-t42 : tie.Need-mul-t42 Inv-loop μ-loop
-mul-t42 c = search needs
+mul-t41 : tie.Need-mul-t41 Inv-loop μ-loop
+mul-t41 c = search needs
 
-element-set-from-next : tie.Need-element-set-from-next Inv-loop μ-loop
-element-set-from-next c = search needs
+element-set-from-next-2 : tie.Need-element-set-from-next-2 Inv-loop μ-loop
+element-set-from-next-2 c = search needs
 
 add-k-3 : tie.Need-add-k-3 Inv-loop μ-loop
 add-k-3 c = search needs
@@ -217,14 +212,13 @@ replaced-by-spec =
     add-i
     loop-less
     loop-again
-    mul-w
-    element-copy-out-w
-    is-before-requires
     mul-x-2
     element-set-from-x
     add-i-2
-    mul-w-2
-    element-set-from-w
+    mul-next
+    element-copy-out-next
+    mul-t30
+    element-set-from-next
     add-m
     add-k
     loop-less-2
@@ -235,10 +229,10 @@ replaced-by-spec =
     add-i-3
     loop-less-3
     loop-again-3
-    mul-next
-    element-copy-out-next
-    mul-t42
-    element-set-from-next
+    mul-next-2
+    element-copy-out-next-2
+    mul-t41
+    element-set-from-next-2
     add-k-3
     add-m-2
     loop-less-4

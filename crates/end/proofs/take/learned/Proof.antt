@@ -1,11 +1,10 @@
-use Rattle.lists.specs.Entries.{instancesMost, entriesIn, entriesFrom}
-use Rattle.end.proofs.Learnings.{entered, learned-wrong, learned-bad, learned-good}
-use Rattle.end.specs.Listed.{instancesListed}
-use Rattle.instances.specs.Places.{runMost}
+use Rattle.lists.specs.Entries.{instancesMost, entriesFrom}
+use Rattle.lists.proofs.Held.{accepted-held}
+use Rattle.end.proofs.GoodLists.{list-own}
+use Rattle.end.proofs.Learnings.{new-few, new-held, entered, learned-wrong, learned-bad, learned-good}
 use Rattle.laws.proofs.Parts.{unmapped}
 use borrow.Author.Tests.{not-true, not-false}
-use lib.ListN.{length, length-take}
-use native.Mathlib.Omega.{arith}
+use lib.ListN.{length}
 use mathlib.Core.Path.{_≡_, sym, _∙_}
 use borrow.Author.Needs.{needs}
 use Rattle.end.proofs.take.learned.Statement.{statement}
@@ -22,19 +21,20 @@ run-from-requires c κs = search needs
 
 list-good-requires : tie.Need-list-good-requires
 list-good-requires c κs =
-    rw (c .run-from .ensures)
-    (omega (
-      arith,
-      length-take runMost
-          (instancesListed (c .before .before .before .before .before .before .args .p)
-          (entriesIn (c .before .before .before .before .entries-at .result .list))),
-    ))
+    let a = c .before .before .before .before .before .before .args in
+    let read = c .before .before .before .before .entries-at in
+    let long : length (read .result .list .entries) ≡ instancesMost = search (unmapped, needs, read .ok) in
+    let held = accepted-held (a .s .now) (a .at) (a .end) (read .result) (read .ensures) (not-false _ (c .before .before .if1 .left)) in
+    let made = c .run-from .ensures in
+    (new-few (a .p) (read .result .list) long _ made, new-held (a .p) (read .result .list) long _ made held)
 
 doubted-requires-2 : tie.Need-doubted-requires-2
 doubted-requires-2 c κs = search needs
 
 replaced-by-requires : tie.Need-replaced-by-requires
-replaced-by-requires c κs = search needs
+replaced-by-requires c κs =
+    let a = c .before .before .before .before .before .before .before .before .before .args in
+    list-own instancesMost (a .p) (a .e .request .procedure) _ (sym (c .before .before .list-good .ensures) ∙ not-false _ (c .before .if2 .left))
 
 closed-requires : tie.Need-closed-requires
 closed-requires c κs = search needs
