@@ -34,6 +34,10 @@ use Rattle.end.specs.declared.take.Moved.{Moved}
 abbrev pub doubted : End → End
 doubted e = closed (markNo doubt) (e .picture) e
 
+-- "error restores the mark from before sending"
+abbrev pub restored : End → End
+restored e = closed (e .before) (e .picture) e
+
 -- "result of 7 or 8 applies the request by the rules above, and the mark from before (where those rules give an error on the picture: no
 -- change, and doubt)"
 abbrev pub appliedBy : Profile → End → Option ℕ → End
@@ -51,11 +55,11 @@ abbrev pub learnedBy : Profile → End → Got (List Entry) → End
 learnedBy p e (got es next) = learned p e es
 learnedBy p e wrong = doubted e
 
--- what a reply for the outstanding identifier does; "error restores the mark from before sending"; "Anything else that arrives is dropped."
+-- what a reply for the outstanding identifier does; "Anything else that arrives is dropped."
 abbrev pub tookBy : Profile → End → List ℕ → Reply → End
 tookBy p e s Dropped = e
 tookBy p e s Rejected = doubted e
-tookBy p e s (Failed value) = closed (e .before) (e .picture) e
+tookBy p e s (Failed value) = restored e
 tookBy p e s Done = appliedBy p e (judge instancesMost p (e .operation) (e .request) (instancesOf (e .picture)))
 tookBy p e s (Listed at end) = learnedBy p e (entriesFrom instancesMost s at end)
 tookBy p e s Wrong = doubted e

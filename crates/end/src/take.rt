@@ -25,7 +25,7 @@ ghost use mathlib.Core.Path.{_≡_};
 ghost use Prim.Native.Nat.{_≤_};
 ghost use Rattle.lists.specs.Entries.{instancesMost, entriesFrom};
 ghost use Rattle.end.specs.End.{usedMost, closed};
-ghost use Rattle.end.specs.Taking.{doubted, appliedBy, learnedBy, took, takes, MovesBy, GivesUp};
+ghost use Rattle.end.specs.Taking.{doubted, restored, appliedBy, learnedBy, took, takes, MovesBy, GivesUp};
 ghost use Rattle.end.specs.inner.Refused.{moveRefused};
 ghost use Rattle.instances.specs.Run.{instancesOf};
 ghost use Rattle.rules.specs.Judge.{judge};
@@ -59,6 +59,14 @@ fn doubted(e: End) -> End
 {
     let picture = e.picture;
     closed(e, DOUBT, picture)
+}
+
+// The mark from before sending.
+fn restored(e: End) -> End
+    ensures { λ r. ⌜ r ≡ restored e ⌝ }
+{
+    let picture = e.picture;
+    closed(e, e.before, picture)
 }
 
 // A result of an activation or a deactivation: the request is applied to the picture by the exchange's own rules. Both stand beside their
@@ -107,10 +115,7 @@ fn took(p: Profile, e: End, s: &[u8]) -> End
     match reply_to(s, e.used as i16, e.operation) {
         Reply::Dropped => e,
         Reply::Rejected => doubted(e),
-        Reply::Failed { value: _ } => {
-            let picture = e.picture;
-            closed(e, e.before, picture)
-        }
+        Reply::Failed { value: _ } => restored(e),
         Reply::Done => {
             let request = e.request;
             let picture = e.picture;

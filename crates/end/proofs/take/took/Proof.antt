@@ -30,8 +30,8 @@ doubted-requires c κs = search needs
 enum-told-3 : tie.Need-enum-told-3
 enum-told-3 c = search needs
 
-closed-requires : tie.Need-closed-requires
-closed-requires c κs = search needs
+restored-requires : tie.Need-restored-requires
+restored-requires c κs = search needs
 
 enum-told-4 : tie.Need-enum-told-4
 enum-told-4 c = search needs
@@ -53,61 +53,45 @@ doubted-requires-2 c κs = search needs
 
 returns-2 : tie.Need-returns-2
 returns-2 c =
-    let id : SFits w16 (pos (c .before .before .before .before .before .before .before .args .e .used)) =
-    omega (arith, c .before .before .before .before .before .before .before .pre) in
-    took-reply (c .before .before .before .before .before .before .before .args .p)
-    (c .before .before .before .before .before .before .before .args .e)
-    (c .before .before .before .before .before .before .before .args .s .now) _ _ (c .before .before .before .before .if1 .left)
+    let start = c .before .before .before .before .before .before .before in
+    let id : SFits w16 (pos (start .args .e .used)) = omega (arith, start .pre) in
+    took-reply (start .args .p) (start .args .e) (start .args .s .now) _ _ (c .before .before .before .before .if1 .left)
     (rw (toZ-ofZ id) at (c .before .before .reply-to .ensures)) (c .enum-told .given .1)
 
 returns-3 : tie.Need-returns-3
 returns-3 c =
-    let id : SFits w16 (pos (c .before .before .before .before .before .before .before .before .args .e .used)) =
-    omega (arith, c .before .before .before .before .before .before .before .before .pre) in
-    c .doubted .ensures ∙ took-reply (c .before .before .before .before .before .before .before .before .args .p)
-    (c .before .before .before .before .before .before .before .before .args .e)
-    (c .before .before .before .before .before .before .before .before .args .s .now) _ _
-    (c .before .before .before .before .before .if1 .left) (rw (toZ-ofZ id) at (c .before .before .before .reply-to .ensures))
-    (c .before .enum-told2 .given .1)
+    let start = c .before .before .before .before .before .before .before .before in
+    let id : SFits w16 (pos (start .args .e .used)) = omega (arith, start .pre) in
+    c .doubted .ensures ∙ took-reply (start .args .p) (start .args .e) (start .args .s .now) _ _ (c .before .before .before .before .before .if1 .left)
+    (rw (toZ-ofZ id) at (c .before .before .before .reply-to .ensures)) (c .before .enum-told2 .given .1)
 
 returns-4 : tie.Need-returns-4
 returns-4 c =
-    let id : SFits w16 (pos (c .before .before .before .before .before .before .before .before .before .args .e .used)) =
-    omega (arith, c .before .before .before .before .before .before .before .before .before .pre) in
-    c .closed .ensures ∙ took-reply (c .before .before .before .before .before .before .before .before .before .args .p)
-    (c .before .before .before .before .before .before .before .before .before .args .e)
-    (c .before .before .before .before .before .before .before .before .before .args .s .now) _ _
-    (c .before .before .before .before .before .before .if1 .left)
-    (rw (toZ-ofZ id) at (c .before .before .before .before .reply-to .ensures)) (c .before .before .enum-told3 .given .1)
+    let start = c .before .before .before .before .before .before .before .before in
+    let id : SFits w16 (pos (start .args .e .used)) = omega (arith, start .pre) in
+    c .restored .ensures ∙ took-reply (start .args .p) (start .args .e) (start .args .s .now) _ _ (c .before .before .before .before .before .if1 .left)
+    (rw (toZ-ofZ id) at (c .before .before .before .reply-to .ensures)) (c .before .enum-told3 .given .1)
 
 returns-5 : tie.Need-returns-5
 returns-5 c =
     let start = c .before .before .before .before .before .before .before .before .before .before in
     let id : SFits w16 (pos (start .args .e .used)) = omega (arith, start .pre) in
-    c .applied .ensures ∙ took-reply (start .args .p) (start .args .e) (start .args .s .now) _ _
-    (c .before .before .before .before .before .before .before .if1 .left)
-    (rw (toZ-ofZ id) at (c .before .before .before .before .before .reply-to .ensures))
-    (c .before .before .before .enum-told4 .given .1)
+    c .applied .ensures ∙ took-reply (start .args .p) (start .args .e) (start .args .s .now) _ _ (c .before .before .before .before .before .before .before .if1 .left)
+    (rw (toZ-ofZ id) at (c .before .before .before .before .before .reply-to .ensures)) (c .before .before .before .enum-told4 .given .1)
 
 returns-6 : tie.Need-returns-6
 returns-6 c =
-    let id : SFits w16 (pos (c .before .before .before .before .before .before .before .before .before .args .e .used)) =
-    omega (arith, c .before .before .before .before .before .before .before .before .before .pre) in
-    c .learned .ensures ∙ took-reply (c .before .before .before .before .before .before .before .before .before .args .p)
-    (c .before .before .before .before .before .before .before .before .before .args .e)
-    (c .before .before .before .before .before .before .before .before .before .args .s .now) _ _
-    (c .before .before .before .before .before .before .if1 .left)
+    let start = c .before .before .before .before .before .before .before .before .before in
+    let id : SFits w16 (pos (start .args .e .used)) = omega (arith, start .pre) in
+    c .learned .ensures ∙ took-reply (start .args .p) (start .args .e) (start .args .s .now) _ _ (c .before .before .before .before .before .before .if1 .left)
     (rw (toZ-ofZ id) at (c .before .before .before .before .reply-to .ensures)) (c .before .before .at .given .1)
 
 returns-7 : tie.Need-returns-7
 returns-7 c =
-    let id : SFits w16 (pos (c .before .before .before .before .before .before .before .before .args .e .used)) =
-    omega (arith, c .before .before .before .before .before .before .before .before .pre) in
-    c .doubted2 .ensures ∙ took-reply (c .before .before .before .before .before .before .before .before .args .p)
-    (c .before .before .before .before .before .before .before .before .args .e)
-    (c .before .before .before .before .before .before .before .before .args .s .now) _ _
-    (c .before .before .before .before .before .if1 .left) (rw (toZ-ofZ id) at (c .before .before .before .reply-to .ensures))
-    (c .before .enum-told5 .given .1)
+    let start = c .before .before .before .before .before .before .before .before in
+    let id : SFits w16 (pos (start .args .e .used)) = omega (arith, start .pre) in
+    c .doubted2 .ensures ∙ took-reply (start .args .p) (start .args .e) (start .args .s .now) _ _ (c .before .before .before .before .before .if1 .left)
+    (rw (toZ-ofZ id) at (c .before .before .before .reply-to .ensures)) (c .before .enum-told5 .given .1)
 
 pub took-spec : {M : Type 1} → statement M
 took-spec =
@@ -120,7 +104,7 @@ took-spec =
     enum-told-2
     doubted-requires
     enum-told-3
-    closed-requires
+    restored-requires
     enum-told-4
     applied-requires
     enum-known-at
