@@ -100,26 +100,26 @@ fn waiting(e: End, operation: u8, r: Request) -> End
 // copies it.
 fn send(
     e: End,
-    profile: bool,
+    ok: bool,
     rules: bool,
-    picture: bool,
+    good: bool,
     operation: u8,
     r: Request,
     out: &mut [u8],
 ) -> Written
     requires { ⌜ rules ≡ all (endRules e) ⌝ }
-    ensures { λ w. ⌜ WrittenWhere profile picture operation r e (now (out .entry)) w (now (out .exit)) ⌝ }
+    ensures { λ w. ⌜ WrittenWhere ok good operation r e (now (out .entry)) w (now (out .exit)) ⌝ }
 {
     if out.len() < OUTPUTLEAST {
         return not_written(Refusal::ShortOutput);
     }
-    if !profile {
+    if !ok {
         return not_written(Refusal::BadProfile);
     }
     if !rules {
         return not_written(Refusal::BadTable);
     }
-    if !picture {
+    if !good {
         return not_written(Refusal::BadTable);
     }
     if e.outstanding == 1 {
@@ -155,8 +155,8 @@ impl End {
     pub fn activate(self, access: &[u8], request: Request, out: &mut [u8]) -> Sent
         ensures { λ r. ⌜ Activates (now (access .entry)) request self (now (out .entry)) r (now (out .exit)) ⌝ }
     {
-        let waits = self.request;
-        let rules = rules_hold(self, waits);
+        let outstanding = self.request;
+        let rules = rules_hold(self, outstanding);
         let read = read_access(access);
         let p = read.profile;
         let picture = self.picture;
@@ -175,8 +175,8 @@ impl End {
     pub fn deactivate(self, access: &[u8], request: Request, out: &mut [u8]) -> Sent
         ensures { λ r. ⌜ Deactivates (now (access .entry)) request self (now (out .entry)) r (now (out .exit)) ⌝ }
     {
-        let waits = self.request;
-        let rules = rules_hold(self, waits);
+        let outstanding = self.request;
+        let rules = rules_hold(self, outstanding);
         let read = read_access(access);
         let p = read.profile;
         let picture = self.picture;
@@ -196,8 +196,8 @@ impl End {
         ensures { λ r. ⌜ Interrogates (now (access .entry)) procedure self (now (out .entry)) r (now (out .exit)) ⌝ }
     {
         let request = interrogation_of(procedure);
-        let waits = self.request;
-        let rules = rules_hold(self, waits);
+        let outstanding = self.request;
+        let rules = rules_hold(self, outstanding);
         let read = read_access(access);
         let p = read.profile;
         let picture = self.picture;

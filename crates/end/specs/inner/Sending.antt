@@ -25,8 +25,8 @@ pub record WrittenBy (done : Sends) (xs : List ℕ) (w : Written) (ys : List ℕ
 
 -- that, for every access of which these were found: whether its profile breaks no rule, and whether the picture breaks none of that profile
 abbrev pub WrittenWhere : Bool → Bool → ℕ → Request → End → List ℕ → Written → List ℕ → Type 0
-WrittenWhere profile picture operation r e xs w ys =
-    (access : List ℕ) → accessRead access .ok ≡ profile → runGood instancesMost (accessRead access .profile) (e .picture) ≡ picture →
+WrittenWhere ok good operation r e xs w ys =
+    (access : List ℕ) → accessRead access .ok ≡ ok → runGood instancesMost (accessRead access .profile) (e .picture) ≡ good →
     WrittenBy (sends access operation r e (length xs)) xs w ys
 
 -- the next end: it waits for the answer, or stays as it was

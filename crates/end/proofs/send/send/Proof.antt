@@ -3,17 +3,15 @@ use mir.Syntax.{w16}
 use mir.Facts.{toZ-ofZ}
 use lib.IntN.{pos}
 use lib.ListN.{length}
-use Prim.Native.Nat.{_<_, _≤_, _+_, suc}
+use Prim.Native.Nat.{_<_, _≤_, _+_}
 use native.Mathlib.Numerals.{add-one}
 use native.Mathlib.Omega.{arith}
-use mathlib.Core.Path.{_≡_, sym, ap, _∙_}
+use mathlib.Core.Path.{_≡_, sym, _∙_}
 use mathlib.Core.Bool.{true}
-use mathlib.Core.List.{List}
 use borrow.Author.Tests.{not-true, not-false}
 use Rattle.laws.specs.Tests.{all}
 use Rattle.refusals.specs.Refusal.{outputLeast}
 use Rattle.refusals.specs.declared.refusal.Refusal.the-variants.{ShortOutput, BadProfile, BadTable, Outstanding, Exhausted, BadRequest}
-use Rattle.profile.specs.Access.{accessRead}
 use Rattle.profile.specs.declared.profile.Profile.{Profile}
 use Rattle.lists.specs.Entries.{instancesMost}
 use Rattle.instances.specs.Run.{runGood}
@@ -34,7 +32,7 @@ rules c = sym (c .before .before .before .before .pre) ∙ not-false _ (c .if3 .
 
 good :
     (c : tie.Else4) (p : Profile) →
-    runGood instancesMost p (c .before .before .before .before .before .args .e .picture) ≡ c .before .before .before .before .before .args .picture →
+    runGood instancesMost p (c .before .before .before .before .before .args .e .picture) ≡ c .before .before .before .before .before .args .good →
     endGood instancesMost p (c .before .before .before .before .before .args .e) ≡ true
 good c p is = rules-pass instancesMost p _ (rules (c .before)) ∙ is ∙ not-false _ (c .if4 .left)
 
