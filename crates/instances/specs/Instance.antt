@@ -93,10 +93,6 @@ instanceFits subscribed numbercount services x =
 abbrev pub instanceGood : Profile → Instance → Bool
 instanceGood p x = instanceFits (p .subscribed) (p .numbercount) (subscribedServices p) x
 
--- what `is_before` promises
-abbrev pub IsBefore : ℕ → ℕ → ℕ → Instance → Bool → Type 0
-IsBefore procedure number service x r = r ≡ ltb (keyOf x) (key procedure number service)
-
 -- what `key_of` promises
 abbrev pub KeyOf : ℕ → ℕ → ℕ → ℕ → Type 0
 KeyOf procedure number service r = r ≡ key procedure number service

@@ -7,7 +7,7 @@ ghost use mathlib.Core.List.{[], _∷_};
 ghost use lib.ListN.{take};
 ghost use lib.Dec.{ltb};
 ghost use Rattle.laws.specs.Tests.{all};
-ghost use Rattle.instances.specs.Instance.{named, selected, concerns, chosen, isAt, among, IsBefore, KeyOf, BlankInstance};
+ghost use Rattle.instances.specs.Instance.{key, keyOf, named, selected, concerns, chosen, isAt, among, KeyOf, BlankInstance};
 
 // cfu 0, cfb 1, cfnr 2.
 pub const PROCEDURES: usize = 3;
@@ -94,8 +94,8 @@ pub(crate) fn is_at(procedure: u8, number: u8, service: u8, x: Instance) -> bool
 }
 
 // Whether an instance comes before one of this procedure, number and service: by the keys, which need not be made for it.
-pub fn is_before(procedure: u8, number: u8, service: u8, x: Instance) -> bool
-    ensures { λ r. ⌜ IsBefore procedure number service x r ⌝ }
+pub(crate) fn is_before(procedure: u8, number: u8, service: u8, x: Instance) -> bool
+    ensures { λ r. ⌜ r ≡ ltb (keyOf x) (key procedure number service) ⌝ }
 {
     if x.procedure != procedure {
         return x.procedure < procedure;

@@ -1,5 +1,6 @@
 // What a table or a picture holds: instances, one after the other (document 01, "Profile and table").
 mod instance;
+mod judged;
 mod listed;
 mod places;
 mod run;
@@ -10,7 +11,6 @@ pub use instance::Instance;
 pub use instance::PROCEDURES;
 pub use instance::Selection;
 pub use instance::blank_instance;
-pub use instance::is_before;
 pub use instance::key_of;
 pub use places::stored;
 pub use run::After;

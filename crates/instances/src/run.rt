@@ -7,8 +7,6 @@ use crate::instance::is_at;
 use crate::instance::is_before;
 use crate::instance::is_chosen;
 use crate::instance::is_concerned;
-use crate::instance::key_of;
-use crate::instance::place_good;
 use crate::places::places_count;
 use crate::places::places_of;
 use crate::places::stored;
@@ -18,13 +16,12 @@ use lists::INSTANCESMOST;
 use lists::no_entries;
 use numbers::Address;
 use numbers::Number;
-use numbers::address_good;
 use numbers::blank_address;
 use numbers::blank_number;
 use profile::NUMBERS;
 use profile::Profile;
 ghost use mathlib.Core.Path.{_≡_};
-ghost use Rattle.instances.specs.Run.{servedNumber, FreshRun, FindsAddress, ChosenCount, Clear, Ordered, RunGood, Put, Renew, CountAfter, EntriesOf};
+ghost use Rattle.instances.specs.Run.{servedNumber, FreshRun, FindsAddress, ChosenCount, Clear, Put, Renew, CountAfter, EntriesOf};
 
 // The most instances: 8 for each procedure. A profile has no more places.
 pub const ROOM: usize = PROCEDURES * INSTANCESMOST;
@@ -124,94 +121,6 @@ impl Run {
         }
         next.count = k as u8;
         next
-    }
-
-    // Whether a run breaks no rule of the profile: its instances ascend, each is good, and there are at most 8 of each procedure.
-    pub fn good(self, p: Profile) -> bool
-        ensures { λ r. ⌜ RunGood p self r ⌝ }
-    {
-        let n = self.count as usize;
-        if ROOM < n {
-            return false;
-        }
-        let subscribed = p.subscribed;
-        let services = p.services;
-        let numbers = p.numbercount;
-        let count = p.servicecount;
-        let mut beyond: usize = 0;
-        let mut from: usize = 0;
-        let mut below: usize = 0;
-        let mut i: usize = 0;
-        while i < n {
-            let x = self.run[i];
-            let key = key_of(x.procedure, x.number, x.service);
-            if key <= below {
-                return false;
-            }
-            let procedure = x.procedure as usize;
-            if beyond <= procedure {
-                if PROCEDURES <= procedure {
-                    return false;
-                }
-                if subscribed[procedure] != 1 {
-                    return false;
-                }
-                if from + INSTANCESMOST < i {
-                    return false;
-                }
-                beyond = procedure + 1;
-                from = i;
-            }
-            if !place_good(numbers, services, count, x) {
-                return false;
-            }
-            // Read here, the address need not be kept while the tests above run.
-            let same = self.run[i];
-            let address = same.address;
-            if !address_good(address) {
-                return false;
-            }
-            below = key;
-            i += 1;
-        }
-        n <= from + INSTANCESMOST
-    }
-
-    // Whether the instances ascend, and there are at most so many of each procedure.
-    pub fn ordered(self, most: u8) -> bool
-        ensures { λ r. ⌜ Ordered most self r ⌝ }
-    {
-        let n = stored(self.count, ROOM);
-        let most = most as usize;
-        let mut cfu: usize = 0;
-        let mut cfb: usize = 0;
-        let mut cfnr: usize = 0;
-        let mut under: usize = 0;
-        let mut i: usize = 0;
-        while i < n {
-            let x = self.run[i];
-            let procedure = x.procedure;
-            let key = key_of(procedure, x.number, x.service);
-            if key <= under {
-                return false;
-            }
-            if procedure == 0 {
-                cfu += 1;
-            } else if procedure == 1 {
-                cfb += 1;
-            } else if procedure == 2 {
-                cfnr += 1;
-            }
-            under = key;
-            i += 1;
-        }
-        if most < cfu {
-            return false;
-        }
-        if most < cfb {
-            return false;
-        }
-        cfnr <= most
     }
 
     // The selected numbers and services of the profile get the address.

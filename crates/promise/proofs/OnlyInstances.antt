@@ -9,7 +9,7 @@ use Rattle.laws.proofs.Over.{only-puts}
 use Rattle.numbers.specs.declared.address.Address.{Address}
 use Rattle.profile.specs.declared.profile.Profile.{Profile}
 use Rattle.lists.specs.declared.entries.Entries.{Entries}
-use Rattle.instances.specs.Instance.{IsBefore, KeyOf, BlankInstance}
+use Rattle.instances.specs.Instance.{KeyOf, BlankInstance}
 use Rattle.instances.specs.Places.{Stored}
 use Rattle.instances.specs.Run.{FreshRun, FindsAddress, ChosenCount, Clear, Ordered, RunGood, Put, Renew, CountAfter, EntriesOf, PutListed}
 use Rattle.instances.specs.declared.instance.Instance.{Instance}
@@ -71,12 +71,6 @@ pub only-put-listed :
     PutListed xs identifier p sel run n zs →
     (m ≡ n) × (ys ≡ zs)
 only-put-listed xs identifier p sel run = only-puts
-
-pub only-is-before :
-    (procedure number service : ℕ) (x : Instance) {a b : Bool} → IsBefore procedure number service x a →
-    IsBefore procedure number service x b →
-    a ≡ b
-only-is-before procedure number service x = both
 
 pub only-key-of :
     (procedure number service : ℕ) {a b : ℕ} → KeyOf procedure number service a → KeyOf procedure number service b → a ≡ b

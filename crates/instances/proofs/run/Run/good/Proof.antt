@@ -107,11 +107,11 @@ returns-6 c =
     let bad = sound-bad (instanceGood (a .p)) _ _ _ on (l .below) (not-fits _ _ _ _ (λ f. false≢true (fails ∙ fits-place _ _ _ _ f))) in
     sym (not-good (a .p) (a .t1) instancesMost (l .inv .1) (l .inv .4 ∙ bad))
 
-mul-same : tie.Need-mul-same Inv-loop μ-loop
-mul-same c = search needs
+mul-again : tie.Need-mul-again Inv-loop μ-loop
+mul-again c = search needs
 
-element-copy-out-same : tie.Need-element-copy-out-same Inv-loop μ-loop
-element-copy-out-same c = search needs
+element-copy-out-again : tie.Need-element-copy-out-again Inv-loop μ-loop
+element-copy-out-again c = search needs
 
 address-good-requires : tie.Need-address-good-requires Inv-loop μ-loop
 address-good-requires c κs = search needs
@@ -200,8 +200,8 @@ good-spec =
     add-beyond
     place-good-requires
     returns-6
-    mul-same
-    element-copy-out-same
+    mul-again
+    element-copy-out-again
     address-good-requires
     returns-7
     add-i
