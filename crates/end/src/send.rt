@@ -96,8 +96,8 @@ fn waiting(e: End, operation: u8, r: Request) -> End
 }
 
 // Writes the request, or refuses it, where it was found whether profile, end and picture break no rule. An output of the least size has room
-// for every request: where none is written, it may not be sent. The next end is built outside, since each function that hands an end back
-// copies it.
+// for every request: where none is written, it may not be sent. What is found and the next end come from outside, three times the same lines,
+// since a function that judges an end or hands one back copies it.
 fn send(
     e: End,
     ok: bool,
