@@ -1,0 +1,17 @@
+use Rattle.laws.proofs.Over.{over_nil, over_more, puts_none, puts_all}
+use native.Mathlib.Numerals.{add-one}
+use lib.Seq.{take-length}
+use Rattle.laws.specs.Over.{over}
+use lib.ListN.{length, take, length-set}
+use mathlib.Core.Path.{◌≡◌, refl, sym, ◌∙◌}
+use Prim.Native.Nat.{◌-◌, ◌≤◌}
+use native.Mathlib.Omega.{arith}
+use borrow.Author.Rules.{rules}
+use Rattle.octets.proofs.write.put_all.Given as goal
+
+abbrev pub invariant-loop-i : goal.invariant-loop-i
+invariant-loop-i l =
+    (l.i ≤ l.need) × (length l.out ≡ length l.initial.out) × (l.out ≡ over l.initial.out l.at (take l.i l.src))
+
+abbrev pub decreases-loop-i : goal.decreases-loop-i
+decreases-loop-i l = l.need - l.i
