@@ -1,0 +1,37 @@
+use mathlib.Core.Path.{◌≡◌, refl, sym}
+use Prim.Native.Nat.{◌+◌}
+use native.Mathlib.Omega.{arith}
+use borrow.Author.Rules.{rules}
+use lib.ListN.{length, length-set}
+use Rattle.laws.specs.Over.{over}
+use Rattle.laws.proofs.Over.{over_one}
+use Rattle.groups.specs.Groups.{groups}
+use Rattle.groups.proofs.GroupTurns.{size_more, size_last, over_group, wrote_last}
+use Rattle.groups.proofs.groups.write_groups.Goals as goal
+
+pub loop-rest-init : goal.loop-rest-init
+loop-rest-init c = (refl, refl, refl)
+
+pub bounds-out-p : goal.bounds-out-p
+bounds-out-p c = omega (arith, size_more _ _ _ c.loop-rest-test.true c.loop-rest.invariant.1)
+
+pub overflow_add-p : goal.overflow_add-p
+overflow_add-p c = omega (arith, size_more _ _ _ c.loop-rest-test.true c.loop-rest.invariant.1)
+
+pub loop-rest-preserved : goal.loop-rest-preserved
+loop-rest-preserved c = let l = c.loop-rest in
+    let more = c.loop-rest-test.true in
+    (simp length-set l.invariant.0, size_more _ _ _ more l.invariant.1, over_group _ _ _ _ more l.invariant.2)
+
+pub bounds-out-p-2 : goal.bounds-out-p-2
+bounds-out-p-2 c = omega (arith, size_last _ _ _ c.loop-rest-test.false c.loop-rest.invariant.1)
+
+pub overflow_add-result : goal.overflow_add-result
+overflow_add-result c = omega (arith, size_last _ _ _ c.loop-rest-test.false c.loop-rest.invariant.1)
+
+pub shape_of-out : goal.shape_of-out
+shape_of-out c = simp length-set c.loop-rest.invariant.0
+
+pub returns : goal.returns
+returns c = let l = c.loop-rest in
+    wrote_last c.loop-rest-test.false l.invariant.1 l.invariant.2 (record { moved = refl; holds = sym (over_one _ _ _) })

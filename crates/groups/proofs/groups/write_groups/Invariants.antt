@@ -1,0 +1,18 @@
+use mathlib.Core.Path.{◌≡◌, refl, sym}
+use Prim.Native.Nat.{◌+◌}
+use native.Mathlib.Omega.{arith}
+use borrow.Author.Rules.{rules}
+use lib.ListN.{length, length-set}
+use Rattle.laws.specs.Over.{over}
+use Rattle.laws.proofs.Over.{over_one}
+use Rattle.groups.specs.Groups.{groups}
+use Rattle.groups.proofs.GroupTurns.{size_more, size_last, over_group, wrote_last}
+use Rattle.groups.proofs.groups.write_groups.Given as goal
+
+abbrev pub invariant-loop-rest : goal.invariant-loop-rest
+invariant-loop-rest l =
+    (length l.out ≡ length l.initial.out) × (l.p + length (groups l.rest) ≡ l.at + length (groups l.n))
+    × (over l.out l.p (groups l.rest) ≡ over l.initial.out l.at (groups l.n))
+
+abbrev pub decreases-loop-rest : goal.decreases-loop-rest
+decreases-loop-rest l = l.rest
