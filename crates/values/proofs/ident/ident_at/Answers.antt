@@ -1,0 +1,35 @@
+use borrow.Author.Tests.{eq-eqb, ne_eqb}
+use Rattle.octets.proofs.Within.{within}
+use Rattle.values.specs.Ident.{ident_at}
+use mathlib.Core.Path.{sym, ◌∙◌}
+use native.Mathlib.Omega.{arith}
+use borrow.Author.Rules.{rules}
+use Rattle.values.proofs.ident.ident_at.Goals as goal
+
+pub returns-then-tag-ne-IDENTTAG : goal.returns-then-tag-ne-IDENTTAG
+unfolding ident_at
+returns-then-tag-ne-IDENTTAG c =
+    let found = sym c.head_at.ensures ∙ c.in-Is.is in
+    rw (found, ne_eqb _ _ c.if-tag-ne-IDENTTAG.true)
+
+pub overflow_sub-stop : goal.overflow_sub-stop
+overflow_sub-stop c =
+    let a = c.args in
+    let found = sym c.head_at.ensures ∙ c.in-Is.is in
+    omega (arith, rw found at (within a.depth a.s.now a.at a.end))
+
+pub ident_in-requires : goal.ident_in-requires
+ident_in-requires c =
+    let a = c.args in
+    let found = sym c.head_at.ensures ∙ c.in-Is.is in
+    omega (arith, rw found at (within a.depth a.s.now a.at a.end))
+
+pub returns-else-tag-ne-IDENTTAG : goal.returns-else-tag-ne-IDENTTAG
+unfolding ident_at
+returns-else-tag-ne-IDENTTAG c =
+    let found = sym c.head_at.ensures ∙ c.in-Is.is in
+    rw (found, eq-eqb _ _ c.if-tag-ne-IDENTTAG.false) c.ident_in.ensures
+
+pub returns-in-Bad : goal.returns-in-Bad
+unfolding ident_at
+returns-in-Bad c = rw (sym c.head_at.ensures ∙ c.in-Bad.is)

@@ -1,0 +1,51 @@
+use Rattle.values.proofs.Idents.{fewest-two, fewest-magnitude, length_ident, ident_octets_lem}
+use Rattle.values.specs.Ident.{ident_fewest, bits}
+use Rattle.laws.proofs.Over.{wrote, puts_none, puts_all}
+use Rattle.octets.proofs.Elements.{headed}
+use lib.ListN.{length}
+use mir.Facts.{to_z-of_z}
+use mathlib.Core.Path.{ap, ◌∙◌}
+use Prim.Native.Nat.{ℕ}
+use native.Mathlib.Omega.{arith}
+use borrow.Author.Rules.{rules}
+use Rattle.values.proofs.ident.put_ident.Goals as goal
+
+pub overflow_add-need : goal.overflow_add-need
+overflow_add-need c = let z = c.args.value in
+    let range = c.ranges.value.sfits in
+    let count = rw (to_z-of_z c.ranges.value) at c.ident_fewest-w.ensures in
+    omega (arith, count, fewest-two z range)
+
+pub returns-then-out-need : goal.returns-then-out-need
+returns-then-out-need c = let z = c.args.value in
+    let range = c.ranges.value.sfits in
+    let count = rw (to_z-of_z c.ranges.value) at c.ident_fewest-w.ensures in
+    rw (ident_octets_lem z range) (puts_none (omega (arith, count, length_ident (ident_fewest z) z)))
+
+pub returns-then-out-need-2 : goal.returns-then-out-need-2
+returns-then-out-need-2 c = let z = c.args.value in
+    let range = c.ranges.value.sfits in
+    let count = rw (to_z-of_z c.ranges.value) at c.ident_fewest-w.ensures in
+    rw (ident_octets_lem z range) (puts_none (omega (arith, count, length_ident (ident_fewest z) z)))
+
+pub pattern-u-requires : goal.pattern-u-requires
+pattern-u-requires c = let z = c.args.value in
+    let range = c.ranges.value.sfits in
+    let same = to_z-of_z c.ranges.value in
+    rw (same, rw same at c.ident_fewest-w.ensures) (fewest-two z range, fewest-magnitude z range)
+
+pub overflow_cast-w : goal.overflow_cast-w
+overflow_cast-w c = let count = rw (to_z-of_z c.ranges.value) at c.ident_fewest-w.ensures in
+    omega (arith, count, fewest-two c.args.value c.ranges.value.sfits)
+
+pub returns : goal.returns
+returns c = let z = c.args.value in
+    let same = to_z-of_z c.ranges.value in
+    let count = rw same at c.ident_fewest-w.ensures in
+    let octets = (rw same at c.pattern-u.ensures) ∙ ap (λ (w : ℕ). bits w z) count in
+    let long = length_ident (ident_fewest z) z in
+    let size = ap length (ident_octets_lem z c.ranges.value.sfits) in
+    puts_all (omega (arith, count, long, size))
+    (headed (omega (arith, count, long, size)) (omega (arith, count, long))
+    c.put_head-p.ensures
+    (λ room. wrote room (rw (octets, count) at c.put_word.ensures)))
