@@ -32,26 +32,26 @@ use Rattle.calls.proofs.Records.{good_call}
 -- ---- the refusals, lowest first
 
 module _ (access : List ℕ) (t : Table) (s : List ℕ) where
-  pub comes-profile : (access_read access).ok ≡ false → comes access t s ≡ call_refused BadProfile
+  pub comes_profile : (access_read access).ok ≡ false → comes access t s ≡ call_refused BadProfile
   unfolding comes
-  comes-profile bad = rw bad
+  comes_profile bad = rw bad
 
   module _ (ok : (access_read access).ok ≡ true) where
-    pub comes-table :
+    pub comes_table :
         table_good instances_most (access_read access).profile t ≡ false → comes access t s ≡ call_refused BadTable
     unfolding comes
-    comes-table bad = rw (ok, bad)
+    comes_table bad = rw (ok, bad)
 
     module _ (table : table_good instances_most (access_read access).profile t ≡ true) where
-      pub comes-call : call_good (access_read access).profile s ≡ false → comes access t s ≡ call_refused BadCall
+      pub comes_call : call_good (access_read access).profile s ≡ false → comes access t s ≡ call_refused BadCall
       unfolding comes
-      comes-call bad = rw (ok, table, bad)
+      comes_call bad = rw (ok, table, bad)
 
-      pub comes-by :
+      pub comes_by :
           call_good (access_read access).profile s ≡ true →
           comes access t s ≡ by_call (access_read access).profile t (call_from s)
       unfolding comes
-      comes-by good = rw (ok, table, good)
+      comes_by good = rw (ok, table, good)
 
 -- ---- where a call goes on
 
@@ -111,17 +111,17 @@ module _ (access s : List ℕ) where
   to = from + (served_of (access_read access).profile (call_from s)).count
 
   -- on the first diversion the served number
-  pub original-first :
+  pub original_first :
       (call_from s).counter ≡ 0 → take (to - from) (drop from access) ≡ handed_on access s (access_read access).profile (call_from s)
   unfolding handed_on
-  original-first h = part_slice from to access ∙ rw (eq-eqb (call_from s).counter 0 h)
+  original_first h = part_slice from to access ∙ rw (eq-eqb (call_from s).counter 0 h)
 
   abbrev end : ℕ
   end = original_at + (call_from s).count
 
   -- later as received
-  pub original-later :
+  pub original_later :
       ((call_from s).counter ≡ 0 → ⊥) →
       take (end - original_at) (drop original_at s) ≡ handed_on access s (access_read access).profile (call_from s)
   unfolding handed_on
-  original-later h = part_slice original_at end s ∙ rw (ne_eqb (call_from s).counter 0 h)
+  original_later h = part_slice original_at end s ∙ rw (ne_eqb (call_from s).counter 0 h)

@@ -3,7 +3,7 @@ use Prim.Native.Nat.{ℕ}
 use mathlib.Core.Path.{◌≡◌, refl, sym, ap, ◌∙◌}
 use lib.Dec.{eqb}
 use Rattle.laws.specs.Pick.{pick}
-use Rattle.refusals.proofs.Refusals.{refusal_same, refuses-same, tells-same, refuses-not}
+use Rattle.refusals.proofs.Refusals.{refusal_same, refuses_same, tells_same, refuses_not}
 use Rattle.calls.specs.Onward.{reason_no}
 use Rattle.calls.specs.declared.onward.Reason.{Reason}
 use Rattle.calls.proofs.Reasons.{reason_by, reason_by_lem}
@@ -32,12 +32,12 @@ diverts_by r n = ap (λ (x : Reason). Diverts x n) (reason_by_lem r) ∙ ap (Div
 
 -- two of which the same is told are the same
 pub coming_same : (a b : Coming) → coming_told a ≡ coming_told b → a ≡ b
-coming_same (Refuses x) (Refuses y) h = ap Refuses (refusal_same x y (refuses-same _ _ h))
-coming_same (Refuses x) Passes h = absurd (refuses-not _ _ h)
-coming_same (Refuses x) (Diverts r n) h = absurd (refuses-not _ _ h)
-coming_same Passes (Refuses y) h = absurd (refuses-not _ _ (sym h))
+coming_same (Refuses x) (Refuses y) h = ap Refuses (refusal_same x y (refuses_same _ _ h))
+coming_same (Refuses x) Passes h = absurd (refuses_not _ _ h)
+coming_same (Refuses x) (Diverts r n) h = absurd (refuses_not _ _ h)
+coming_same Passes (Refuses y) h = absurd (refuses_not _ _ (sym h))
 coming_same Passes Passes h = refl
-coming_same Passes (Diverts r n) h = ap coming_by (tells-same _ _ h) ∙ sym (diverts_by r n)
-coming_same (Diverts q m) (Refuses y) h = absurd (refuses-not _ _ (sym h))
-coming_same (Diverts q m) Passes h = diverts_by q m ∙ ap coming_by (tells-same _ _ h)
-coming_same (Diverts q m) (Diverts r n) h = diverts_by q m ∙ ap coming_by (tells-same _ _ h) ∙ sym (diverts_by r n)
+coming_same Passes (Diverts r n) h = ap coming_by (tells_same _ _ h) ∙ sym (diverts_by r n)
+coming_same (Diverts q m) (Refuses y) h = absurd (refuses_not _ _ (sym h))
+coming_same (Diverts q m) Passes h = diverts_by q m ∙ ap coming_by (tells_same _ _ h)
+coming_same (Diverts q m) (Diverts r n) h = diverts_by q m ∙ ap coming_by (tells_same _ _ h) ∙ sym (diverts_by r n)

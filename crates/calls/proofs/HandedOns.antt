@@ -25,17 +25,17 @@ original_on access t s h = rw h
 module _
     (access : List ℕ) (t : Table) (s xs : List ℕ) (outcome : Coming) (told : coming_told outcome ≡ (comes access t s).told)
   where
-    pub puts-no-digits :
+    pub puts_no_digits :
         goes_on (coming_told outcome) ≡ false →
         PutsOriginal access t s xs (record { outcome = outcome; length = 0; count = 0 }) xs
-    puts-no-digits stays =
+    puts_no_digits stays =
         let none : original_in access t s ≡ [] = original_none access t s (ap goes_on (sym told) ∙ stays) in
         record { told = told; digits = rw none refl; lent = rw none (puts_all (omega arith) wrote_none) }
 
-    pub puts-digits :
+    pub puts_digits :
         goes_on (coming_told outcome) ≡ true → (ws : List ℕ) → ws ≡ handed_on access s (access_read access).profile (call_from s) →
         (n : ℕ) (ys : List ℕ) → Puts xs 0 ws n ys →
         PutsOriginal access t s xs (record { outcome = outcome; length = length ws; count = n }) ys
-    puts-digits goes ws digits n ys lent =
+    puts_digits goes ws digits n ys lent =
         let is : ws ≡ original_in access t s = digits ∙ sym (original_on access t s (ap goes_on (sym told) ∙ goes)) in
         record { told = told; digits = ap length is; lent = rw (← is) lent }

@@ -27,15 +27,15 @@ tells_some (some address) h = refl
 
 module _ (p : Profile) (is : List Instance) (c : Call) where
   -- none where the access is not in use
-  pub applying-unused : p.inuse ≡ 0 → applying p is c ≡ none
+  pub applying_unused : p.inuse ≡ 0 → applying p is c ≡ none
   unfolding applying
-  applying-unused h = rw (eq-eqb p.inuse 0 h)
+  applying_unused h = rw (eq-eqb p.inuse 0 h)
 
   -- else the one of the event's procedure, the number and the service
-  pub applying-used :
+  pub applying_used :
       (p.inuse ≡ 0 → ⊥) → applying p is c ≡ forwarded_to (procedure_of c.event) c.number c.service is
   unfolding applying
-  applying-used used = rw (ne_eqb p.inuse 0 used)
+  applying_used used = rw (ne_eqb p.inuse 0 used)
 
   -- the same as the code looks for it
   module _
@@ -43,7 +43,7 @@ module _ (p : Profile) (is : List Instance) (c : Call) where
       (is_found : found ≡ found_by (forwarded_to procedure c.number c.service is))
     where
       found_here : found ≡ found_by (applying p is c)
-      found_here = is_found ∙ rw (event, applying-used used)
+      found_here = is_found ∙ rw (event, applying_used used)
 
       found_ok : (b : Bool) → found.ok ≡ b → (found_by (applying p is c)).ok ≡ b
       found_ok b h = ap (λ (x : Found). x.ok) (sym found_here) ∙ h

@@ -23,9 +23,9 @@ module _ (p : Profile) (c : Call) where
   own = (options_for p c).option
 
   -- what goes on is never above the profile's
-  pub option-least : option_after p c ≤ (options_for p c).option
+  pub option_least : option_after p c ≤ (options_for p c).option
   unfolding option_after
-  option-least =
+  option_least =
       let P : ℕ → Type 0 = λ k. k ≤ own in
       pick_ind P (eqb c.counter 0) (λ _. omega arith)
       (λ _. pick_ind P (ltb c.option own)
@@ -33,9 +33,9 @@ module _ (p : Profile) (c : Call) where
       (λ _. omega arith))
 
   -- nor above the one received, on a later diversion
-  pub option-received : (c.counter ≡ 0 → ⊥) → option_after p c ≤ c.option
+  pub option_received : (c.counter ≡ 0 → ⊥) → option_after p c ≤ c.option
   unfolding option_after
-  option-received later =
+  option_received later =
       rw (ne_eqb c.counter 0 later)
       (pick_ind (λ k. k ≤ c.option) (ltb c.option own)
       (λ _. omega arith)

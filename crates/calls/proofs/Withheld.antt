@@ -40,19 +40,19 @@ unfolding noticed
 noticed_none option called low = rw (ne_eqb option 2 (λ e. omega (arith, e)))
 
 module _ (p : Profile) (c : Call) (low : option_after p c < 2) where
-  goes-alike : (a b : Address) → SameButDigits (goes p c a) (goes p c b)
+  goes_alike : (a b : Address) → SameButDigits (goes p c a) (goes p c b)
   unfolding onward
-  goes-alike a b = record {
+  goes_alike a b = record {
     told = refl;
     counter = refl;
     noticed = noticed_none (option_after p c) a low ∙ sym (noticed_none (option_after p c) b low);
   }
 
   -- whatever the two addresses are
-  pub instances-alike :
+  pub instances_alike :
       (is js : List Instance) (a b : Address) → applying p is c ≡ some a → applying p js c ≡ some b →
       SameButDigits (by_instance p c (applying p is c)) (by_instance p c (applying p js c))
-  instances-alike is js a b first second = rw (first, second) (alike_both (not (ltb c.counter p.limit)) _ _ _ (goes-alike a b))
+  instances_alike is js a b first second = rw (first, second) (alike_both (not (ltb c.counter p.limit)) _ _ _ (goes_alike a b))
 
 -- the same of a call as it comes, for two tables that break no rule
 pub digits_withheld :
@@ -69,4 +69,4 @@ digits_withheld access s t u a b low one two first second =
     rw (one, two)
     (alike_both (not (access_read access).ok) _ _ _
     (alike_both (not (call_good p s)) _ _ _
-    (instances-alike p (call_from s) low (instances_of t.run) (instances_of u.run) a b first second)))
+    (instances_alike p (call_from s) low (instances_of t.run) (instances_of u.run) a b first second)))

@@ -21,7 +21,7 @@ pub(crate) const BUSY: u8 = 1;
 // The last event: no reply.
 const NOREPLY: u8 = 2;
 
-#[derive(Drop)]
+#[derive(Clone, Copy)]
 pub struct Call {
     pub number: u8,
     pub service: u8,

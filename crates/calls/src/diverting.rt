@@ -16,7 +16,7 @@ use profile::{Profile, read_access};
 use refusals::Refusal;
 
 // What the caller is told: nothing, that the call is diverting, or to which number too.
-#[derive(Drop)]
+#[derive(Clone, Copy)]
 pub enum Notice {
     Silent,
     Diverting,
@@ -24,7 +24,7 @@ pub enum Notice {
 }
 
 // What comes of a call: it is refused, it is not diverted, or it is.
-#[derive(Drop)]
+#[derive(Clone, Copy)]
 pub enum Coming {
     Refuses { refusal: Refusal },
     Passes,
@@ -34,7 +34,7 @@ pub enum Coming {
 // The call that goes on: the forwarded-to address, the served number with its presentation, the presentation of the original
 // number, and the number of the caller's notice.
 #[repr(C)]
-#[derive(Drop)]
+#[derive(Clone, Copy)]
 pub struct Onward {
     pub counter: u8,
     pub called: Address,
@@ -47,7 +47,7 @@ pub struct Onward {
 }
 
 // What becomes of a call, and the call that goes on where one does.
-#[derive(Drop)]
+#[derive(Clone, Copy)]
 pub struct Diversion {
     pub outcome: Coming,
     pub call: Onward,

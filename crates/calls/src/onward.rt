@@ -5,7 +5,7 @@ use crate::call::{BUSY, Call, OFFERED};
 use profile::Profile;
 
 // Why a call is diverted.
-#[derive(Drop)]
+#[derive(Clone, Copy)]
 pub enum Reason {
     Cfu,
     Cfb,
@@ -13,7 +13,7 @@ pub enum Reason {
 }
 
 // The notification option and the release flag for the calls of a number and a service.
-#[derive(Drop)]
+#[derive(Clone, Copy)]
 pub(crate) struct Options {
     pub(crate) option: u8,
     pub(crate) release: u8,

@@ -17,7 +17,7 @@ use profile::{NUMBERSAT, NUMBERSIZE};
 const DIGITSAT: usize = 3;
 
 // What becomes of a call; how many digits the original number has that it hands on; and how many were written.
-#[derive(Drop)]
+#[derive(Clone, Copy)]
 pub struct Handed {
     pub outcome: Coming,
     pub length: usize,

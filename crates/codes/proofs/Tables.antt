@@ -138,8 +138,8 @@ pub service_above : (i j : ℕ) → i < j → j < 16 → get_or services i 0 < g
 service_above i j lt k = ascends_above 0 services services_ascend i j lt k
 
 -- a code that has a place stands there
-pub place_code : (code : ℕ) → place_of code services < 16 → get_or services (place_of code services) 0 ≡ code
-place_code code k = place_stands code services k
+pub place_code_lem : (code : ℕ) → place_of code services < 16 → get_or services (place_of code services) 0 ≡ code
+place_code_lem code k = place_stands code services k
 
 -- a place is the place of its code
 pub place_of_lem : (i : ℕ) → i < 16 → place_of (get_or services i 0) services ≡ i
@@ -157,7 +157,7 @@ service_most code =
     pick_ind (λ t. t ≡ true → code ≤ 42) (eqb code 0) (λ all _. omega (arith, eqb-true code 0 all))
     (λ _ h.
     let inside = ltb-true (place_of code services) (length services) (rw pick_last at h) in
-    let e = place_code code inside in
+    let e = place_code_lem code inside in
     ⊎_elim
     (λ (last : place_of code services ≡ 15). omega (arith, rw last at e))
     (λ (lt : place_of code services < 15). omega (arith, e, service_above (place_of code services) 15 lt (omega arith)))

@@ -19,40 +19,40 @@ use Rattle.requests.specs.Sent.{sendable, request_octets}
 use Rattle.requests.specs.Sending.{PutRequest}
 use Rattle.requests.specs.declared.request.Request.{Request}
 use Rattle.requests.proofs.Sizes.{request_most}
-use Rattle.requests.proofs.Senders.{sent-whole}
+use Rattle.requests.proofs.Senders.{sent_whole}
 use Rattle.lists.specs.Entries.{instances_most, entries_in}
 use Rattle.lists.specs.Listed.{list_octets}
 use Rattle.lists.specs.declared.entries.Entries.{Entries}
 use Rattle.components.specs.Written.{wrote_request, wrote_list, MadeIn}
 
 module _ (identifier : ℤ) (operation : ℕ) (r : Request) (size : ℕ) where
-  pub request-short : size < output_least → wrote_request identifier operation r size ≡ not_made ShortOutput
+  pub request_short : size < output_least → wrote_request identifier operation r size ≡ not_made ShortOutput
   unfolding wrote_request
-  request-short short = rw (lt-ltb size output_least short)
+  request_short short = rw (lt-ltb size output_least short)
 
   module _ (enough : output_least ≤ size) where
-    pub request-unfit : sendable operation r ≡ false → wrote_request identifier operation r size ≡ not_made BadRequest
+    pub request_unfit : sendable operation r ≡ false → wrote_request identifier operation r size ≡ not_made BadRequest
     unfolding wrote_request
-    request-unfit bad = rw (le-ltb size output_least enough, bad)
+    request_unfit bad = rw (le-ltb size output_least enough, bad)
 
-    pub request-fit :
+    pub request_fit :
         sendable operation r ≡ true → wrote_request identifier operation r size ≡ made (request_octets identifier operation r)
     unfolding wrote_request
-    request-fit fit = rw (le-ltb size output_least enough, fit)
+    request_fit fit = rw (le-ltb size output_least enough, fit)
 
 module _ (identifier : ℤ) (list : Entries) (size : ℕ) where
-  pub list-short : size < output_least → wrote_list identifier list size ≡ not_made ShortOutput
+  pub list_short : size < output_least → wrote_list identifier list size ≡ not_made ShortOutput
   unfolding wrote_list
-  list-short short = rw (lt-ltb size output_least short)
+  list_short short = rw (lt-ltb size output_least short)
 
   module _ (enough : output_least ≤ size) where
-    pub list-many : instances_most < list.count → wrote_list identifier list size ≡ not_made BadTable
+    pub list_many : instances_most < list.count → wrote_list identifier list size ≡ not_made BadTable
     unfolding wrote_list
-    list-many many = rw (le-ltb size output_least enough, lt-ltb instances_most list.count many)
+    list_many many = rw (le-ltb size output_least enough, lt-ltb instances_most list.count many)
 
-    pub list-few : list.count ≤ instances_most → wrote_list identifier list size ≡ made (list_octets identifier (entries_in list))
+    pub list_few : list.count ≤ instances_most → wrote_list identifier list size ≡ made (list_octets identifier (entries_in list))
     unfolding wrote_list
-    list-few few = rw (le-ltb size output_least enough, le-ltb instances_most list.count few)
+    list_few few = rw (le-ltb size output_least enough, le-ltb instances_most list.count few)
 
 -- what is refused writes nothing
 pub refused_made :
@@ -73,4 +73,4 @@ pub request_put :
     Puts xs 0 (request_octets identifier operation r) n ys
 request_put xs identifier operation r n ys range enough fit put =
     let few = request_most identifier operation r range fit in
-    puts_all (omega (arith, enough, few)) (sent-whole xs identifier operation r n ys put fit (omega (arith, enough, few)))
+    puts_all (omega (arith, enough, few)) (sent_whole xs identifier operation r n ys put fit (omega (arith, enough, few)))

@@ -32,14 +32,14 @@ module _ (S : Topic) (X : Exchange S) (C : Customer S) where
     pub unhandled :
         X.last t < n → (C.pic e P ≡ X.held t P) ×
         ((c : ℕ × S.Req) → In c up → S.about c.1 ≡ changes P → (c.0 ≤ X.last t) ⊎ (c.0 ≡ n))
-    pub said-failed : (x : ℕ) → In (n, says_error x) down → C.pic e P ≡ X.held t P
-    pub said-done : In (n, says_done) down → (T : S.Pic) → S.apply r (C.pic e P) ≡ some T → T ≡ X.held t P
+    pub said_failed : (x : ℕ) → In (n, says_error x) down → C.pic e P ≡ X.held t P
+    pub said_done : In (n, says_done) down → (T : S.Pic) → S.apply r (C.pic e P) ≡ some T → T ≡ X.held t P
 
   -- An interrogation n of P is outstanding.
   pub record Asking (t : X.Table) (e : C.End) (down : Downs S) (n : ℕ) (m : Mark) (P : S.Proc) : Type 0 where
     pub before : m ≡ known → C.mark e P ≡ known
-    pub said-listed : (l : S.Listing) → In (n, says_list l) down → S.read P l ≡ some (X.held t P)
-    pub said-allowed : S.Allows P → (b : Saying S) → In (n, b) down → WasHandled b → (l : S.Listing) × (b ≡ says_list l)
+    pub said_listed : (l : S.Listing) → In (n, says_list l) down → S.read P l ≡ some (X.held t P)
+    pub said_allowed : S.Allows P → (b : Saying S) → In (n, b) down → WasHandled b → (l : S.Listing) × (b ≡ says_list l)
 
   pub record Pending (t : X.Table) (e : C.End) (up : Ups S) (down : Downs S) (n : ℕ) (r : S.Req) (m : Mark) : Type 0 where
     pub mine : In (n, r) up
@@ -54,14 +54,14 @@ module _ (S : Topic) (X : Exchange S) (C : Customer S) where
     pub fit : (c : ℕ × S.Req) → In c up → S.Fit c.0 c.1
     pub proper : (c : ℕ × Saying S) → In c down → ProperTo S up c
     pub below : (c : ℕ × S.Req) → In c up → c.0 < C.next e
-    pub last-below : X.last t < C.next e
+    pub last_below : X.last t < C.next e
     pub handled : (c : ℕ × Saying S) → In c down → WasHandled c.1 → c.0 ≤ X.last t
     pub right : (P : S.Proc) → C.mark e P ≡ known → (C.pic e P ≡ X.held t P) × Settled t up P
     pub pending : (n : ℕ) (r : S.Req) (m : Mark) → C.waiting e ≡ awaiting n r m → Pending t e up down n r m
 
 module _ (S : Topic) (X : Exchange S) (C : Customer S) (LX : ExchangeLaws S X) (LC : CustomerLaws S C) where
-  pub never-busy : {e : C.End} {n : ℕ} {r : S.Req} {m : Mark} → C.waiting e ≡ idle → C.waiting e ≡ awaiting n r m → ⊥
-  never-busy p q = let z : ◌≡◌ {A = ℕ} 0 1 = cc in omega arith
+  pub never_busy : {e : C.End} {n : ℕ} {r : S.Req} {m : Mark} → C.waiting e ≡ idle → C.waiting e ≡ awaiting n r m → ⊥
+  never_busy p q = let z : ◌≡◌ {A = ℕ} 0 1 = cc in omega arith
 
   pub begins : (t : X.Table) (e : C.End) → Fresh S X C t e → Inv S X C t e [] []
   begins t e f = record {
@@ -70,10 +70,10 @@ module _ (S : Topic) (X : Exchange S) (C : Customer S) (LX : ExchangeLaws S X) (
     fit = λ c i. absurd i;
     proper = λ c i. absurd i;
     below = λ c i. absurd i;
-    last-below = f.above;
+    last_below = f.above;
     handled = λ c i. absurd i;
     right = λ P k. (f.same P, λ c i. absurd i);
-    pending = λ n r m p. absurd (never-busy f.free p);
+    pending = λ n r m p. absurd (never_busy f.free p);
   }
 
   -- giving up, a cut
@@ -86,10 +86,10 @@ module _ (S : Topic) (X : Exchange S) (C : Customer S) (LX : ExchangeLaws S X) (
     fit = v.fit;
     proper = v.proper;
     below = λ c i. omega (arith, v.below c i, s.grows);
-    last-below = omega (arith, v.last-below, s.grows);
+    last_below = omega (arith, v.last_below, s.grows);
     handled = v.handled;
     right = λ P k. ((s.stays P k).1 ∙ (v.right P (s.stays P k).0).0, (v.right P (s.stays P k).0).1);
-    pending = λ n r m p. absurd (never-busy s.free p);
+    pending = λ n r m p. absurd (never_busy s.free p);
   }
 
   -- what befalls the table elsewhere
@@ -102,7 +102,7 @@ module _ (S : Topic) (X : Exchange S) (C : Customer S) (LX : ExchangeLaws S X) (
     fit = v.fit;
     proper = v.proper;
     below = v.below;
-    last-below = omega (arith, v.last-below);
+    last_below = omega (arith, v.last_below);
     handled = λ c i a. omega (arith, v.handled c i a);
     right = λ P k. ((v.right P k).0 ∙ sym (h P), λ c i a. omega (arith, (v.right P k).1 c i a));
     pending = λ n r m p. let u = v.pending n r m p in record {
@@ -111,13 +111,13 @@ module _ (S : Topic) (X : Exchange S) (C : Customer S) (LX : ExchangeLaws S X) (
       one = u.one;
       changing = λ P a k. let x = u.changing P a k in record {
         unhandled = λ q. rw (l, h P) (x.unhandled (rw l at q));
-        said-failed = λ y i. x.said-failed y i ∙ sym (h P);
-        said-done = λ i T f. x.said-done i T f ∙ sym (h P);
+        said_failed = λ y i. x.said_failed y i ∙ sym (h P);
+        said_done = λ i T f. x.said_done i T f ∙ sym (h P);
       };
       asking = λ P a. let x = u.asking P a in record {
         before = x.before;
-        said-listed = λ b i. rw (h P) (x.said-listed b i);
-        said-allowed = x.said-allowed;
+        said_listed = λ b i. rw (h P) (x.said_listed b i);
+        said_allowed = x.said_allowed;
       };
     };
   }
@@ -134,17 +134,17 @@ module _ (S : Topic) (X : Exchange S) (C : Customer S) (LX : ExchangeLaws S X) (
       Why S C e c.0 c.1 e' P → (C.pic e' P ≡ X.held t P) × Settled S X C t up P
   why t e e' up down v c i P (was_known k s) = (s ∙ (v.right P k).0, (v.right P k).1)
   why t e e' up down v c i P (by_error r x w (inl a) f s) = (
-    s ∙ ((v.pending c.0 r known w).changing P a refl).said-failed x (subst (λ b. In (c.0, b) down) f i),
+    s ∙ ((v.pending c.0 r known w).changing P a refl).said_failed x (subst (λ b. In (c.0, b) down) f i),
     above t e up down v c.0 r known w (v.handled c i (subst WasHandled (sym f) tt)) P,
   )
   why t e e' up down v c i P (by_error r x w (inr a) f s) =
       let k = ((v.pending c.0 r known w).asking P a).before refl in (s ∙ (v.right P k).0, (v.right P k).1)
   why t e e' up down v c i P (by_result r w a d f) = (
-    ((v.pending c.0 r known w).changing P a refl).said-done (subst (λ b. In (c.0, b) down) d i) (C.pic e' P) f,
+    ((v.pending c.0 r known w).changing P a refl).said_done (subst (λ b. In (c.0, b) down) d i) (C.pic e' P) f,
     above t e up down v c.0 r known w (v.handled c i (subst WasHandled (sym d) tt)) P,
   )
   why t e e' up down v c i P (by_list r m l w a d f) =
-      let q = ((v.pending c.0 r m w).asking P a).said-listed l (subst (λ b. In (c.0, b) down) d i) in
+      let q = ((v.pending c.0 r m w).asking P a).said_listed l (subst (λ b. In (c.0, b) down) d i) in
       (cc, above t e up down v c.0 r m w (v.handled c i (subst WasHandled (sym d) tt)) P)
 
   pub hears :
@@ -170,10 +170,10 @@ module _ (S : Topic) (X : Exchange S) (C : Customer S) (LX : ExchangeLaws S X) (
         fit = v.fit;
         proper = v.proper;
         below = λ d j. omega (arith, v.below d j, LC.hear_grows e c.0 c.1);
-        last-below = omega (arith, v.last-below, LC.hear_grows e c.0 c.1);
+        last_below = omega (arith, v.last_below, LC.hear_grows e c.0 c.1);
         handled = v.handled;
         right = λ P k. why t e (C.hear e c.0 c.1) up down v c i P (LC.hear_why e c.0 c.1 r m (hit r m w) P k);
-        pending = λ n q b p. absurd (never-busy (LC.hear_closes e c.0 c.1 r m (hit r m w)) p);
+        pending = λ n q b p. absurd (never_busy (LC.hear_closes e c.0 c.1 r m (hit r m w)) p);
       }
 
       matched : (k : ℕ) (r : S.Req) (m : Mark) → C.waiting e ≡ awaiting k r m → Dec (k ≡ c.0) → Inv S X C t (C.hear e c.0 c.1) up down
@@ -181,5 +181,5 @@ module _ (S : Topic) (X : Exchange S) (C : Customer S) (LX : ExchangeLaws S X) (
       matched k r m w (no q) = dropped (λ r' m' w'. q (cc))
 
       go : (x : Waiting S.Req) → C.waiting e ≡ x → Inv S X C t (C.hear e c.0 c.1) up down
-      go idle w = dropped (λ r m w'. never-busy w w')
+      go idle w = dropped (λ r m w'. never_busy w w')
       go (awaiting k r m) w = matched k r m w (ℕ_discrete k c.0)

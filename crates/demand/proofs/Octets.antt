@@ -45,22 +45,22 @@ module _
     (S : Topic) (X : Exchange S) (C : Customer S) (W : Wire S X C)
     (LX : ExchangeLaws S X) (LC : CustomerLaws S C) (K : Wired S X C W)
   where
-    sent-spelt :
+    sent_spelt :
         (w : World (messages S X C)) (r : S.Req) (s : Option (C.End × ℕ)) →
         sending (octets S X C W) (spelt S X C W w) (written W.request r s)
         ≡ spelt S X C W (sending (messages S X C) w (numbered r s))
     unfolding sending numbered spelt
-    sent-spelt w r none = refl
-    sent-spelt w r (some s) = refl
+    sent_spelt w r none = refl
+    sent_spelt w r (some s) = refl
 
-    handled-spelt :
+    handled_spelt :
         (w : World (messages S X C)) (n : ℕ) (b : Bool) (x : X.Table × Saying S) →
         (let y = answering {D = Octets} (W.reply n) b w.table x in
         let z = answering {D = ℕ × Saying S} (λ s. (n, s)) b w.table x in
         replying (octets S X C W) (spelt S X C W w) y.0 y.1 ≡ spelt S X C W (replying (messages S X C) w z.0 z.1))
     unfolding replying spelt
-    handled-spelt w n true x = refl
-    handled-spelt w n false x = refl
+    handled_spelt w n true x = refl
+    handled_spelt w n false x = refl
 
     went :
         (w : World (messages S X C)) (t : X.Table) →
@@ -82,7 +82,7 @@ module _
     unfolding after ending spelt
     follows w h (sends_up room r) = (
       sends_up room r,
-      ap (sending (octets S X C W) (spelt S X C W w)) (K.sends room w.end r h.sound) ∙ sent-spelt w r (C.send room w.end r),
+      ap (sending (octets S X C W) (spelt S X C W w)) (K.sends room w.end r h.sound) ∙ sent_spelt w r (C.send room w.end r),
       λ n q m p k. k,
     )
     follows w h (handles room c i) =
@@ -90,7 +90,7 @@ module _
           handles room z.0 z.1,
           ap (λ x. replying (octets S X C W) (spelt S X C W w) x.0 x.1)
               (ap (W.handle room w.table) z.2 ∙ K.handles room w.table z.0.0 z.0.1 h.good (h.fit z.0 z.1))
-              ∙ handled-spelt w z.0.0 (X.enough room) (X.serve w.table z.0.0 z.0.1),
+              ∙ handled_spelt w z.0.0 (X.enough room) (X.serve w.table z.0.0 z.0.1),
           λ n q m p k. k,
         )
     follows w h (comes_down c i) =
@@ -108,10 +108,10 @@ module _
     follows w h (goes_on o) = (goes_on o, went w (X.elsewhere w.table o), λ n r m p k. k)
     follows w h (jolted j) = (jolted j, refl, λ n r m p k. k)
 
-    follows-at :
+    follows_at :
         (w : World (messages S X C)) → Holds S X C w → (y : World (octets S X C W)) → y ≡ spelt S X C W w →
         (v : Happening (octets S X C W) y) → Follows w y v
-    follows-at w h y q = subst (λ x. (v : Happening (octets S X C W) x) → Follows w x v) (sym q) (follows w h)
+    follows_at w h y q = subst (λ x. (v : Happening (octets S X C W) x) → Follows w x v) (sym q) (follows w h)
 
     -- so each run is
     abbrev Traced : (w : World (messages S X C)) {from to : World (octets S X C W)} → Trace (octets S X C W) from to → Type 0
@@ -124,7 +124,7 @@ module _
     traced w h still = (w, still, refl, λ n r m p k. k)
     traced w h (further {w = y} q v) =
         let z = traced w h q in
-        let u = follows-at z.0 (D.runs S X C LX LC z.1 h) y z.2 v in (
+        let u = follows_at z.0 (D.runs S X C LX LC z.1 h) y z.2 v in (
           after (messages S X C) z.0 u.0,
           further z.1 u.0,
           u.1,
@@ -133,14 +133,14 @@ module _
               (before, u.2 n r m (D.calms S X C LX LC z.1 n r m h before p) k.1),
         )
 
-    traced-at :
+    traced_at :
         (w : World (messages S X C)) → Holds S X C w → (from : World (octets S X C W)) → from ≡ spelt S X C W w →
         {to : World (octets S X C W)} (q : Trace (octets S X C W) from to) → Traced w q
-    traced-at w h from e {to} = subst (λ x. (q : Trace (octets S X C W) x to) → Traced w q) (sym e) (λ q. traced w h q)
+    traced_at w h from e {to} = subst (λ x. (q : Trace (octets S X C W) x to) → Traced w q) (sym e) (λ q. traced w h q)
 
-    start-spelt : (t : X.Table) (e : C.End) → start (octets S X C W) t e ≡ spelt S X C W (start (messages S X C) t e)
+    start_spelt : (t : X.Table) (e : C.End) → start (octets S X C W) t e ≡ spelt S X C W (start (messages S X C) t e)
     unfolding start spelt
-    start-spelt t e = refl
+    start_spelt t e = refl
 
     -- what holds of both records at every moment of a run over messages holds of them at every moment of a run over octets
     pub at_every :
@@ -151,22 +151,22 @@ module _
     unfolding spelt
     at_every P so t e f {w} q =
         let h = D.starts S X C LX LC t e f in
-        let z = traced-at (start (messages S X C) t e) h (start (octets S X C W) t e) (start-spelt t e) q in
+        let z = traced_at (start (messages S X C) t e) h (start (octets S X C W) t e) (start_spelt t e) q in
         subst (λ x. P x.table x.end) (sym z.2) (so z.0 (D.runs S X C LX LC z.1 h))
 
     -- the first sentence of demand 3
-    pub known-equals :
+    pub known_equals :
         (t : X.Table) (e : C.End) → Fresh S X C t e → {w : World (octets S X C W)} →
         Trace (octets S X C W) (start (octets S X C W) t e) w →
         (P : S.Proc) → C.mark w.end P ≡ known → C.pic w.end P ≡ X.held w.table P
-    known-equals t e f q P =
+    known_equals t e f q P =
         at_every (λ u d. C.mark d P ≡ known → C.pic d P ≡ X.held u P) (λ w h k. (h.right P k).0) t e f q
 
     -- and the end and the table break no rule
-    pub sound-always :
+    pub sound_always :
         (t : X.Table) (e : C.End) → Fresh S X C t e → {w : World (octets S X C W)} →
         Trace (octets S X C W) (start (octets S X C W) t e) w → C.Sound w.end × X.Good w.table
-    sound-always t e f q = at_every (λ u d. C.Sound d × X.Good u) (λ w h. (h.sound, h.good)) t e f q
+    sound_always t e f q = at_every (λ u d. C.Sound d × X.Good u) (λ w h. (h.sound, h.good)) t e f q
 
     -- the second sentence, from a moment w₁ at which the exchange handles the interrogation n and replies with a
     abbrev pub Second : World (octets S X C W) → Type 0
@@ -178,11 +178,11 @@ module _
         (a : Octets) → (W.handle room w₁.table (W.request n r)).1 ≡ some a →
         (j : In a w₂.down) × (C.mark (after (octets S X C W) w₂ (comes_down a j)).end P ≡ known)
 
-    handled-says :
+    handled_says :
         (t : X.Table) (n : ℕ) (b : Bool) (x : X.Table × Saying S) (a : Octets) → b ≡ true →
         (answering (W.reply n) b t x).1 ≡ some a → a ≡ W.reply n x.1
-    handled-says t n true x a e h = cc
-    handled-says t n false x a e h = let z : ◌≡◌ {A = ℕ} 0 1 = cc in absurd (omega arith)
+    handled_says t n true x a e h = cc
+    handled_says t n false x a e h = let z : ◌≡◌ {A = ℕ} 0 1 = cc in absurd (omega arith)
 
     second : (x : World (messages S X C)) → Holds S X C x → Second (spelt S X C W x)
     unfolding spelt after ending
@@ -191,13 +191,13 @@ module _
         let b : Saying S = (X.serve x.table n r).1 in
         let e = K.handles room x.table n r h.good (h.fit (n, r) c) in
         let h₁ : Holds S X C (after (messages S X C) x (handles room (n, r) c)) = D.keeps S X C LX LC x (handles room (n, r) c) h in
-        let z = traced-at (after (messages S X C) x (handles room (n, r) c)) h₁
+        let z = traced_at (after (messages S X C) x (handles room (n, r) c)) h₁
         (after (octets S X C W) (spelt S X C W x) (handles room (W.request n r) i))
         (ap (λ s. replying (octets S X C W) (spelt S X C W x) s.0 s.1) e
-        ∙ handled-spelt x n (X.enough room) (X.serve x.table n r)) q in
-        let f = D.first-reply-from S X C LX LC x h n r m P ab al p c l room y z.1
-        (z.3 n r m (D.first-waits S X C LX LC x n r c room ∙ p) k) in
-        let g : a ≡ W.reply n b = handled-says x.table n (X.enough room) (X.serve x.table n r) a y (sym (ap (λ s. s.1) e) ∙ is) in
+        ∙ handled_spelt x n (X.enough room) (X.serve x.table n r)) q in
+        let f = D.first_reply_from S X C LX LC x h n r m P ab al p c l room y z.1
+        (z.3 n r m (D.first_waits S X C LX LC x n r c room ∙ p) k) in
+        let g : a ≡ W.reply n b = handled_says x.table n (X.enough room) (X.serve x.table n r) a y (sym (ap (λ s. s.1) e) ∙ is) in
         let h₂ = D.runs S X C LX LC z.1 h₁ in
         let o = h₂.proper (n, b) f.0 in
         rw (z.2, g) (
@@ -205,10 +205,10 @@ module _
           rw (K.receives z.0.end n b o.0 h₂.sound o.2) f.1,
         )
 
-    pub first-reply-known :
+    pub first_reply_known :
         (t : X.Table) (e : C.End) → Fresh S X C t e → {w₁ : World (octets S X C W)} →
         Trace (octets S X C W) (start (octets S X C W) t e) w₁ → Second w₁
-    first-reply-known t e f q =
+    first_reply_known t e f q =
         let h = D.starts S X C LX LC t e f in
-        let z = traced-at (start (messages S X C) t e) h (start (octets S X C W) t e) (start-spelt t e) q in
+        let z = traced_at (start (messages S X C) t e) h (start (octets S X C W) t e) (start_spelt t e) q in
         subst Second (sym z.2) (second z.0 (D.runs S X C LX LC z.1 h))

@@ -21,7 +21,7 @@ module _ (S : Topic) (X : Exchange S) (C : Customer S) (LX : ExchangeLaws S X) (
     sound = v.sound;
     fit = v.fit;
     below = v.below;
-    last-below = v.last-below;
+    last_below = v.last_below;
     right = v.right;
     proper = proper';
     handled = λ c i a. v.handled c (older c a i) a;
@@ -31,13 +31,13 @@ module _ (S : Topic) (X : Exchange S) (C : Customer S) (LX : ExchangeLaws S X) (
       one = u.one;
       changing = λ P a k. let x = u.changing P a k in record {
         unhandled = x.unhandled;
-        said-failed = λ y i. x.said-failed y (older (n, says_error y) tt i);
-        said-done = λ i. x.said-done (older (n, says_done) tt i);
+        said_failed = λ y i. x.said_failed y (older (n, says_error y) tt i);
+        said_done = λ i. x.said_done (older (n, says_done) tt i);
       };
       asking = λ P a. let x = u.asking P a in record {
         before = x.before;
-        said-listed = λ l i. x.said-listed l (older (n, says_list l) tt i);
-        said-allowed = λ w b i a. x.said-allowed w b (older (n, b) a i) a;
+        said_listed = λ l i. x.said_listed l (older (n, says_list l) tt i);
+        said_allowed = λ w b i a. x.said_allowed w b (older (n, b) a i) a;
       };
     };
   }
@@ -57,14 +57,14 @@ module _ (S : Topic) (X : Exchange S) (C : Customer S) (LX : ExchangeLaws S X) (
     late d a (inl q) l = (ap (λ x. x.0) q, ap (λ x. x.1) q)
     late d a (inr j) l = absurd (omega (arith, v.handled d j a))
 
-    serve-right : (P : S.Proc) → C.mark e P ≡ known → (C.pic e P ≡ X.held t' P) × Settled S X C t' up P
-    serve-right P k =
+    serve_right : (P : S.Proc) → C.mark e P ≡ known → (C.pic e P ≡ X.held t' P) × Settled S X C t' up P
+    serve_right P k =
         let x = v.right P k in
         (x.0 ∙ sym (s.others P (λ a. omega (arith, x.1 c i a))), λ d j a. omega (arith, x.1 d j a, s.moves))
 
     module _ (n : ℕ) (r : S.Req) (m : Mark) (p : C.waiting e ≡ awaiting n r m) where
-      serve-changing : (P : S.Proc) → S.about r ≡ changes P → m ≡ known → Changing S X C t' e up ((c.0, b) ∷ down) n r P
-      serve-changing P a k = go (ℕ_discrete c.0 n)
+      serve_changing : (P : S.Proc) → S.about r ≡ changes P → m ≡ known → Changing S X C t' e up ((c.0, b) ∷ down) n r P
+      serve_changing P a k = go (ℕ_discrete c.0 n)
         where
           u : Pending S X C t e up down n r m
           u = v.pending n r m p
@@ -82,33 +82,33 @@ module _ (S : Topic) (X : Exchange S) (C : Customer S) (LX : ExchangeLaws S X) (
           settle d (inl q) = inl (omega (arith, s.moves))
           settle d (inr q) = inr q
 
-          not-this : ¬ (c.0 ≡ n) → (c.0 ≤ X.last t) ⊎ (c.0 ≡ n) → ⊥
-          not-this f (inl q) = omega arith
-          not-this f (inr q) = f q
+          not_this : ¬ (c.0 ≡ n) → (c.0 ≤ X.last t) ⊎ (c.0 ≡ n) → ⊥
+          not_this f (inl q) = omega arith
+          not_this f (inr q) = f q
 
           go : Dec (c.0 ≡ n) → Changing S X C t' e up ((c.0, b) ∷ down) n r P
           go (yes q) = record {
             unhandled = λ l. absurd (omega (arith, s.moves));
-            said-failed = λ y j. was ∙ sym (s.on_failed y (sym (late (n, says_error y) tt j le).1) P);
-            said-done = λ j T f. s.on_done (sym (late (n, says_done) tt j le).1) P (rw (u.one c i q) a) T (rw (u.one c i q, ← was) f);
+            said_failed = λ y j. was ∙ sym (s.on_failed y (sym (late (n, says_error y) tt j le).1) P);
+            said_done = λ j T f. s.on_done (sym (late (n, says_done) tt j le).1) P (rw (u.one c i q) a) T (rw (u.one c i q, ← was) f);
           }
           go (no q) = record {
             unhandled =
                 λ l. (
-                  was ∙ sym (s.others P (λ y. not-this q ((x.unhandled (omega (arith, le))).1 c i y))),
+                  was ∙ sym (s.others P (λ y. not_this q ((x.unhandled (omega (arith, le))).1 c i y))),
                   λ d j y. settle d
                       ((x.unhandled (omega (arith, le))).1 d j y),
                 );
-            said-failed = λ y j. absurd (q (sym (late (n, says_error y) tt j le).0));
-            said-done = λ j. absurd (q (sym (late (n, says_done) tt j le).0));
+            said_failed = λ y j. absurd (q (sym (late (n, says_error y) tt j le).0));
+            said_done = λ j. absurd (q (sym (late (n, says_done) tt j le).0));
           }
 
-      serve-asking : (P : S.Proc) → S.about r ≡ asks_for P → Asking S X C t' e ((c.0, b) ∷ down) n m P
-      serve-asking P a = record {
+      serve_asking : (P : S.Proc) → S.about r ≡ asks_for P → Asking S X C t' e ((c.0, b) ∷ down) n m P
+      serve_asking P a = record {
         before = ((v.pending n r m p).asking P a).before;
-        said-listed = λ l j. let q = late (n, says_list l) tt j le in
+        said_listed = λ l j. let q = late (n, says_list l) tt j le in
             rw (s.others P (other q.0)) (s.on_listed l (sym q.1) P (about' q.0));
-        said-allowed = λ w d j y. let q = late (n, d) y j le in
+        said_allowed = λ w d j y. let q = late (n, d) y j le in
             let z = s.on_allowed P (about' q.0) w in (z.0, q.1 ∙ z.1);
       }
         where
@@ -128,15 +128,15 @@ module _ (S : Topic) (X : Exchange S) (C : Customer S) (LX : ExchangeLaws S X) (
       fit = v.fit;
       below = v.below;
       proper = proper';
-      last-below = omega (arith, s.moves, v.below c i);
+      last_below = omega (arith, s.moves, v.below c i);
       handled = handled';
-      right = serve-right;
+      right = serve_right;
       pending = λ n r m p. record {
         mine = (v.pending n r m p).mine;
         top = (v.pending n r m p).top;
         one = (v.pending n r m p).one;
-        changing = serve-changing n r m p;
-        asking = serve-asking n r m p;
+        changing = serve_changing n r m p;
+        asking = serve_asking n r m p;
       };
     }
       where
@@ -173,7 +173,7 @@ module _ (S : Topic) (X : Exchange S) (C : Customer S) (LX : ExchangeLaws S X) (
     handled = v.handled;
     fit = fit';
     below = below';
-    last-below = omega (arith, v.last-below, s.new, s.used);
+    last_below = omega (arith, v.last_below, s.new, s.used);
     right = λ P k. (s.pics P ∙ (v.right P (s.stays P k).0).0, settled P k);
     pending = λ k q m p. moved k q m p;
   }
@@ -192,7 +192,7 @@ module _ (S : Topic) (X : Exchange S) (C : Customer S) (LX : ExchangeLaws S X) (
 
       -- nothing was said of n yet
       silent : (b : Saying S) → WasHandled b → In (n, b) down → ⊥
-      silent b a i = omega (arith, v.handled (n, b) i a, v.last-below, s.new)
+      silent b a i = omega (arith, v.handled (n, b) i a, v.last_below, s.new)
 
       waits' :
           (P : S.Proc) → C.mark e P ≡ known → (c : ℕ × S.Req) → In c ((n, r) ∷ up) → S.about c.1 ≡ changes P →
@@ -215,13 +215,13 @@ module _ (S : Topic) (X : Exchange S) (C : Customer S) (LX : ExchangeLaws S X) (
         one = one';
         changing = λ P a k. let k' : C.mark e P ≡ known = sym (s.before_is P (inl a)) ∙ k in record {
           unhandled = λ l. (s.pics P ∙ (v.right P k').0, waits' P k');
-          said-failed = λ y i. absurd (silent (says_error y) tt i);
-          said-done = λ i. absurd (silent says_done tt i);
+          said_failed = λ y i. absurd (silent (says_error y) tt i);
+          said_done = λ i. absurd (silent says_done tt i);
         };
         asking = λ P a. record {
           before = λ k. s.asked P a ∙ (sym (s.before_is P (inr a)) ∙ k);
-          said-listed = λ l i. absurd (silent (says_list l) tt i);
-          said-allowed = λ w b i y. absurd (silent b y i);
+          said_listed = λ l i. absurd (silent (says_list l) tt i);
+          said_allowed = λ w b i y. absurd (silent b y i);
         };
       }
 

@@ -15,7 +15,7 @@ use Rattle.laws.proofs.Picks.{pick_ind}
 use Rattle.refusals.specs.Refusal.{tells, output_least, component_most}
 use Rattle.refusals.specs.declared.refusal.Refusal.{Refusal}
 use Rattle.refusals.specs.declared.refusal.Refusal.TheVariants.{ShortOutput, BadProfile, BadTable, Outstanding, Exhausted, BadRequest}
-use Rattle.refusals.proofs.Refusals.{refuses-not}
+use Rattle.refusals.proofs.Refusals.{refuses_not}
 use Rattle.codes.specs.Codes.{interrogation}
 use Rattle.profile.specs.Access.{access_read}
 use Rattle.requests.specs.Sent.{sendable, request_octets}
@@ -31,10 +31,10 @@ use Rattle.end.specs.Sending.{marks_sent, sent, Sends, not_sent, sends}
 use Rattle.end.specs.Listed.{instances_listed, list_good, replaced}
 use Rattle.end.specs.Taking.{learned_by, learned, gave_up, Moves, moved, takes, gives_up}
 use Rattle.end.specs.declared.end.End.{End}
-use Rattle.end.proofs.Ends.{used-most}
+use Rattle.end.proofs.Ends.{used_most_lem}
 use Rattle.end.proofs.Movings.{takes_all, gives_all}
-use Rattle.end.proofs.Steps.{ours, reply_to, took-ind, takes-ind}
-use Rattle.end.proofs.Marks.{mark-put, closed_marks, good_rules, sent_three, took-said}
+use Rattle.end.proofs.Steps.{ours, reply_to, took_ind, takes_ind}
+use Rattle.end.proofs.Marks.{mark_put, closed_marks, good_rules, sent_three, took_said}
 
 -- ---- a request that is closed
 
@@ -49,11 +49,11 @@ closed_one mark picture e = record { free = refl; used = refl }
 
 module _ (access : List ℕ) (e : End) where
   -- what arrives leaves the end as it was, or closes the request
-  pub takes-closes : (s : List ℕ) → ((takes access e s).end ≡ e) ⊎ Closed e (takes access e s).end
-  takes-closes s =
+  pub takes_closes : (s : List ℕ) → ((takes access e s).end ≡ e) ⊎ Closed e (takes access e s).end
+  takes_closes s =
       let P : End → Type 0 = λ n. (n ≡ e) ⊎ Closed e n in
-      takes-ind access e s (λ m. P m.end) (λ _. inl refl) (λ _ _ _.
-      took-ind (ours access) e s P
+      takes_ind access e s (λ m. P m.end) (λ _. inl refl) (λ _ _ _.
+      took_ind (ours access) e s P
       (λ _. inl refl)
       (λ _ _. inr (closed_one (mark_no doubt) e.picture e))
       (λ _ _ _. inr (closed_one e.before e.picture e))
@@ -64,9 +64,9 @@ module _ (access : List ℕ) (e : End) where
 
   module _ (ok : (access_read access).ok ≡ true) (good : end_good instances_most (ours access) e ≡ true) where
     -- giving up leaves nothing outstanding
-    pub gives-closes : ((gives_up access e).end.outstanding ≡ 1 → ⊥) × ((gives_up access e).end.used ≡ e.used)
+    pub gives_closes : ((gives_up access e).end.outstanding ≡ 1 → ⊥) × ((gives_up access e).end.used ≡ e.used)
     unfolding gave_up closed
-    gives-closes =
+    gives_closes =
         let P : End → Type 0 = λ n. (n.outstanding ≡ 1 → ⊥) × (n.used ≡ e.used) in
         rw (gives_all access e ok good)
         (pick_ind P (eqb e.outstanding 1)
@@ -75,11 +75,11 @@ module _ (access : List ℕ) (e : End) where
 
     module _ (waits : e.outstanding ≡ 1) (s : List ℕ) (fair : length s ≤ component_most) where
       -- a reply to the outstanding request closes it
-      pub reply-closes : (reply_to e s ≡ Dropped → ⊥) → (takes access e s).end.outstanding ≡ 0
-      reply-closes own =
+      pub reply_closes : (reply_to e s ≡ Dropped → ⊥) → (takes access e s).end.outstanding ≡ 0
+      reply_closes own =
           let p = ours access in
           rw (takes_all access e s fair ok good)
-          (took-ind p e s (λ n. n.outstanding ≡ 0)
+          (took_ind p e s (λ n. n.outstanding ≡ 0)
           (λ why. ⊎_elim (λ free. absurd (free waits)) (λ drop. absurd (own drop)) why)
           (λ _ _. (closed_one (mark_no doubt) e.picture e).free)
           (λ _ _ _. (closed_one e.before e.picture e).free)
@@ -88,22 +88,22 @@ module _ (access : List ℕ) (e : End) where
           (closed_one (mark_no known) (packed (replaced e.request.procedure (instances_listed p es) (instances_of e.picture))) e).free))
 
       -- a good list makes the procedure of the outstanding request known
-      pub list-known :
+      pub list_known :
           length e.marks ≡ 3 → (at end : ℕ) (es : List Entry) (next : ℕ) → reply_to e s ≡ Listed at end →
           entries_from instances_most s at end ≡ got es next →
           list_good instances_most (ours access) e.request.procedure (instances_listed (ours access) es) ≡ true →
           mark_at e.request.procedure (takes access e s).end.marks ≡ mark_no known
       unfolding learned
-      list-known long at end es next is read list =
+      list_known long at end es next is read list =
           let p = ours access in
           let new : Run = packed (replaced e.request.procedure (instances_listed p es) (instances_of e.picture)) in
           let took : takes access e s ≡ moved (closed (mark_no known) new e) =
           takes_all access e s fair ok good
-          ∙ ap moved (took-said p e s waits (Listed at end) is ∙ (ap (learned_by p e) read ∙ rw list)) in
+          ∙ ap moved (took_said p e s waits (Listed at end) is ∙ (ap (learned_by p e) read ∙ rw list)) in
           let three = sent_three e.operation e.request ((good_rules instances_most p e good).fits waits).1 in
           ap (λ (m : Moves). mark_at e.request.procedure m.end.marks) took
           ∙ (ap (mark_at e.request.procedure) (closed_marks (mark_no known) new e)
-          ∙ mark-put e.request.procedure (mark_no known) e.marks (omega (arith, long, three)))
+          ∙ mark_put e.request.procedure (mark_no known) e.marks (omega (arith, long, three)))
 
 -- ---- a request that is sent
 
@@ -128,7 +128,7 @@ pub sends_asks :
 unfolding sends sent marks_sent
 sends_asks access operation r e size =
     let P : Sends → Type 0 = λ d. d.told ≡ tells tt → Asks operation r e d in
-    let refuse : (refusal : Refusal) → P (not_sent e refusal) = λ _ h. absurd (refuses-not _ _ h) in
+    let refuse : (refusal : Refusal) → P (not_sent e refusal) = λ _ h. absurd (refuses_not _ _ h) in
     pick_ind P (ltb size output_least) (λ _. refuse ShortOutput) (λ _.
     pick_ind P (not (access_read access).ok) (λ _. refuse BadProfile) (λ _.
     pick_ind P (not (end_good instances_most (ours access) e)) (λ _. refuse BadTable) (λ good.
@@ -138,7 +138,7 @@ sends_asks access operation r e size =
       free = eqb-false e.outstanding 1 free;
       outstanding = refl;
       used = refl;
-      most = omega (arith, used-most instances_most (ours access) e (not-false _ good), eqb-false e.used used_most more);
+      most = omega (arith, used_most_lem instances_most (ours access) e (not-false _ good), eqb-false e.used used_most more);
       operation = refl;
       request = refl;
       before = refl;

@@ -23,13 +23,13 @@ use Rattle.answers.proofs.Answers.{null_back}
 use Rattle.answers.proofs.Dropped as dropped
 use Rattle.end.specs.Taking.{took_by, took, takes}
 use Rattle.end.specs.declared.end.End.{End}
-use Rattle.end.proofs.Steps.{ours, takes-ind}
+use Rattle.end.proofs.Steps.{ours, takes_ind}
 
 -- a component that is no reply to the outstanding request leaves the end octet for octet as it was
 pub dropped_stays : (access : List ℕ) (e : End) (s : List ℕ) → reply (pos e.used) e.operation s ≡ Dropped → (takes access e s).end ≡ e
 unfolding took
 dropped_stays access e s drops =
-    takes-ind access e s (λ m. m.end ≡ e) (λ _. refl) (λ _ _ _.
+    takes_ind access e s (λ m. m.end ≡ e) (λ _. refl) (λ _ _ _.
     by_bool (took (ours access) e s ≡ e) (eqb e.outstanding 1)
     (λ w. rw w (ap (took_by (ours access) e s) drops))
     (λ w. rw w))
@@ -58,18 +58,18 @@ late_dropped access e s why = dropped_stays access e s (drops why)
   where
     drops : Stray e s → reply (pos e.used) e.operation s ≡ Dropped
     drops (no_element none) = dropped.no_element (pos e.used) e.operation s none
-    drops (goes_on c next is more) = dropped.not-filling (pos e.used) e.operation s c next is more
-    drops (request c next is a1) = dropped.request-dropped (pos e.used) e.operation s c next is a1
+    drops (goes_on c next is more) = dropped.not_filling (pos e.used) e.operation s c next is more
+    drops (request c next is a1) = dropped.request_dropped (pos e.used) e.operation s c next is a1
     drops (null c next is element place stands tag) =
-        dropped.null-identifier (pos e.used) e.operation s c next is element place stands tag
+        dropped.null_identifier (pos e.used) e.operation s c next is element place stands tag
     drops (other c next is identifier place stands differs) =
-        dropped.other-identifier (pos e.used) e.operation s c next is identifier place stands differs
+        dropped.other_identifier (pos e.used) e.operation s c next is identifier place stands differs
 
 -- with nothing outstanding whatever arrives leaves the end as it was
 pub idle_dropped : (access : List ℕ) (e : End) (s : List ℕ) → (e.outstanding ≡ 1 → ⊥) → (takes access e s).end ≡ e
 unfolding took
 idle_dropped access e s free =
-    takes-ind access e s (λ m. m.end ≡ e) (λ _. refl) (λ _ _ _. rw (ne_eqb e.outstanding 1 free))
+    takes_ind access e s (λ m. m.end ≡ e) (λ _. refl) (λ _ _ _. rw (ne_eqb e.outstanding 1 free))
 
 -- a reject that carries NULL for its identifier, as the exchange writes it, leaves the end as it was
 pub null_dropped :

@@ -41,23 +41,23 @@ rules_used e h = leb-true e.used used_most (pick_then (leb e.used used_most) _ h
 
 module _ (most : ℕ) (p : Profile) (e : End) where
   -- where its own rules fail the picture is not looked at
-  pub rules-fail : all (end_rules e) ≡ false → end_good most p e ≡ false
+  pub rules_fail : all (end_rules e) ≡ false → end_good most p e ≡ false
   unfolding end_good
-  rules-fail h = rw h
+  rules_fail h = rw h
 
   -- an end that breaks no rule has used no identifier past the last
-  pub used-most : end_good most p e ≡ true → e.used ≤ used_most
+  pub used_most_lem : end_good most p e ≡ true → e.used ≤ used_most
   unfolding end_good
-  used-most good = rules_used e (pick_then (all (end_rules e)) _ good).0
+  used_most_lem good = rules_used e (pick_then (all (end_rules e)) _ good).0
 
-  pub picture-good : end_good most p e ≡ true → run_good most p e.picture ≡ true
+  pub picture_good : end_good most p e ≡ true → run_good most p e.picture ≡ true
   unfolding end_good
-  picture-good good = (pick_then (run_good most p e.picture) true (pick_then (all (end_rules e)) _ good).1).0
+  picture_good good = (pick_then (run_good most p e.picture) true (pick_then (all (end_rules e)) _ good).1).0
 
   -- where they hold the picture decides
-  pub rules-pass : all (end_rules e) ≡ true → end_good most p e ≡ run_good most p e.picture
+  pub rules_pass : all (end_rules e) ≡ true → end_good most p e ≡ run_good most p e.picture
   unfolding end_good
-  rules-pass h = rw h (pick_last (run_good most p e.picture))
+  rules_pass h = rw h (pick_last (run_good most p e.picture))
 
 module _ (e : End) where
   -- where nothing is outstanding what would be is not looked at
@@ -66,17 +66,17 @@ module _ (e : End) where
   waiting_none h = rw (eq-eqb e.outstanding 0 h)
 
   module _ (some : e.outstanding ≡ 0 → ⊥) where
-    pub waiting-unused : e.used ≡ 0 → waiting_good e ≡ false
+    pub waiting_unused : e.used ≡ 0 → waiting_good e ≡ false
     unfolding waiting_good
-    waiting-unused h = rw (ne_eqb e.outstanding 0 some, le-ltb 0 e.used (omega (arith, h)))
+    waiting_unused h = rw (ne_eqb e.outstanding 0 some, le-ltb 0 e.used (omega (arith, h)))
 
     module _ (used : e.used ≡ 0 → ⊥) where
-      pub waiting-mark : 1 < e.before → waiting_good e ≡ false
+      pub waiting_mark : 1 < e.before → waiting_good e ≡ false
       unfolding waiting_good
-      waiting-mark h = rw (ne_eqb e.outstanding 0 some, lt-ltb 0 e.used (omega (arith, used)), lt-leb e.before 1 h)
+      waiting_mark h = rw (ne_eqb e.outstanding 0 some, lt-ltb 0 e.used (omega (arith, used)), lt-leb e.before 1 h)
 
-      pub waiting-sends : e.before ≤ 1 → waiting_good e ≡ sendable e.operation e.request
+      pub waiting_sends : e.before ≤ 1 → waiting_good e ≡ sendable e.operation e.request
       unfolding waiting_good
-      waiting-sends h =
+      waiting_sends h =
           rw (ne_eqb e.outstanding 0 some, lt-ltb 0 e.used (omega (arith, used)), le-leb e.before 1 h)
           (pick_last (pick (sendable e.operation e.request) true false) ∙ pick_last (sendable e.operation e.request))

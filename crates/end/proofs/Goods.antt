@@ -22,16 +22,16 @@ use Rattle.instances.specs.Run.{instances_of, packed, run_good}
 use Rattle.instances.specs.declared.run.Run.{Run}
 use Rattle.instances.proofs.Goods.{good_run, empty_good}
 use Rattle.rules.specs.Judge.{changed, applied}
-use Rattle.rules.proofs.Changes.{applied-ind}
+use Rattle.rules.proofs.Changes.{applied_ind}
 use Rattle.end.specs.End.{mark_at, marked, fresh_end, closed, used_most, marks_good, waiting_good, end_good}
 use Rattle.end.specs.Sending.{marks_sent, sent, sends}
 use Rattle.end.specs.Listed.{instances_listed, replaced}
 use Rattle.end.specs.Taking.{takes, gives_up}
 use Rattle.end.specs.declared.end.End.{End}
-use Rattle.end.proofs.Ends.{picture-good, rules-pass}
-use Rattle.end.proofs.Steps.{ours, verdict, took-ind, takes-ind, gives-ind, sends-ind}
+use Rattle.end.proofs.Ends.{picture_good, rules_pass}
+use Rattle.end.proofs.Steps.{ours, verdict, took_ind, takes_ind, gives_ind, sends_ind}
 use Rattle.end.proofs.Marks.{GoodRules, good_rules, sent_three}
-use Rattle.end.proofs.Others.{changed-held, replaced_held}
+use Rattle.end.proofs.Others.{changed_held, replaced_held}
 
 -- ---- marks
 
@@ -70,7 +70,7 @@ end_good_lem :
     (p : Profile) (e : End) → e.used ≤ used_most → e.outstanding ≤ 1 → marks_good e.marks ≡ true → waiting_good e ≡ true →
     run_good instances_most p e.picture ≡ true → end_good instances_most p e ≡ true
 end_good_lem p e used flag marks waits picture =
-    rules-pass instances_most p e (rw (le-leb e.used used_most used, le-leb e.outstanding 1 flag, marks, waits)) ∙ picture
+    rules_pass instances_most p e (rw (le-leb e.used used_most used, le-leb e.outstanding 1 flag, marks, waits)) ∙ picture
 
 module _
     (access : List ℕ) (ok : (access_read access).ok ≡ true) (e : End) (good : end_good instances_most (ours access) e ≡ true)
@@ -82,51 +82,51 @@ module _
     rules = good_rules instances_most p e good
 
     -- every way to close a request hands back a good end, if the mark is one and the picture is good
-    closed-good :
+    closed_good :
         (mark : ℕ) (picture : Run) → mark ≤ 1 → run_good instances_most p picture ≡ true →
         end_good instances_most p (closed mark picture e) ≡ true
     unfolding closed waiting_good
-    closed-good mark picture low run =
+    closed_good mark picture low run =
         end_good_lem p (closed mark picture e) rules.used (omega arith)
         (marked_good e.request.procedure mark e.marks low rules.flags)
         refl run
 
     held : run_good instances_most p e.picture ≡ true
-    held = picture-good instances_most p e good
+    held = picture_good instances_most p e good
 
-    applied-run : e.outstanding ≡ 1 → verdict p e ≡ none → run_good instances_most p (applied p e.operation e.request e.picture) ≡ true
-    applied-run waits passes =
+    applied_run : e.outstanding ≡ 1 → verdict p e ≡ none → run_good instances_most p (applied p e.operation e.request e.picture) ≡ true
+    applied_run waits passes =
         let next = changed p e.operation e.request (instances_of e.picture) in
-        applied-ind p e.operation e.request e.picture (λ u. run_good instances_most p u ≡ true)
-        (good_run p next (changed-held access e ok good waits passes))
+        applied_ind p e.operation e.request e.picture (λ u. run_good instances_most p u ≡ true)
+        (good_run p next (changed_held access e ok good waits passes))
         held
 
     -- whatever arrives, the end that is handed back breaks no rule
-    pub takes-good : (s : List ℕ) → end_good instances_most p (takes access e s).end ≡ true
-    takes-good s =
-        takes-ind access e s (λ m. end_good instances_most p m.end ≡ true) (λ _. good) (λ _ _ _.
-        took-ind p e s (λ n. end_good instances_most p n ≡ true)
+    pub takes_good : (s : List ℕ) → end_good instances_most p (takes access e s).end ≡ true
+    takes_good s =
+        takes_ind access e s (λ m. end_good instances_most p m.end ≡ true) (λ _. good) (λ _ _ _.
+        took_ind p e s (λ n. end_good instances_most p n ≡ true)
         (λ _. good)
-        (λ _ _. closed-good (mark_no doubt) e.picture (omega arith) held)
-        (λ waits _ _. closed-good e.before e.picture (rules.fits waits).0 held)
+        (λ _ _. closed_good (mark_no doubt) e.picture (omega arith) held)
+        (λ waits _ _. closed_good e.before e.picture (rules.fits waits).0 held)
         (λ waits _ passes.
-        closed-good e.before (applied p e.operation e.request e.picture) (rules.fits waits).0 (applied-run waits passes))
+        closed_good e.before (applied p e.operation e.request e.picture) (rules.fits waits).0 (applied_run waits passes))
         (λ waits _ _ es _ _ _ list.
         let next = replaced e.request.procedure (instances_listed p es) (instances_of e.picture) in
-        closed-good (mark_no known) (packed next) (omega arith)
+        closed_good (mark_no known) (packed next) (omega arith)
         (good_run p next (replaced_held access e ok good waits (instances_listed p es) list))))
 
     -- nor does the one that gave up
-    pub gives-good : end_good instances_most p (gives_up access e).end ≡ true
-    gives-good =
-        gives-ind access e (λ m. end_good instances_most p m.end ≡ true) (λ _. good) (λ _. good) (λ _ _ _.
-        closed-good (mark_no doubt) e.picture (omega arith) held)
+    pub gives_good : end_good instances_most p (gives_up access e).end ≡ true
+    gives_good =
+        gives_ind access e (λ m. end_good instances_most p m.end ≡ true) (λ _. good) (λ _. good) (λ _ _ _.
+        closed_good (mark_no doubt) e.picture (omega arith) held)
 
     -- nor the one that has sent
-    pub sends-good : (operation : ℕ) (r : Request) (size : ℕ) → end_good instances_most p (sends access operation r e size).end ≡ true
+    pub sends_good : (operation : ℕ) (r : Request) (size : ℕ) → end_good instances_most p (sends access operation r e size).end ≡ true
     unfolding sent marks_sent waiting_good
-    sends-good operation r size =
-        sends-ind access e operation r size (λ d. end_good instances_most p d.end ≡ true) (λ _. good) (λ _ _ more fit.
+    sends_good operation r size =
+        sends_ind access e operation r size (λ d. end_good instances_most p d.end ≡ true) (λ _. good) (λ _ _ more fit.
         let low = marks_two e.marks rules.flags r.procedure (sent_three operation r fit) in
         end_good_lem p (sent operation r e) (omega (arith, rules.used, more)) (omega arith)
         (pick_ind (λ l. marks_good l ≡ true) (eqb operation interrogation)
@@ -159,9 +159,9 @@ pub data Reached (access : List ℕ) : End → Type 0 where
 pub reached_good :
     (access : List ℕ) → (access_read access).ok ≡ true → (e : End) → Reached access e → end_good instances_most (ours access) e ≡ true
 reached_good access ok _ begins = fresh_good (ours access)
-reached_good access ok _ (sending e way operation r size) = sends-good access ok e (reached_good access ok e way) operation r size
-reached_good access ok _ (taking e way s) = takes-good access ok e (reached_good access ok e way) s
-reached_good access ok _ (giving e way) = gives-good access ok e (reached_good access ok e way)
+reached_good access ok _ (sending e way operation r size) = sends_good access ok e (reached_good access ok e way) operation r size
+reached_good access ok _ (taking e way s) = takes_good access ok e (reached_good access ok e way) s
+reached_good access ok _ (giving e way) = gives_good access ok e (reached_good access ok e way)
 
 -- ---- its marks
 
@@ -181,12 +181,12 @@ pub reached_marks : (access : List ℕ) (e : End) → Reached access e → lengt
 reached_marks access _ begins = refl
 reached_marks access _ (sending e way operation r size) =
     let long = reached_marks access e way in
-    sends-ind access e operation r size (λ d. length d.end.marks ≡ 3) (λ _. long) (λ _ _ _ _. sent_long operation r e long)
+    sends_ind access e operation r size (λ d. length d.end.marks ≡ 3) (λ _. long) (λ _ _ _ _. sent_long operation r e long)
 reached_marks access _ (taking e way s) =
     let long = reached_marks access e way in
     let p = ours access in
-    takes-ind access e s (λ m. length m.end.marks ≡ 3) (λ _. long) (λ _ _ _.
-    took-ind p e s (λ n. length n.marks ≡ 3)
+    takes_ind access e s (λ m. length m.end.marks ≡ 3) (λ _. long) (λ _ _ _.
+    took_ind p e s (λ n. length n.marks ≡ 3)
     (λ _. long)
     (λ _ _. closed_three (mark_no doubt) e.picture e long)
     (λ _ _ _. closed_three e.before e.picture e long)
@@ -195,4 +195,4 @@ reached_marks access _ (taking e way s) =
     closed_three (mark_no known) (packed (replaced e.request.procedure (instances_listed p es) (instances_of e.picture))) e long))
 reached_marks access _ (giving e way) =
     let long = reached_marks access e way in
-    gives-ind access e (λ m. length m.end.marks ≡ 3) (λ _. long) (λ _. long) (λ _ _ _. closed_three (mark_no doubt) e.picture e long)
+    gives_ind access e (λ m. length m.end.marks ≡ 3) (λ _. long) (λ _. long) (λ _ _ _. closed_three (mark_no doubt) e.picture e long)

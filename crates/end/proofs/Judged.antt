@@ -10,7 +10,7 @@ use Rattle.laws.specs.Tests.{all}
 use Rattle.laws.proofs.Picks.{by_bool}
 use Rattle.laws.proofs.Tests.{both_hold}
 use Rattle.laws.proofs.Thoses.{those_most}
-use Rattle.laws.proofs.Eaches.{each-so}
+use Rattle.laws.proofs.Eaches.{each_so}
 use Rattle.profile.specs.Profile.{subscribed_services}
 use Rattle.profile.specs.declared.profile.Profile.{Profile}
 use Rattle.lists.specs.Entries.{instances_most}
@@ -20,13 +20,13 @@ use Rattle.instances.specs.Run.{instances_of, is_of, count_of, ascending, each_g
 use Rattle.instances.specs.declared.instance.Instance.{Instance}
 use Rattle.instances.specs.declared.run.Run.{Run}
 use Rattle.instances.proofs.Runs.{outside}
-use Rattle.instances.proofs.Orders.{sound, sound-on, sound-low, sound-bad, sound_none}
+use Rattle.instances.proofs.Orders.{sound, sound_on, sound_low, sound_bad, sound_none}
 use Rattle.instances.proofs.Keys.{up_of, up_ascending}
-use Rattle.instances.proofs.Fits.{Fits, fits-of, fits-is, goods_of, goods_all}
+use Rattle.instances.proofs.Fits.{Fits, fits_of, fits_is, goods_of, goods_all}
 use Rattle.end.specs.Listed.{list_good}
-use Rattle.end.proofs.GoodLists.{is-list, list-is}
+use Rattle.end.proofs.GoodLists.{is_list, list_is}
 use Rattle.end.proofs.Pictures.{each_both}
-use Rattle.end.proofs.Replaced.{Met, met-is, met-none}
+use Rattle.end.proofs.Replaced.{Met, met_is, met_none}
 
 -- ---- one instance
 
@@ -41,7 +41,7 @@ Obeys p x = Fits p.subscribed p.numbercount (subscribed_services p) x
 -- it is fair if it is of the procedure and obeys them
 is_fair : (p : Profile) (procedure : ℕ) (x : Instance) → x.procedure ≡ procedure → Obeys p x → fair p procedure x ≡ true
 is_fair p procedure x own so =
-    rw (eq-eqb x.procedure procedure own, fits-is p.subscribed p.numbercount (subscribed_services p) x so)
+    rw (eq-eqb x.procedure procedure own, fits_is p.subscribed p.numbercount (subscribed_services p) x so)
 
 -- and not if it cannot be both
 not_fair : (p : Profile) (procedure : ℕ) (x : Instance) → (x.procedure ≡ procedure → Obeys p x → ⊥) → fair p procedure x ≡ false
@@ -49,7 +49,7 @@ not_fair p procedure x h =
     by_bool (fair p procedure x ≡ false) (fair p procedure x)
     (λ t.
     let b = both_hold (is_of procedure x) (instance_good p x) t in
-    absurd (h (eqb-true x.procedure procedure b.0) (fits-of p.subscribed p.numbercount (subscribed_services p) x b.1)))
+    absurd (h (eqb-true x.procedure procedure b.0) (fits_of p.subscribed p.numbercount (subscribed_services p) x b.1)))
     (λ t. t)
 
 -- ---- the list
@@ -71,16 +71,16 @@ judged_by p procedure l few =
     let most : (q : ℕ) → count_of q l ≤ instances_most = λ q. omega (arith, few, those_most (is_of q) l) in
     same_tests (list_good instances_most p procedure l) (sound (fair p procedure) 0 l)
     (λ h.
-    let is = list-is instances_most p procedure l h in
-    let each = each-so (λ x. Own x × Good x) Fair (λ x t. rw (t.0, t.1)) l (each_both Own Good l is.0 is.1.each) in
+    let is = list_is instances_most p procedure l h in
+    let each = each_so (λ x. Own x × Good x) Fair (λ x t. rw (t.0, t.1)) l (each_both Own Good l is.0 is.1.each) in
     rw (up_ascending 0 l is.1.ascends, goods_all (fair p procedure) l each))
     (λ h.
     let is = both_hold (ascending 0 l) (each_good (fair p procedure) l) h in
     let each = goods_of (fair p procedure) l is.1 in
-    is-list instances_most p procedure l
-    (each-so Fair Own (λ x t. (both_hold (is_of procedure x) (instance_good p x) t).0) l each) record {
+    is_list instances_most p procedure l
+    (each_so Fair Own (λ x t. (both_hold (is_of procedure x) (instance_good p x) t).0) l each) record {
       ascends = up_of 0 l is.0;
-      each = each-so Fair Good (λ x t. (both_hold (is_of procedure x) (instance_good p x) t).1) l each;
+      each = each_so Fair Good (λ x t. (both_hold (is_of procedure x) (instance_good p x) t).1) l each;
       few = (most 0, most 1, most 2);
     })
 
@@ -106,16 +106,16 @@ module _
 
     -- the next is not fair, has no higher key than the one before it, or neither
     module _ (h : i < n) where
-      pub judged-unfair : (x.procedure ≡ procedure → Obeys p x → ⊥) → list_good instances_most p procedure (instances_of run) ≡ false
-      judged-unfair bad = judged ∙ sound-bad (fair p procedure) _ _ x (met-is run n i met h) below (not_fair p procedure x bad)
+      pub judged_unfair : (x.procedure ≡ procedure → Obeys p x → ⊥) → list_good instances_most p procedure (instances_of run) ≡ false
+      judged_unfair bad = judged ∙ sound_bad (fair p procedure) _ _ x (met_is run n i met h) below (not_fair p procedure x bad)
 
-      pub judged-low : key_of x ≤ below → list_good instances_most p procedure (instances_of run) ≡ false
-      judged-low low = judged ∙ sound-low (fair p procedure) _ _ x (met-is run n i met h) below low
+      pub judged_low : key_of x ≤ below → list_good instances_most p procedure (instances_of run) ≡ false
+      judged_low low = judged ∙ sound_low (fair p procedure) _ _ x (met_is run n i met h) below low
 
-      pub judged-on : below < key_of x → x.procedure ≡ procedure → Obeys p x → Judged p procedure run (key_of x) (i + 1)
-      judged-on above own good =
-          so ∙ sound-on (fair p procedure) _ _ x (met-is run n i met h) below above (is_fair p procedure x own good)
+      pub judged_on : below < key_of x → x.procedure ≡ procedure → Obeys p x → Judged p procedure run (key_of x) (i + 1)
+      judged_on above own good =
+          so ∙ sound_on (fair p procedure) _ _ x (met_is run n i met h) below above (is_fair p procedure x own good)
 
     -- all were met
-    pub judged-all : n ≤ i → list_good instances_most p procedure (instances_of run) ≡ true
-    judged-all h = judged ∙ sound_none (fair p procedure) below _ (met-none run n i met h)
+    pub judged_all : n ≤ i → list_good instances_most p procedure (instances_of run) ≡ true
+    judged_all h = judged ∙ sound_none (fair p procedure) below _ (met_none run n i met h)

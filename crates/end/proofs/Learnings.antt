@@ -57,27 +57,27 @@ module _
         omega (arith, many, length-map es (instance_for p), length-take list.count list.entries, long)
 
     -- it has room for them all
-    new-all : instances_of new ≡ instances_listed p (entries_in list)
-    new-all = ap instances_of made ∙ packed_all (instances_listed p (entries_in list)) (omega (arith, few))
+    new_all : instances_of new ≡ instances_listed p (entries_in list)
+    new_all = ap instances_of made ∙ packed_all (instances_listed p (entries_in list)) (omega (arith, few))
 
     -- and counts them
-    pub new-few : new.count ≤ instances_most
-    new-few = rw made (omega (arith, few, length-take run_most (instances_listed p (entries_in list))))
+    pub new_few : new.count ≤ instances_most
+    new_few = rw made (omega (arith, few, length-take run_most (instances_listed p (entries_in list))))
 
     -- the addresses are those of the entries
-    pub new-held : Each HoldsAddress (entries_in list) → each_good address_held (instances_of new) ≡ true
-    new-held held =
-        ap (each_good address_held) new-all
+    pub new_held : Each HoldsAddress (entries_in list) → each_good address_held (instances_of new) ≡ true
+    new_held held =
+        ap (each_good address_held) new_all
         ∙ goods_all address_held (instances_listed p (entries_in list)) (listed_each (λ x. address_held x ≡ true) p (entries_in list) held)
 
 -- ---- the list
 
 module _ (p : Profile) (e : End) where
   -- no list
-  pub learned-wrong :
+  pub learned_wrong :
       (g : Got (List Entry)) (read : EntriesRead) → read ≡ entries_read g → read.ok ≡ false → doubted e ≡ learned_by p e g
-  learned-wrong (got es next) read is bad = absurd (false≢true (sym bad ∙ ap (λ (r : EntriesRead). r.ok) is))
-  learned-wrong wrong read is bad = refl
+  learned_wrong (got es next) read is bad = absurd (false≢true (sym bad ∙ ap (λ (r : EntriesRead). r.ok) is))
+  learned_wrong wrong read is bad = refl
 
   -- a list, with its entries
   pub record Entered (g : Got (List Entry)) (list : Entries) : Type 0 where
@@ -98,16 +98,16 @@ module _ (p : Profile) (e : End) where
       new_is : instances_of new ≡ instances_listed p es
       new_is =
           let all : entries_in list ≡ es = ap entries_in is ∙ take-append_seam es (replicate (instances_most - length es) no_entry) in
-          new-all p list long new made ∙ ap (instances_listed p) all
+          new_all p list long new made ∙ ap (instances_listed p) all
 
-      pub learned-bad :
+      pub learned_bad :
           list_good instances_most p e.request.procedure (instances_of new) ≡ false → doubted e ≡ learned p e es
       unfolding learned
-      learned-bad bad = rw (sym new_is, bad)
+      learned_bad bad = rw (sym new_is, bad)
 
-      pub learned-good :
+      pub learned_good :
           list_good instances_most p e.request.procedure (instances_of new) ≡ true →
           (next : Run) → next ≡ packed (replaced e.request.procedure (instances_of new) (instances_of e.picture)) →
           closed (mark_no known) next e ≡ learned p e es
       unfolding learned
-      learned-good good next is-next = rw (sym new_is, good, is-next)
+      learned_good good next is-next = rw (sym new_is, good, is-next)

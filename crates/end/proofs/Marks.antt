@@ -18,7 +18,7 @@ use Rattle.laws.specs.Mark.{known, doubt, mark_no}
 use Rattle.laws.proofs.Picks.{pick_ind, pick_then, by_bool}
 use Rattle.laws.proofs.Tests.{all_at}
 use Rattle.refusals.specs.Refusal.{refusal_no, refuses, tells, component_most}
-use Rattle.refusals.proofs.Refusals.{refuses-not}
+use Rattle.refusals.proofs.Refusals.{refuses_not}
 use Rattle.codes.specs.Codes.{interrogation}
 use Rattle.profile.specs.Access.{access_read}
 use Rattle.profile.specs.Profile.{flag}
@@ -42,26 +42,26 @@ use Rattle.end.specs.Taking.{doubted, applied_by, learned, learned_by, took_by, 
 use Rattle.end.specs.declared.end.End.{End}
 use Rattle.end.proofs.Ends.{mark_past, marked_past}
 use Rattle.end.proofs.Movings.{takes_all, gives_all, gave_doubt}
-use Rattle.end.proofs.Steps.{ours, reply_to, verdict, Doubts, rejects, fails, unread, bad, shapeless, took-ind, takes-ind, gives-ind, sends-ind}
+use Rattle.end.proofs.Steps.{ours, reply_to, verdict, Doubts, rejects, fails, unread, bad, shapeless, took_ind, takes_ind, gives_ind, sends_ind}
 
 -- ---- marks
 
 module _ (procedure mark : ℕ) (marks : List ℕ) where
   -- the mark that was put
-  pub mark-put : procedure < length marks → mark_at procedure (marked procedure mark marks) ≡ mark
+  pub mark_put : procedure < length marks → mark_at procedure (marked procedure mark marks) ≡ mark
   unfolding mark_at marked
-  mark-put h = get_or-set_same marks procedure mark (mark_no doubt) h
+  mark_put h = get_or-set_same marks procedure mark (mark_no doubt) h
 
   -- every other mark stays
-  pub mark-other : (q : ℕ) → (q ≡ procedure → ⊥) → mark_at q (marked procedure mark marks) ≡ mark_at q marks
+  pub mark_other : (q : ℕ) → (q ≡ procedure → ⊥) → mark_at q (marked procedure mark marks) ≡ mark_at q marks
   unfolding mark_at marked
-  mark-other q other = get_or-set_other marks procedure q mark (mark_no doubt) other
+  mark_other q other = get_or-set_other marks procedure q mark (mark_no doubt) other
 
 -- doubt can be put anywhere
 pub doubt_put : (procedure : ℕ) (marks : List ℕ) → mark_at procedure (marked procedure (mark_no doubt) marks) ≡ mark_no doubt
 doubt_put procedure marks =
     by_bool (mark_at procedure (marked procedure (mark_no doubt) marks) ≡ mark_no doubt) (ltb procedure (length marks))
-    (λ h. mark-put procedure (mark_no doubt) marks (ltb-true procedure (length marks) h))
+    (λ h. mark_put procedure (mark_no doubt) marks (ltb-true procedure (length marks) h))
     (λ h.
     let past = ltb-false procedure (length marks) h in
     ap (mark_at procedure) (marked_past procedure (mark_no doubt) marks past) ∙ mark_past procedure marks past)
@@ -112,69 +112,69 @@ sent_three operation r fit = ltb-true r.procedure 3 (sym (procedure_code_lem r.p
 
 module _ (p : Profile) (e : End) (s : List ℕ) (waits : e.outstanding ≡ 1) where
   -- a reply for the outstanding request does what its kind says
-  pub took-said : (r : Reply) → reply_to e s ≡ r → took p e s ≡ took_by p e s r
+  pub took_said : (r : Reply) → reply_to e s ≡ r → took p e s ≡ took_by p e s r
   unfolding took
-  took-said r is = rw (eq-eqb e.outstanding 1 waits) (ap (took_by p e s) is)
+  took_said r is = rw (eq-eqb e.outstanding 1 waits) (ap (took_by p e s) is)
 
   -- what gives doubt puts the procedure in doubt, and does nothing else
-  pub took-doubt : Doubts p e s → took p e s ≡ doubted e
+  pub took_doubt : Doubts p e s → took p e s ≡ doubted e
   unfolding learned
-  took-doubt (rejects is) = took-said Rejected is
-  took-doubt (fails is error fail) = took-said Done is ∙ ap (applied_by p e) fail
-  took-doubt (unread at end is not) = took-said (Listed at end) is ∙ ap (learned_by p e) not
-  took-doubt (bad at end is es next read poor) =
-      took-said (Listed at end) is ∙ (ap (learned_by p e) read ∙ rw poor)
-  took-doubt (shapeless is) = took-said Wrong is
+  took_doubt (rejects is) = took_said Rejected is
+  took_doubt (fails is error fail) = took_said Done is ∙ ap (applied_by p e) fail
+  took_doubt (unread at end is not) = took_said (Listed at end) is ∙ ap (learned_by p e) not
+  took_doubt (bad at end is es next read poor) =
+      took_said (Listed at end) is ∙ (ap (learned_by p e) read ∙ rw poor)
+  took_doubt (shapeless is) = took_said Wrong is
 
 module _
     (access : List ℕ) (e : End) (ok : (access_read access).ok ≡ true) (good : end_good instances_most (ours access) e ≡ true)
     (waits : e.outstanding ≡ 1)
   where
-    doubted-mark : mark_at e.request.procedure (doubted e).marks ≡ mark_no doubt
-    doubted-mark =
+    doubted_mark : mark_at e.request.procedure (doubted e).marks ≡ mark_no doubt
+    doubted_mark =
         ap (mark_at e.request.procedure) (closed_marks (mark_no doubt) e.picture e) ∙ doubt_put e.request.procedure e.marks
 
     -- giving up leaves the procedure of the outstanding request in doubt
-    pub gave-up-doubt : mark_at e.request.procedure (gives_up access e).end.marks ≡ mark_no doubt
-    gave-up-doubt =
+    pub gave_up_doubt : mark_at e.request.procedure (gives_up access e).end.marks ≡ mark_no doubt
+    gave_up_doubt =
         ap (λ (m : Moves). mark_at e.request.procedure m.end.marks) (gives_all access e ok good ∙ ap moved (gave_doubt e waits))
-        ∙ doubted-mark
+        ∙ doubted_mark
 
     module _ (s : List ℕ) (fair : length s ≤ component_most) where
       -- whatever reply gives doubt leaves the procedure of the outstanding request in doubt, and the picture as it was
-      pub reply-doubt :
+      pub reply_doubt :
           Doubts (ours access) e s →
           (mark_at e.request.procedure (takes access e s).end.marks ≡ mark_no doubt) × ((takes access e s).end.picture ≡ e.picture)
-      reply-doubt why =
+      reply_doubt why =
           let is : takes access e s ≡ moved (doubted e) =
-          takes_all access e s fair ok good ∙ ap moved (took-doubt (ours access) e s waits why) in (
-            ap (λ (m : Moves). mark_at e.request.procedure m.end.marks) is ∙ doubted-mark,
+          takes_all access e s fair ok good ∙ ap moved (took_doubt (ours access) e s waits why) in (
+            ap (λ (m : Moves). mark_at e.request.procedure m.end.marks) is ∙ doubted_mark,
             ap (λ (m : Moves). m.end.picture) is ∙ closed_picture (mark_no doubt) e.picture e,
           )
 
       -- a reject leaves the procedure of the outstanding request in doubt
-      pub reject-doubt :
+      pub reject_doubt :
           reply (pos e.used) e.operation s ≡ Rejected →
           mark_at e.request.procedure (takes access e s).end.marks ≡ mark_no doubt
-      reject-doubt is = (reply-doubt (rejects is)).0
+      reject_doubt is = (reply_doubt (rejects is)).0
 
       -- so does a reply of the wrong shape
-      pub wrong-doubt :
+      pub wrong_doubt :
           reply (pos e.used) e.operation s ≡ Wrong →
           mark_at e.request.procedure (takes access e s).end.marks ≡ mark_no doubt
-      wrong-doubt is = (reply-doubt (shapeless is)).0
+      wrong_doubt is = (reply_doubt (shapeless is)).0
 
       -- an error restores the mark from before sending, and leaves the picture as it was
-      pub error-restores :
+      pub error_restores :
           length e.marks ≡ 3 → (value : ℤ) → reply (pos e.used) e.operation s ≡ Failed value →
           (mark_at e.request.procedure (takes access e s).end.marks ≡ e.before) × ((takes access e s).end.picture ≡ e.picture)
-      error-restores long value failed =
+      error_restores long value failed =
           let is : takes access e s ≡ moved (closed e.before e.picture e) =
-          takes_all access e s fair ok good ∙ ap moved (took-said (ours access) e s waits (Failed value) failed) in
+          takes_all access e s fair ok good ∙ ap moved (took_said (ours access) e s waits (Failed value) failed) in
           let three = sent_three e.operation e.request ((good_rules instances_most (ours access) e good).fits waits).1 in (
             ap (λ (m : Moves). mark_at e.request.procedure m.end.marks) is
                 ∙ (ap (mark_at e.request.procedure) (closed_marks e.before e.picture e)
-                ∙ mark-put e.request.procedure e.before e.marks (omega (arith, long, three))),
+                ∙ mark_put e.request.procedure e.before e.marks (omega (arith, long, three))),
             ap (λ (m : Moves). m.end.picture) is ∙ closed_picture e.before e.picture e,
           )
 
@@ -217,13 +217,13 @@ known_put procedure mark q marks says =
     inl (same, own same))
     (λ h.
     let not = eqb-false q procedure h in
-    inr (not, sym (mark-other procedure mark marks q not) ∙ says))
+    inr (not, sym (mark_other procedure mark marks q not) ∙ says))
   where
     own : q ≡ procedure → mark ≡ mark_no known
     own same =
         by_bool (mark ≡ mark_no known) (ltb procedure (length marks))
         (λ h.
-        sym (mark-put procedure mark marks (ltb-true procedure (length marks) h))
+        sym (mark_put procedure mark marks (ltb-true procedure (length marks) h))
         ∙ (ap (λ k. mark_at k (marked procedure mark marks)) (sym same) ∙ says))
         (λ h.
         let past = ltb-false procedure (length marks) h in
@@ -236,11 +236,11 @@ module _ (access : List ℕ) (e : End) (s : List ℕ) (q : ℕ) where
   Known m = mark_at q m.end.marks ≡ mark_no known → Why (ours access) e s q m
 
   -- after a request is closed: by the mark that its procedure gets, or as before
-  by-closed :
+  by_closed :
       (mark : ℕ) (picture : Run) → ((q ≡ e.request.procedure) → mark ≡ mark_no known → Why (ours access) e s q
       (moved (closed mark picture e))) →
       Known (moved (closed mark picture e))
-  by-closed mark picture own says =
+  by_closed mark picture own says =
       ⊎_elim
       (λ same. own same.0 same.1)
       (λ not. other not.1 not.0)
@@ -250,19 +250,19 @@ module _ (access : List ℕ) (e : End) (s : List ℕ) (q : ℕ) where
   pub known_from : mark_at q (takes access e s).end.marks ≡ mark_no known → Why (ours access) e s q (takes access e s)
   known_from =
       let p = ours access in
-      takes-ind access e s Known (λ refusal says. refused says (refusal_no refusal) refl refl) (λ _ _ _.
-      took-ind p e s (λ n. Known (moved n))
+      takes_ind access e s Known (λ refusal says. refused says (refusal_no refusal) refl refl) (λ _ _ _.
+      took_ind p e s (λ n. Known (moved n))
       (λ why says. ⊎_elim (λ free. idle says free refl) (λ drop. dropped says drop refl) why)
-      (λ _ _. by-closed (mark_no doubt) e.picture (λ _ never. absurd (omega (arith, never))))
+      (λ _ _. by_closed (mark_no doubt) e.picture (λ _ never. absurd (omega (arith, never))))
       (λ waits value is.
-      by-closed e.before e.picture (λ own before.
+      by_closed e.before e.picture (λ own before.
       restored own waits before value is (closed_picture e.before e.picture e)))
       (λ waits is passes.
       let next : Run = applied p e.operation e.request e.picture in
-      by-closed e.before next (λ own before. applies own waits before is passes (closed_picture e.before next e)))
+      by_closed e.before next (λ own before. applies own waits before is passes (closed_picture e.before next e)))
       (λ waits at end es next is read good.
       let new : Run = packed (replaced e.request.procedure (instances_listed p es) (instances_of e.picture)) in
-      by-closed (mark_no known) new (λ own _. learns own waits at end es next is read good (closed_picture (mark_no known) new e))))
+      by_closed (mark_no known) new (λ own _. learns own waits at end es next is read good (closed_picture (mark_no known) new e))))
 
 -- sending makes no procedure known that was in doubt
 pub sends_known :
@@ -270,7 +270,7 @@ pub sends_known :
     mark_at q (sends access operation r e size).end.marks ≡ mark_no known → mark_at q e.marks ≡ mark_no known
 unfolding sent marks_sent
 sends_known access operation r e size q =
-    sends-ind access e operation r size (λ d. mark_at q d.end.marks ≡ mark_no known → mark_at q e.marks ≡ mark_no known) (λ _ says. says)
+    sends_ind access e operation r size (λ d. mark_at q d.end.marks ≡ mark_no known → mark_at q e.marks ≡ mark_no known) (λ _ says. says)
     (λ _ _ _ _.
     pick_ind (λ l. mark_at q l ≡ mark_no known → mark_at q e.marks ≡ mark_no known) (eqb operation interrogation)
     {x = e.marks}
@@ -284,7 +284,7 @@ pub gives_known :
     (access : List ℕ) (e : End) (q : ℕ) →
     mark_at q (gives_up access e).end.marks ≡ mark_no known → mark_at q e.marks ≡ mark_no known
 gives_known access e q =
-    gives-ind access e (λ m. mark_at q m.end.marks ≡ mark_no known → mark_at q e.marks ≡ mark_no known) (λ _ says. says) (λ _ says. says)
+    gives_ind access e (λ m. mark_at q m.end.marks ≡ mark_no known → mark_at q e.marks ≡ mark_no known) (λ _ says. says) (λ _ says. says)
     (λ _ _ _ says.
     let put = sym (ap (mark_at q) (closed_marks (mark_no doubt) e.picture e)) ∙ says in
     ⊎_elim (λ own. absurd (omega (arith, own.1))) (λ not. not.1) (known_put e.request.procedure (mark_no doubt) q e.marks put))
@@ -296,6 +296,6 @@ pub sends_doubt :
     mark_at r.procedure (sends access operation r e size).end.marks ≡ mark_no doubt
 unfolding sent marks_sent
 sends_doubt access operation r e size changes =
-    sends-ind access e operation r size (λ d. d.told ≡ tells tt → mark_at r.procedure d.end.marks ≡ mark_no doubt)
-    (λ _ h. absurd (refuses-not _ _ h))
+    sends_ind access e operation r size (λ d. d.told ≡ tells tt → mark_at r.procedure d.end.marks ≡ mark_no doubt)
+    (λ _ h. absurd (refuses_not _ _ h))
     (λ _ _ _ _ _. rw (ne_eqb operation interrogation changes) (doubt_put r.procedure e.marks))

@@ -28,19 +28,19 @@ use Rattle.end.specs.declared.take.Moved.{Moved}
 
 module _ (access : List ℕ) (e : End) where
   module _ (s : List ℕ) where
-    pub takes-long : component_most < length s → takes access e s ≡ not_moved e LongComponent
+    pub takes_long : component_most < length s → takes access e s ≡ not_moved e LongComponent
     unfolding takes
-    takes-long long = rw (lt-ltb component_most (length s) long)
+    takes_long long = rw (lt-ltb component_most (length s) long)
 
     module _ (fair : length s ≤ component_most) where
-      pub takes-profile : (access_read access).ok ≡ false → takes access e s ≡ not_moved e BadProfile
+      pub takes_profile : (access_read access).ok ≡ false → takes access e s ≡ not_moved e BadProfile
       unfolding takes
-      takes-profile bad = rw (le-ltb component_most (length s) fair, bad)
+      takes_profile bad = rw (le-ltb component_most (length s) fair, bad)
 
       module _ (ok : (access_read access).ok ≡ true) where
-        pub takes-end : end_good instances_most (access_read access).profile e ≡ false → takes access e s ≡ not_moved e BadTable
+        pub takes_end : end_good instances_most (access_read access).profile e ≡ false → takes access e s ≡ not_moved e BadTable
         unfolding takes
-        takes-end bad = rw (le-ltb component_most (length s) fair, ok, bad)
+        takes_end bad = rw (le-ltb component_most (length s) fair, ok, bad)
 
         pub takes_all :
             end_good instances_most (access_read access).profile e ≡ true →
@@ -48,14 +48,14 @@ module _ (access : List ℕ) (e : End) where
         unfolding takes
         takes_all good = rw (le-ltb component_most (length s) fair, ok, good)
 
-  pub gives-profile : (access_read access).ok ≡ false → gives_up access e ≡ not_moved e BadProfile
+  pub gives_profile : (access_read access).ok ≡ false → gives_up access e ≡ not_moved e BadProfile
   unfolding gives_up
-  gives-profile bad = rw bad
+  gives_profile bad = rw bad
 
   module _ (ok : (access_read access).ok ≡ true) where
-    pub gives-end : end_good instances_most (access_read access).profile e ≡ false → gives_up access e ≡ not_moved e BadTable
+    pub gives_end : end_good instances_most (access_read access).profile e ≡ false → gives_up access e ≡ not_moved e BadTable
     unfolding gives_up
-    gives-end bad = rw (ok, bad)
+    gives_end bad = rw (ok, bad)
 
     pub gives_all : end_good instances_most (access_read access).profile e ≡ true → gives_up access e ≡ moved (gave_up e)
     unfolding gives_up
@@ -84,16 +84,16 @@ all_moves d e next is made = record { end = rw (is, made); told = rw is }
 module _ (p : Profile) (e : End) (v : Verdict)
     (judged : verdict_no v ≡ judge instances_most p e.operation e.request (instances_of e.picture)) where
   -- the rules give an error on the picture
-  pub applied-fails :
+  pub applied_fails :
       (error : ℕ) → v ≡ Fails error →
       doubted e ≡ applied_by p e (judge instances_most p e.operation e.request (instances_of e.picture))
-  applied-fails error is = ap (applied_by p e) (sym (ap verdict_no is) ∙ judged)
+  applied_fails error is = ap (applied_by p e) (sym (ap verdict_no is) ∙ judged)
 
-  pub applied-passes :
+  pub applied_passes :
       (renews : Bool) → v ≡ Passes renews →
       closed e.before (applied p e.operation e.request e.picture) e
       ≡ applied_by p e (judge instances_most p e.operation e.request (instances_of e.picture))
-  applied-passes renews is = ap (applied_by p e) (sym (ap verdict_no is) ∙ judged)
+  applied_passes renews is = ap (applied_by p e) (sym (ap verdict_no is) ∙ judged)
 
 -- ---- what a reply does, told by the reader's answer
 

@@ -9,8 +9,8 @@ use lib.Dec.{eqb}
 use borrow.Author.Tests.{ne_eqb, eqb-true, eqb-false}
 use Rattle.laws.proofs.Picks.{by_bool}
 use Rattle.laws.proofs.Tests.{both_hold}
-use Rattle.laws.proofs.Thoses.{those_none, those-skip, those_fewer}
-use Rattle.laws.proofs.Eaches.{Each, each-so, each-those}
+use Rattle.laws.proofs.Thoses.{those_none, those_skip, those_fewer}
+use Rattle.laws.proofs.Eaches.{Each, each_so, each_those}
 use Rattle.numbers.specs.Address.{blank_address}
 use Rattle.profile.specs.Profile.{profile_good}
 use Rattle.profile.specs.declared.profile.Profile.{Profile}
@@ -24,14 +24,14 @@ use Rattle.instances.proofs.Choices.{spared_other}
 use Rattle.instances.proofs.Counts.{count_merged}
 use Rattle.instances.proofs.Keys.{Small, key_same, each_merged, up_merged}
 use Rattle.instances.proofs.Fits.{goods_of}
-use Rattle.instances.proofs.Goods.{GoodList, good_list, list_good_lem, good_short, cleared_good, small-good}
+use Rattle.instances.proofs.Goods.{GoodList, good_list, list_good_lem, good_short, cleared_good, small_good}
 use Rattle.end.specs.Listed.{list_good, every_of, replaced}
 
 -- ---- none of a procedure
 
 none_of : (q : ℕ) (l : List Instance) → Each (λ x. is_of q x ≡ false) l → count_of q l ≡ 0
 none_of q [] h = ap length (those_none (is_of q) [] refl)
-none_of q (x ∷ l) h = ap length (those-skip (is_of q) (x ∷ l) l x refl h.0) ∙ none_of q l h.1
+none_of q (x ∷ l) h = ap length (those_skip (is_of q) (x ∷ l) l x refl h.0) ∙ none_of q l h.1
 
 -- ---- two things that hold of each hold of it together
 
@@ -65,16 +65,16 @@ module _
     kept = cleared_good p (every_of procedure) most is so
 
     small : (x : Instance) → instance_good p x ≡ true → Small x
-    small x h = small-good p profile (every_of procedure) blank_address x h
+    small x h = small_good p profile (every_of procedure) blank_address x h
 
-    new-own : Each (λ x. Small x × (is_of procedure x ≡ true)) new
-    new-own = each_both (λ x. Small x) (λ x. is_of procedure x ≡ true) new (each-so _ (λ x. Small x) small new good.each) own
+    new_own : Each (λ x. Small x × (is_of procedure x ≡ true)) new
+    new_own = each_both (λ x. Small x) (λ x. is_of procedure x ≡ true) new (each_so _ (λ x. Small x) small new good.each) own
 
     left_other : Each (λ x. Small x × (is_of procedure x ≡ false)) left
     left_other =
-        each-so (λ x. (instance_good p x ≡ true) × (spared (every_of procedure) x ≡ true)) (λ x. Small x × (is_of procedure x ≡ false))
+        each_so (λ x. (instance_good p x ≡ true) × (spared (every_of procedure) x ≡ true)) (λ x. Small x × (is_of procedure x ≡ false))
         (λ x h. (small x h.0, spared_other (every_of procedure) refl refl x h.1)) left
-        (each-those (λ x. instance_good p x ≡ true) (spared (every_of procedure)) is so.each)
+        (each_those (λ x. instance_good p x ≡ true) (spared (every_of procedure)) is so.each)
 
     -- of the procedure there are those of the list, of another those of the picture
     few_at : (q : ℕ) → count_of q new ≤ most → count_of q is ≤ most → count_of q (replaced procedure new is) ≤ most
@@ -84,20 +84,20 @@ module _
         (λ e.
         let none : count_of q left ≡ 0 =
         none_of q left
-        (each-so (λ x. Small x × (is_of procedure x ≡ false)) (λ x. is_of q x ≡ false)
+        (each_so (λ x. Small x × (is_of procedure x ≡ false)) (λ x. is_of q x ≡ false)
         (λ x t. ap (λ r. is_of r x) (sym (eqb-true procedure q e)) ∙ t.1) left left_other) in
         omega (arith, sum, h, none))
         (λ e.
         let none : count_of q new ≡ 0 =
         none_of q new
-        (each-so (λ x. is_of procedure x ≡ true) (λ x. is_of q x ≡ false)
+        (each_so (λ x. is_of procedure x ≡ true) (λ x. is_of q x ≡ false)
         (λ x t. ne_eqb x.procedure q (λ same. eqb-false procedure q e (sym (eqb-true x.procedure procedure t) ∙ same))) new own) in
         omega (arith, sum, k, none, those_fewer (spared (every_of procedure)) (is_of q) is))
 
-    pub replaced-list : GoodList p most (replaced procedure new is)
-    replaced-list = record {
+    pub replaced_list : GoodList p most (replaced procedure new is)
+    replaced_list = record {
       ascends = up_merged (λ x. Small x × (is_of procedure x ≡ true)) (λ y. Small y × (is_of procedure y ≡ false)) (listed_apart procedure) 0
-          new left new-own left_other good.ascends kept.ascends;
+          new left new_own left_other good.ascends kept.ascends;
       each = each_merged (λ x. instance_good p x ≡ true) new left good.each kept.each;
       few = (
         few_at 0 good.few.0 so.few.0,
@@ -115,7 +115,7 @@ replaced_of :
 unfolding list_good
 replaced_of most p procedure new is profile list picture =
     let t = both_hold (each_good (is_of procedure) new) (instances_good most p new) list in
-    replaced-list most p (good_profile p profile) procedure new is (goods_of (is_of procedure) new t.0)
+    replaced_list most p (good_profile p profile) procedure new is (goods_of (is_of procedure) new t.0)
     (good_list p most new t.1) (good_list p most is picture)
 
 pub replaced_good :

@@ -10,20 +10,20 @@ use borrow.Author.Tests.{eq-eqb, ne_eqb, eqb-true}
 use mir.Val.{Val}
 use denote.Array.{each}
 use denote.Shadow.{shadow}
-use Rattle.laws.proofs.Thoses.{those-take, those-skip, those_none}
+use Rattle.laws.proofs.Thoses.{those_take, those_skip, those_none}
 use Rattle.laws.proofs.Eaches.{Each}
-use Rattle.laws.proofs.Filled.{Filled, filled-done, filled-full}
+use Rattle.laws.proofs.Filled.{Filled, filled_done, filled_full}
 use Rattle.instances.specs.Instance.{blank_instance, key_of, spared}
 use Rattle.instances.specs.Places.{run_most}
 use Rattle.instances.specs.Run.{instances_of, packed, merged, deactivated, is_of, each_good}
 use Rattle.instances.specs.declared.instance.Instance.{Instance}
 use Rattle.instances.specs.declared.run.Run.{Run}
 use Rattle.instances.specs.contracts.instance.Instance.{the_field}
-use Rattle.instances.proofs.Runs.{outside, next-is, none_left, packed_done, packed_full}
-use Rattle.instances.proofs.Choices.{chosen-every, kept_test, gone_test}
+use Rattle.instances.proofs.Runs.{outside, next_is, none_left, packed_done, packed_full}
+use Rattle.instances.proofs.Choices.{chosen_every, kept_test, gone_test}
 use Rattle.instances.proofs.Keys.{Small, key_procedure}
 use Rattle.instances.proofs.Fits.{goods_of}
-use Rattle.instances.proofs.Merged.{merged_nil, merge-rest, merge-lower, merge-last, merge-higher}
+use Rattle.instances.proofs.Merged.{merged_nil, merge_rest, merge_lower, merge_last, merge_higher}
 use Rattle.end.specs.Listed.{every_of, replaced}
 
 -- i of the n instances of a run were met
@@ -44,18 +44,18 @@ each_left P (suc i) (x ∷ l) h = each_left P i l h.1
 
 module _ (run : Run) (n i : ℕ) (met : Met run n i) where
   -- the next, and those after it
-  pub met-is : i < n → drop i (instances_of run) ≡ get_or run.run i outside ∷ drop (i + 1) (instances_of run)
-  met-is h = next-is run n i met.few met.long h
+  pub met_is : i < n → drop i (instances_of run) ≡ get_or run.run i outside ∷ drop (i + 1) (instances_of run)
+  met_is h = next_is run n i met.few met.long h
 
   -- none is left
-  pub met-none : n ≤ i → drop i (instances_of run) ≡ []
-  met-none h = none_left run n i met.few met.long h
+  pub met_none : n ≤ i → drop i (instances_of run) ≡ []
+  met_none h = none_left run n i met.few met.long h
 
   -- where each is good, the next is
-  pub met-good : (good : Instance → Bool) → each_good good (instances_of run) ≡ true → i < n → good (get_or run.run i outside) ≡ true
-  met-good good each h =
+  pub met_good : (good : Instance → Bool) → each_good good (instances_of run) ≡ true → i < n → good (get_or run.run i outside) ≡ true
+  met_good good each h =
       let left = each_left (λ x. good x ≡ true) i (instances_of run) (goods_of good (instances_of run) each) in
-      (rw (met-is h) at left).0
+      (rw (met_is h) at left).0
 
 -- an array of instances that is owned: the numbers and services are octets
 pub owned_small :
@@ -82,58 +82,58 @@ module _ (list picture : Run) (procedure many n m i : ℕ) (new : Met list many 
 
   module _ (h : i < n) where
     on : drop i (instances_of picture) ≡ x ∷ drop (i + 1) (instances_of picture)
-    on = met-is picture n i old h
+    on = met_is picture n i old h
 
     -- one of the procedure makes way
-    pub turn-skip : x.procedure ≡ procedure → left m i ≡ left m (i + 1)
-    turn-skip own =
-        let gone = gone_test _ (chosen-every (every_of procedure) refl refl x ∙ eq-eqb x.procedure procedure own) in
-        ap (merged (drop m (instances_of list))) (those-skip (spared (every_of procedure)) _ _ x on gone)
+    pub turn_skip : x.procedure ≡ procedure → left m i ≡ left m (i + 1)
+    turn_skip own =
+        let gone = gone_test _ (chosen_every (every_of procedure) refl refl x ∙ eq-eqb x.procedure procedure own) in
+        ap (merged (drop m (instances_of list))) (those_skip (spared (every_of procedure)) _ _ x on gone)
 
     module _ (other : x.procedure ≡ procedure → ⊥) where
       takes :
           deactivated (every_of procedure) (drop i (instances_of picture)) ≡
           x ∷ deactivated (every_of procedure) (drop (i + 1) (instances_of picture))
       takes =
-          let kept = kept_test _ (chosen-every (every_of procedure) refl refl x ∙ ne_eqb x.procedure procedure other) in
-          those-take (spared (every_of procedure)) _ _ x on kept
+          let kept = kept_test _ (chosen_every (every_of procedure) refl refl x ∙ ne_eqb x.procedure procedure other) in
+          those_take (spared (every_of procedure)) _ _ x on kept
 
-      pub turn-rest : many ≤ m → left m i ≡ x ∷ left m (i + 1)
-      turn-rest end = merge-rest _ _ x _ takes (met-none list many m new end)
+      pub turn_rest : many ≤ m → left m i ≡ x ∷ left m (i + 1)
+      turn_rest end = merge_rest _ _ x _ takes (met_none list many m new end)
 
       -- the list's instances are of the procedure: by its procedure one of the picture comes before them or after them
       module _ (more : m < many) (own : each_good (is_of procedure) (instances_of list) ≡ true) where
         its : w.procedure ≡ procedure
-        its = eqb-true w.procedure procedure (met-good list many m new (is_of procedure) own more)
+        its = eqb-true w.procedure procedure (met_good list many m new (is_of procedure) own more)
 
-        pub turn-lower : Small x → x.procedure < procedure → left m i ≡ x ∷ left m (i + 1)
-        turn-lower small before =
+        pub turn_lower : Small x → x.procedure < procedure → left m i ≡ x ∷ left m (i + 1)
+        turn_lower small before =
             let below : key_of x < key_of w = key_procedure _ _ _ _ _ _ small.0 small.1 (omega (arith, its)) in
-            merge-lower _ _ x _ takes w _ (met-is list many m new more) below
+            merge_lower _ _ x _ takes w _ (met_is list many m new more) below
 
-        pub turn-higher : Small w → procedure ≤ x.procedure → left m i ≡ w ∷ left (m + 1) i
-        turn-higher small after =
+        pub turn_higher : Small w → procedure ≤ x.procedure → left m i ≡ w ∷ left (m + 1) i
+        turn_higher small after =
             let above : key_of w < key_of x = key_procedure _ _ _ _ _ _ small.0 small.1 (omega (arith, its, other)) in
-            merge-higher _ _ w _ (met-is list many m new more) x _ takes (omega (arith, above))
+            merge_higher _ _ w _ (met_is list many m new more) x _ takes (omega (arith, above))
 
   module _ (h : n ≤ i) where
     gone : deactivated (every_of procedure) (drop i (instances_of picture)) ≡ []
-    gone = those_none (spared (every_of procedure)) _ (met-none picture n i old h)
+    gone = those_none (spared (every_of procedure)) _ (met_none picture n i old h)
 
     pub turn_last : m < many → left m i ≡ w ∷ left (m + 1) i
-    turn_last more = merge-last _ _ w _ (met-is list many m new more) gone
+    turn_last more = merge_last _ _ w _ (met_is list many m new more) gone
 
-    turn-none : many ≤ m → left m i ≡ []
-    turn-none end = rw (gone, met-none list many m new end) (merged_nil [])
+    turn_none : many ≤ m → left m i ≡ []
+    turn_none end = rw (gone, met_none list many m new end) (merged_nil [])
 
     -- all of both were met
-    pub answer-done :
+    pub answer_done :
         many ≤ m → (k : ℕ) (array : List Instance) → Filled run_most blank_instance whole (left m i) k array →
         ◌≡◌ {A = Run} record { count = k; run = array } (packed whole)
-    answer-done end k array so = packed_done whole k array (filled-done _ _ _ _ _ (rw (turn-none end) at so))
+    answer_done end k array so = packed_done whole k array (filled_done _ _ _ _ _ (rw (turn_none end) at so))
 
   -- there is no room
-  pub answer-full :
+  pub answer_full :
       (k : ℕ) (array : List Instance) → k ≡ run_most → Filled run_most blank_instance whole (left m i) k array →
       ◌≡◌ {A = Run} record { count = k; run = array } (packed whole)
-  answer-full k array full so = packed_full whole k array (rw full (filled-full _ _ _ _ _ (rw full at so)))
+  answer_full k array full so = packed_full whole k array (rw full (filled_full _ _ _ _ _ (rw full at so)))

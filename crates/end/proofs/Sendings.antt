@@ -20,7 +20,7 @@ use Rattle.requests.specs.Sent.{sendable, request_octets}
 use Rattle.requests.specs.Sending.{PutRequest}
 use Rattle.requests.specs.declared.request.Request.{Request}
 use Rattle.requests.proofs.Sizes.{request_most, request_size}
-use Rattle.requests.proofs.Senders.{sent-whole, sent-not}
+use Rattle.requests.proofs.Senders.{sent_whole, sent_not}
 use Rattle.lists.specs.Entries.{instances_most}
 use Rattle.end.specs.End.{used_most, end_good}
 use Rattle.end.specs.Sending.{sent, Sends, not_sent, sends}
@@ -37,40 +37,40 @@ sends_of operation r e = record {
 }
 
 module _ (access : List ℕ) (operation : ℕ) (r : Request) (e : End) (size : ℕ) where
-  pub sends-short : size < output_least → sends access operation r e size ≡ not_sent e ShortOutput
+  pub sends_short : size < output_least → sends access operation r e size ≡ not_sent e ShortOutput
   unfolding sends
-  sends-short short = rw (lt-ltb size output_least short)
+  sends_short short = rw (lt-ltb size output_least short)
 
   module _ (room : output_least ≤ size) where
-    pub sends-profile : (access_read access).ok ≡ false → sends access operation r e size ≡ not_sent e BadProfile
+    pub sends_profile : (access_read access).ok ≡ false → sends access operation r e size ≡ not_sent e BadProfile
     unfolding sends
-    sends-profile bad = rw (le-ltb size output_least room, bad)
+    sends_profile bad = rw (le-ltb size output_least room, bad)
 
     module _ (ok : (access_read access).ok ≡ true) where
-      pub sends-end :
+      pub sends_end :
           end_good instances_most (access_read access).profile e ≡ false → sends access operation r e size ≡ not_sent e BadTable
       unfolding sends
-      sends-end bad = rw (le-ltb size output_least room, ok, bad)
+      sends_end bad = rw (le-ltb size output_least room, ok, bad)
 
       module _ (good : end_good instances_most (access_read access).profile e ≡ true) where
-        pub sends-waiting : e.outstanding ≡ 1 → sends access operation r e size ≡ not_sent e Outstanding
+        pub sends_waiting : e.outstanding ≡ 1 → sends access operation r e size ≡ not_sent e Outstanding
         unfolding sends
-        sends-waiting h = rw (le-ltb size output_least room, ok, good, eq-eqb e.outstanding 1 h)
+        sends_waiting h = rw (le-ltb size output_least room, ok, good, eq-eqb e.outstanding 1 h)
 
         module _ (free : e.outstanding ≡ 1 → ⊥) where
-          pub sends-last : e.used ≡ used_most → sends access operation r e size ≡ not_sent e Exhausted
+          pub sends_last : e.used ≡ used_most → sends access operation r e size ≡ not_sent e Exhausted
           unfolding sends
-          sends-last h = rw (le-ltb size output_least room, ok, good, ne_eqb e.outstanding 1 free, eq-eqb e.used used_most h)
+          sends_last h = rw (le-ltb size output_least room, ok, good, ne_eqb e.outstanding 1 free, eq-eqb e.used used_most h)
 
           module _ (more : e.used ≡ used_most → ⊥) where
-            pub sends-unfit : sendable operation r ≡ false → sends access operation r e size ≡ not_sent e BadRequest
+            pub sends_unfit : sendable operation r ≡ false → sends access operation r e size ≡ not_sent e BadRequest
             unfolding sends
-            sends-unfit bad =
+            sends_unfit bad =
                 rw (le-ltb size output_least room, ok, good, ne_eqb e.outstanding 1 free, ne_eqb e.used used_most more, bad)
 
-            pub sends-all : sendable operation r ≡ true → sends access operation r e size ≡ sends_of operation r e
+            pub sends_all : sendable operation r ≡ true → sends access operation r e size ≡ sends_of operation r e
             unfolding sends
-            sends-all fit =
+            sends_all fit =
                 rw (le-ltb size output_least room, ok, good, ne_eqb e.outstanding 1 free, ne_eqb e.used used_most more, fit)
 
 -- what is refused writes nothing
@@ -91,7 +91,7 @@ pub all_sends :
 all_sends d operation r e xs n ys is below room fit put =
     let identifier = pos (suc e.used) in
     let few = request_most identifier operation r (omega arith) fit in
-    let whole = sent-whole xs identifier operation r n ys put fit (omega (arith, room, few)) in
+    let whole = sent_whole xs identifier operation r n ys put fit (omega (arith, room, few)) in
     record {
       told = rw is;
       count = rw is (whole.moved ∙ zero-add _);
@@ -104,16 +104,16 @@ module _ (operation : ℕ) (r : Request) (e : End) (xs : List ℕ) (n : ℕ) (ys
   abbrev identifier : ℤ
   identifier = pos (suc e.used)
 
-  pub unfit-sends : n ≡ 0 → (sendable operation r ≡ false) × (ys ≡ xs)
-  unfit-sends none =
+  pub unfit_sends : n ≡ 0 → (sendable operation r ≡ false) × (ys ≡ xs)
+  unfit_sends none =
       by_bool ((sendable operation r ≡ false) × (ys ≡ xs)) (sendable operation r)
       (λ fit.
       let few = request_most identifier operation r (omega arith) fit in
-      let whole = sent-whole xs identifier operation r n ys put fit (omega (arith, room, few)) in
+      let whole = sent_whole xs identifier operation r n ys put fit (omega (arith, room, few)) in
       absurd (omega (arith, none, whole.moved, request_size identifier operation r (omega arith) fit)))
-      (λ unfit. (unfit, (sent-not xs identifier operation r n ys put unfit).1))
+      (λ unfit. (unfit, (sent_not xs identifier operation r n ys put unfit).1))
 
-  pub fit-sends : (n ≡ 0 → ⊥) → sendable operation r ≡ true
-  fit-sends some =
+  pub fit_sends : (n ≡ 0 → ⊥) → sendable operation r ≡ true
+  fit_sends some =
       by_bool (sendable operation r ≡ true) (sendable operation r) (λ fit. fit)
-      (λ unfit. absurd (some (sent-not xs identifier operation r n ys put unfit).0))
+      (λ unfit. absurd (some (sent_not xs identifier operation r n ys put unfit).0))

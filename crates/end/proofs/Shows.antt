@@ -13,7 +13,7 @@ use Rattle.laws.proofs.Picks.{by_bool}
 use Rattle.laws.proofs.Filled.{get_any}
 use Rattle.refusals.specs.Refusal.{refusal_no, Told, refuses, tells}
 use Rattle.refusals.specs.declared.refusal.Refusal.TheVariants.{BadProfile, BadTable, BadRequest}
-use Rattle.refusals.proofs.Refusals.{tells-same, refuses-not}
+use Rattle.refusals.proofs.Refusals.{tells_same, refuses_not}
 use Rattle.codes.proofs.Tables.{procedure_code_lem}
 use Rattle.profile.specs.Access.{access_read}
 use Rattle.profile.specs.declared.profile.Profile.{Profile}
@@ -23,49 +23,49 @@ use Rattle.lists.specs.declared.entry.Entry.{Entry}
 use Rattle.lists.specs.declared.entries.Entries.{Entries}
 use Rattle.instances.specs.Run.{instances_of, listed, entry_for}
 use Rattle.instances.proofs.Goods.{run_good_lem}
-use Rattle.instances.proofs.Listeds.{listed-most}
+use Rattle.instances.proofs.Listeds.{listed_most}
 use Rattle.end.specs.End.{mark_at, end_good}
 use Rattle.end.specs.Listed.{every_of}
 use Rattle.end.specs.Shown.{Seen, seen_known, seen_doubt, shown_no, entries_shown, shown, handed_out, entries_out, ShowsEntry}
 use Rattle.end.specs.declared.end.End.{End}
 use Rattle.end.specs.declared.show.Shown.{Shown}
 use Rattle.end.specs.declared.show.Shown.TheVariants.{Known}
-use Rattle.end.proofs.Ends.{picture-good}
+use Rattle.end.proofs.Ends.{picture_good}
 
 module _ (access : List ℕ) (e : End) (procedure : ℕ) where
   abbrev ours : Profile
   ours = (access_read access).profile
 
-  pub shown-profile : (access_read access).ok ≡ false → shown access e procedure ≡ refuses (refusal_no BadProfile)
+  pub shown_profile : (access_read access).ok ≡ false → shown access e procedure ≡ refuses (refusal_no BadProfile)
   unfolding shown
-  shown-profile bad = rw bad
+  shown_profile bad = rw bad
 
   module _ (ok : (access_read access).ok ≡ true) where
-    pub shown-end : end_good instances_most ours e ≡ false → shown access e procedure ≡ refuses (refusal_no BadTable)
+    pub shown_end : end_good instances_most ours e ≡ false → shown access e procedure ≡ refuses (refusal_no BadTable)
     unfolding shown
-    shown-end bad = rw (ok, bad)
+    shown_end bad = rw (ok, bad)
 
     module _ (good : end_good instances_most ours e ≡ true) where
-      pub shown-none : 3 ≤ procedure → shown access e procedure ≡ refuses (refusal_no BadRequest)
+      pub shown_none : 3 ≤ procedure → shown access e procedure ≡ refuses (refusal_no BadRequest)
       unfolding shown
-      shown-none over = rw (ok, good, procedure_code_lem procedure, le-ltb procedure 3 over)
+      shown_none over = rw (ok, good, procedure_code_lem procedure, le-ltb procedure 3 over)
 
       module _ (code : procedure < 3) where
-        pub shown-doubt : (mark_at procedure e.marks ≡ mark_no known → ⊥) → shown access e procedure ≡ tells seen_doubt
+        pub shown_doubt : (mark_at procedure e.marks ≡ mark_no known → ⊥) → shown access e procedure ≡ tells seen_doubt
         unfolding shown
-        shown-doubt not =
+        shown_doubt not =
             rw (ok, good, procedure_code_lem procedure, lt-ltb procedure 3 code, ne_eqb (mark_at procedure e.marks) (mark_no known) not)
 
-        pub shown-known :
+        pub shown_known :
             mark_at procedure e.marks ≡ mark_no known →
             shown access e procedure ≡ tells (seen_known (length (entries_shown ours e procedure)))
         unfolding shown
-        shown-known is =
+        shown_known is =
             rw (ok, good, procedure_code_lem procedure, lt-ltb procedure 3 code, eq-eqb (mark_at procedure e.marks) (mark_no known) is)
 
-  pub shown-count :
+  pub shown_count :
       length (listed (every_of procedure) (instances_of e.picture)) ≡ length (entries_shown ours e procedure)
-  shown-count = sym (length-map (listed (every_of procedure) (instances_of e.picture)) (entry_for ours.numbers))
+  shown_count = sym (length-map (listed (every_of procedure) (instances_of e.picture)) (entry_for ours.numbers))
 
   -- a procedure that is shown as known is one of a good end, and has so many entries in the picture
   pub record KnownBy (count : ℕ) : Type 0 where
@@ -77,10 +77,10 @@ module _ (access : List ℕ) (e : End) (procedure : ℕ) where
 
   module _ (count : ℕ) (is : shown access e procedure ≡ tells (seen_known count)) where
     seen_same : (s : Seen) → shown access e procedure ≡ tells s → seen_known count ≡ s
-    seen_same s h = tells-same _ _ (sym is ∙ h)
+    seen_same s h = tells_same _ _ (sym is ∙ h)
 
-    no-refusal : {A : Type 0} (n : ℕ) → shown access e procedure ≡ refuses n → A
-    no-refusal n h = absurd (refuses-not n (seen_known count) (sym h ∙ is))
+    no_refusal : {A : Type 0} (n : ℕ) → shown access e procedure ≡ refuses n → A
+    no_refusal n h = absurd (refuses_not n (seen_known count) (sym h ∙ is))
 
     pub known_by : KnownBy count
     known_by =
@@ -99,18 +99,18 @@ module _ (access : List ℕ) (e : End) (procedure : ℕ) where
           good = good;
           code = code;
           mark = mark;
-          entries = ap (λ (s : Seen). get_or s.values 0 0) (seen_same _ (shown-known ok good code mark));
+          entries = ap (λ (s : Seen). get_or s.values 0 0) (seen_same _ (shown_known ok good code mark));
         })
         (λ m.
         absurd
         (omega (
           arith,
           ap (λ (s : Seen). s.mark)
-              (seen_same _ (shown-doubt ok good code (eqb-false (mark_at procedure e.marks) (mark_no known) m))),
+              (seen_same _ (shown_doubt ok good code (eqb-false (mark_at procedure e.marks) (mark_no known) m))),
         ))))
-        (λ over. no-refusal _ (shown-none ok good (ltb-false procedure 3 over))))
-        (λ bad. no-refusal _ (shown-end ok bad)))
-        (λ bad. no-refusal _ (shown-profile bad))
+        (λ over. no_refusal _ (shown_none ok good (ltb-false procedure 3 over))))
+        (λ bad. no_refusal _ (shown_end ok bad)))
+        (λ bad. no_refusal _ (shown_profile bad))
 
 -- ---- the entries that are handed out
 
@@ -136,14 +136,14 @@ pub out_doubt :
 out_doubt access e procedure i is = rw (sym is) (omega arith)
 
 module _ (access : List ℕ) (e : End) (procedure count : ℕ) (is : tells (seen_known count) ≡ shown access e procedure) where
-  all-out : entries_out access e procedure ≡ entries_shown (access_read access).profile e procedure
-  all-out = ap (λ (t : Told Seen). handed_out t (entries_shown (access_read access).profile e procedure)) (sym is)
+  all_out : entries_out access e procedure ≡ entries_shown (access_read access).profile e procedure
+  all_out = ap (λ (t : Told Seen). handed_out t (entries_shown (access_read access).profile e procedure)) (sym is)
 
   facts : KnownBy access e procedure count
   facts = known_by access e procedure count (sym is)
 
-  pub out-count : length (entries_out access e procedure) ≡ count
-  out-count = ap length all-out ∙ sym facts.entries
+  pub out_count : length (entries_out access e procedure) ≡ count
+  out_count = ap length all_out ∙ sym facts.entries
 
   -- a good picture has at most 8 of a procedure
   pub count_most : count ≤ instances_most
@@ -151,23 +151,23 @@ module _ (access : List ℕ) (e : End) (procedure count : ℕ) (is : tells (seen
       omega (
         arith,
         facts.entries,
-        listed-most (access_read access).profile (every_of procedure) instances_most (instances_of e.picture)
+        listed_most (access_read access).profile (every_of procedure) instances_most (instances_of e.picture)
             (run_good_lem (access_read access).profile instances_most e.picture
-            (picture-good instances_most (access_read access).profile e facts.good))
+            (picture_good instances_most (access_read access).profile e facts.good))
             facts.code,
       )
 
   module _ (i : ℕ) (there : i < count) (list : Entries) (d : Entry) where
-    pub entry-there :
+    pub entry_there :
         list ≡ entries_of (take instances_most (entries_shown (access_read access).profile e procedure)) →
         ShowsEntry access e procedure i (record { shown = Known count; entry = get_or list.entries i d })
-    entry-there made =
+    entry_there made =
         let es = entries_shown (access_read access).profile e procedure in
         let few : length es ≤ instances_most = omega (arith, count_most, facts.entries) in
         let below : i < length es = omega (arith, there, facts.entries) in
         record {
           told = is;
           entry =
-              rw (made, take_all instances_most es few, all-out)
+              rw (made, take_all instances_most es few, all_out)
               (get_or-append es (replicate (instances_most - length es) no_entry) d i below ∙ get_any es i d no_entry below);
         }

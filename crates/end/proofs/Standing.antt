@@ -5,10 +5,10 @@ use mathlib.Core.List.{List}
 use Rattle.refusals.specs.Refusal.{refuses}
 use Rattle.refusals.specs.Handling.{handling_told}
 use Rattle.refusals.specs.declared.handling.Handling.{Handling}
-use Rattle.refusals.proofs.Refusals.{refuses-not}
+use Rattle.refusals.proofs.Refusals.{refuses_not}
 use Rattle.end.specs.Taking.{Takes}
 use Rattle.end.specs.declared.end.End.{End}
-use Rattle.end.proofs.Steps.{takes-ind}
+use Rattle.end.proofs.Steps.{takes_ind}
 
 -- where what arrives is refused, the same end stands there as before
 pub refused_standing :
@@ -16,6 +16,6 @@ pub refused_standing :
     handling_told r ≡ refuses number → next ≡ e
 refused_standing access e s number t refused =
     t.end
-    ∙ takes-ind access e s (λ m. refuses number ≡ m.told → m.end ≡ e)
-    (λ _ _. refl) (λ _ _ _ h. absurd (refuses-not number tt h))
+    ∙ takes_ind access e s (λ m. refuses number ≡ m.told → m.end ≡ e)
+    (λ _ _. refl) (λ _ _ _ h. absurd (refuses_not number tt h))
     (sym refused ∙ t.told)

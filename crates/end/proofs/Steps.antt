@@ -73,7 +73,7 @@ applied_end p e = closed e.before (applied p e.operation e.request e.picture) e
 
 module _ (p : Profile) (e : End) (s : List ℕ) (P : End → Type 0) where
   -- what the five ways of taking a component lead to holds of the end that took it
-  pub took-ind :
+  pub took_ind :
       ((e.outstanding ≡ 1 → ⊥) ⊎ (reply_to e s ≡ Dropped) → P e) →
       (e.outstanding ≡ 1 → Doubts p e s → P (doubted e)) →
       (e.outstanding ≡ 1 → (value : _) → reply_to e s ≡ Failed value → P (closed e.before e.picture e)) →
@@ -83,14 +83,14 @@ module _ (p : Profile) (e : End) (s : List ℕ) (P : End → Type 0) where
       list_good instances_most p e.request.procedure (instances_listed p es) ≡ true → P (learned_end p e es)) →
       P (took p e s)
   unfolding took learned
-  took-ind nothing doubt restore apply learn =
+  took_ind nothing doubt restore apply learn =
       pick_ind P (eqb e.outstanding 1)
-      (λ w. by-reply (eqb-true e.outstanding 1 w) (reply_to e s) refl)
+      (λ w. by_reply (eqb-true e.outstanding 1 w) (reply_to e s) refl)
       (λ w. nothing (inl (eqb-false e.outstanding 1 w)))
     where
-      by-verdict : e.outstanding ≡ 1 → reply_to e s ≡ Done → (v : Option ℕ) → verdict p e ≡ v → P (applied_by p e v)
-      by-verdict w h none is = apply w h is
-      by-verdict w h (some error) is = doubt w (fails h error is)
+      by_verdict : e.outstanding ≡ 1 → reply_to e s ≡ Done → (v : Option ℕ) → verdict p e ≡ v → P (applied_by p e v)
+      by_verdict w h none is = apply w h is
+      by_verdict w h (some error) is = doubt w (fails h error is)
 
       by_list :
           e.outstanding ≡ 1 → (at end : ℕ) → reply_to e s ≡ Listed at end → (g : Got (List Entry)) →
@@ -101,35 +101,35 @@ module _ (p : Profile) (e : End) (s : List ℕ) (P : End → Type 0) where
           (λ poor. doubt w (bad at end h es next is poor))
       by_list w at end h wrong is = doubt w (unread at end h is)
 
-      by-reply : e.outstanding ≡ 1 → (r : Reply) → reply_to e s ≡ r → P (took_by p e s r)
-      by-reply w Dropped h = nothing (inr h)
-      by-reply w Rejected h = doubt w (rejects h)
-      by-reply w (Failed value) h = restore w value h
-      by-reply w Done h = by-verdict w h (verdict p e) refl
-      by-reply w (Listed at end) h = by_list w at end h (entries_from instances_most s at end) refl
-      by-reply w Wrong h = doubt w (shapeless h)
+      by_reply : e.outstanding ≡ 1 → (r : Reply) → reply_to e s ≡ r → P (took_by p e s r)
+      by_reply w Dropped h = nothing (inr h)
+      by_reply w Rejected h = doubt w (rejects h)
+      by_reply w (Failed value) h = restore w value h
+      by_reply w Done h = by_verdict w h (verdict p e) refl
+      by_reply w (Listed at end) h = by_list w at end h (entries_from instances_most s at end) refl
+      by_reply w Wrong h = doubt w (shapeless h)
 
 module _ (access : List ℕ) (e : End) where
   -- what holds of every refusal, and of the end that took the component, holds of what is done
-  pub takes-ind :
+  pub takes_ind :
       (s : List ℕ) (P : Moves → Type 0) → ((refusal : Refusal) → P (not_moved e refusal)) →
       (length s ≤ component_most → (access_read access).ok ≡ true → end_good instances_most (ours access) e ≡ true →
       P (moved (took (ours access) e s))) →
       P (takes access e s)
   unfolding takes
-  takes-ind s P refuse move =
+  takes_ind s P refuse move =
       pick_ind P (ltb component_most (length s)) (λ _. refuse LongComponent) (λ fair.
       pick_ind P (not (access_read access).ok) (λ _. refuse BadProfile) (λ ok.
       pick_ind P (not (end_good instances_most (ours access) e)) (λ _. refuse BadTable) (λ good.
       move (ltb-false component_most (length s) fair) (not-false _ ok) (not-false _ good))))
 
   -- what holds of every refusal, of the end that gave up, and of one with nothing to give up, holds of what is done
-  pub gives-ind :
+  pub gives_ind :
       (P : Moves → Type 0) → ((refusal : Refusal) → P (not_moved e refusal)) → ((e.outstanding ≡ 1 → ⊥) → P (moved e)) →
       ((access_read access).ok ≡ true → end_good instances_most (ours access) e ≡ true → e.outstanding ≡ 1 → P (moved (doubted e))) →
       P (gives_up access e)
   unfolding gives_up gave_up
-  gives-ind P refuse stay give =
+  gives_ind P refuse stay give =
       pick_ind P (not (access_read access).ok) (λ _. refuse BadProfile) (λ ok.
       pick_ind P (not (end_good instances_most (ours access) e)) (λ _. refuse BadTable) (λ good.
       pick_ind (λ n. P (moved n)) (eqb e.outstanding 1)
@@ -137,13 +137,13 @@ module _ (access : List ℕ) (e : End) where
       (λ w. stay (eqb-false e.outstanding 1 w))))
 
   -- what holds of every refusal, and of the end that has sent, holds of what is done
-  pub sends-ind :
+  pub sends_ind :
       (operation : ℕ) (r : Request) (size : ℕ) (P : Sends → Type 0) → ((refusal : Refusal) → P (not_sent e refusal)) →
       ((access_read access).ok ≡ true → end_good instances_most (ours access) e ≡ true → (e.used ≡ used_most → ⊥) →
       sendable operation r ≡ true → P (sends_of operation r e)) →
       P (sends access operation r e size)
   unfolding sends
-  sends-ind operation r size P refuse move =
+  sends_ind operation r size P refuse move =
       pick_ind P (ltb size output_least) (λ _. refuse ShortOutput) (λ _.
       pick_ind P (not (access_read access).ok) (λ _. refuse BadProfile) (λ ok.
       pick_ind P (not (end_good instances_most (ours access) e)) (λ _. refuse BadTable) (λ good.

@@ -11,7 +11,7 @@ use Rattle.refusals.specs.Handling.{handling_told}
 use Rattle.refusals.specs.declared.handling.Handling.{Handling}
 use Rattle.refusals.specs.declared.handling.Handling.TheVariants.{Refuses, Done}
 use Rattle.refusals.specs.declared.handling.Written.{Written}
-use Rattle.refusals.proofs.Refusals.{refuses-not}
+use Rattle.refusals.proofs.Refusals.{refuses_not}
 use Rattle.profile.specs.Access.{access_read}
 use Rattle.profile.specs.declared.access.AccessRead.{AccessRead}
 use Rattle.requests.specs.Sent.{sendable, request_octets}
@@ -22,8 +22,8 @@ use Rattle.end.specs.End.{used_most}
 use Rattle.end.specs.Sending.{sent, Sends, sends, SendsBy}
 use Rattle.end.specs.inner.Sending.{WrittenBy, WrittenWhere, end_after, IdentifierLeft}
 use Rattle.end.specs.declared.end.End.{End}
-use Rattle.end.proofs.Ends.{used-most}
-use Rattle.end.proofs.Steps.{ours, sends-ind}
+use Rattle.end.proofs.Ends.{used_most_lem}
+use Rattle.end.proofs.Steps.{ours, sends_ind}
 
 -- an end that waits for the answer to a request that may be sent, and the octets of that request
 pub record Waits (access : List ℕ) (d : Sends) : Type 0 where
@@ -39,12 +39,12 @@ pub sends_waits :
     (sends access operation r e size).told ≡ tells tt → Waits access (sends access operation r e size)
 unfolding sent
 sends_waits access operation r e size =
-    sends-ind access e operation r size (λ d. d.told ≡ tells tt → Waits access d)
-    (λ _ h. absurd (refuses-not _ _ h))
+    sends_ind access e operation r size (λ d. d.told ≡ tells tt → Waits access d)
+    (λ _ h. absurd (refuses_not _ _ h))
     (λ ok good more fit _. record {
       ok = ok;
       outstanding = refl;
-      used = omega (arith, used-most instances_most (ours access) e good, more);
+      used = omega (arith, used_most_lem instances_most (ours access) e good, more);
       sendable = fit;
       octets = refl;
     })
@@ -52,25 +52,25 @@ sends_waits access operation r e size =
 -- ---- what is told decides the next end
 
 module _ (access : List ℕ) (operation : ℕ) (r : Request) (e : End) (size : ℕ) where
-  told-left :
+  told_left :
       (outcome : Handling) → handling_told outcome ≡ (sends access operation r e size).told → IdentifierLeft e outcome
-  told-left (Refuses refusal) is = tt
-  told-left Done is =
-      sends-ind access e operation r size (λ d. tells tt ≡ d.told → e.used < used_most)
-      (λ _ h. absurd (refuses-not _ _ (sym h)))
-      (λ _ good more _ _. omega (arith, used-most instances_most (ours access) e good, more))
+  told_left (Refuses refusal) is = tt
+  told_left Done is =
+      sends_ind access e operation r size (λ d. tells tt ≡ d.told → e.used < used_most)
+      (λ _ h. absurd (refuses_not _ _ (sym h)))
+      (λ _ good more _ _. omega (arith, used_most_lem instances_most (ours access) e good, more))
       is
 
-  told-end :
+  told_end :
       (outcome : Handling) → handling_told outcome ≡ (sends access operation r e size).told →
       end_after operation r e outcome ≡ (sends access operation r e size).end
-  told-end (Refuses refusal) =
-      sends-ind access e operation r size (λ d. refuses (refusal_no refusal) ≡ d.told → e ≡ d.end)
+  told_end (Refuses refusal) =
+      sends_ind access e operation r size (λ d. refuses (refusal_no refusal) ≡ d.told → e ≡ d.end)
       (λ _ _. refl)
-      (λ _ _ _ _ h. absurd (refuses-not _ _ h))
-  told-end Done =
-      sends-ind access e operation r size (λ d. tells tt ≡ d.told → sent operation r e ≡ d.end)
-      (λ _ h. absurd (refuses-not _ _ (sym h)))
+      (λ _ _ _ _ h. absurd (refuses_not _ _ h))
+  told_end Done =
+      sends_ind access e operation r size (λ d. tells tt ≡ d.told → sent operation r e ≡ d.end)
+      (λ _ h. absurd (refuses_not _ _ (sym h)))
       (λ _ _ _ _ _. refl)
 
 -- what was written is right of an access whose profile was read and by whose profile the picture was judged
@@ -84,15 +84,15 @@ written_for access read good operation r e xs w ys is judged by =
 module _ (access : List ℕ) (operation : ℕ) (r : Request) (e : End) (xs : List ℕ) (w : Written) (ys : List ℕ)
     (by : WrittenBy (sends access operation r e (length xs)) xs w ys) where
   -- where it was not refused there is an identifier for the end that waits
-  pub written-left : IdentifierLeft e w.outcome
-  written-left = told-left access operation r e (length xs) w.outcome by.told
+  pub written_left : IdentifierLeft e w.outcome
+  written_left = told_left access operation r e (length xs) w.outcome by.told
 
   -- what was written, with the end after it, is what is sent
-  pub written-sends :
+  pub written_sends :
       (next : End) → next ≡ end_after operation r e w.outcome →
       SendsBy (sends access operation r e (length xs)) xs (record { end = next; outcome = w.outcome; count = w.count }) ys
-  written-sends next is = record {
-    end = is ∙ told-end access operation r e (length xs) w.outcome by.told;
+  written_sends next is = record {
+    end = is ∙ told_end access operation r e (length xs) w.outcome by.told;
     told = by.told;
     count = by.count;
     lent = by.lent;

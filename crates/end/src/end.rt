@@ -17,7 +17,7 @@ pub(crate) const USEDMOST: u16 = 32767;
 // `used` is the last used identifier. Where `outstanding` is 1 the request of that identifier has not been answered, and `before` is its
 // procedure's mark from before sending; else operation, request and `before` carry no meaning.
 #[repr(C)]
-#[derive(Drop)]
+#[derive(Clone, Copy)]
 pub struct End {
     pub used: u16,
     pub outstanding: u8,

@@ -14,7 +14,7 @@ use refusals::{Handling, OUTPUTLEAST, Refusal, Written, not_written};
 use requests::{Request, Served, blank_request, put_request};
 
 // The next end, a refusal or none, and how many octets the component has.
-#[derive(Drop)]
+#[derive(Clone, Copy)]
 pub struct Sent {
     pub end: End,
     pub outcome: Handling,

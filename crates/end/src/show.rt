@@ -10,7 +10,7 @@ use profile::read_access;
 use refusals::Refusal;
 
 // A known procedure has so many instances; of one in doubt nothing is said.
-#[derive(Drop)]
+#[derive(Clone, Copy)]
 pub enum Shown {
     Refuses { refusal: Refusal },
     Known { count: usize },
@@ -19,7 +19,7 @@ pub enum Shown {
 
 // The same, and the entry: a blank one past the count, and where there is none. There is no flag beside it that a page could take for the
 // end of a list, since of a procedure in doubt there is no list.
-#[derive(Drop)]
+#[derive(Clone, Copy)]
 pub struct EntryShown {
     pub shown: Shown,
     pub entry: Entry,

@@ -20,7 +20,7 @@ use requests::{Request, blank_request};
 use rules::{Verdict, apply_request, judge_request};
 
 // The next end, and a refusal or none.
-#[derive(Drop)]
+#[derive(Clone, Copy)]
 pub struct Moved {
     pub end: End,
     pub outcome: Handling,

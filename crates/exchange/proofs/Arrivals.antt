@@ -28,14 +28,14 @@ use Rattle.lists.proofs.Goods.{all_none}
 use Rattle.instances.specs.Run.{instances_of, run_good, PutListed}
 use Rattle.instances.specs.declared.run.Run.{Run}
 use Rattle.instances.proofs.Goods.{run_good_lem}
-use Rattle.instances.proofs.Listeds.{listed-most, listed-good}
+use Rattle.instances.proofs.Listeds.{listed_most, listed_good}
 use Rattle.rules.specs.Selection.{selection_of}
 use Rattle.rules.specs.Judge.{verdict_no, applied, JudgeRequest, RenewRequest}
 use Rattle.rules.specs.declared.verdict.Verdict.{Verdict}
 use Rattle.rules.specs.declared.verdict.Verdict.TheVariants.{Passes, Fails}
-use Rattle.rules.proofs.Selections.{selection-procedure}
-use Rattle.rules.proofs.Judges.{judge-errors, passes_none}
-use Rattle.rules.proofs.Changes.{renew-applied}
+use Rattle.rules.proofs.Selections.{selection_procedure}
+use Rattle.rules.proofs.Judges.{judge_errors, passes_none}
+use Rattle.rules.proofs.Changes.{renew_applied}
 use Rattle.answers.specs.Answer.{answer_octets, PutAnswer}
 use Rattle.answers.specs.declared.answer.Answer.TheVariants as answer
 use Rattle.answers.proofs.Fits.{EntriesFit, answer_most}
@@ -50,39 +50,39 @@ use Rattle.exchange.specs.inner.Arrived.{arrived_refused, arrived_answered}
 use Rattle.exchange.specs.declared.table.Table.{Table}
 use Rattle.exchange.specs.declared.question.QuestionRead.{QuestionRead}
 use Rattle.exchange.specs.declared.arrive.Arrived.{Arrived}
-use Rattle.exchange.proofs.Questions.{RequestAsked, question-asks}
-use Rattle.exchange.proofs.Tables.{table-run, table-good}
-use Rattle.exchange.proofs.Steps.{fails, lists, changes, verdict, handled-fails, handled-lists, handled-changes, handled-ind}
-use Rattle.exchange.proofs.Steps.{step-says, step-asks, step-ind, read_says, read_asks}
+use Rattle.exchange.proofs.Questions.{RequestAsked, question_asks}
+use Rattle.exchange.proofs.Tables.{table_run, table_good_lem}
+use Rattle.exchange.proofs.Steps.{fails, lists, changes, verdict, handled_fails, handled_lists, handled_changes, handled_ind}
+use Rattle.exchange.proofs.Steps.{step_says, step_asks, step_ind, read_says, read_asks}
 
 -- ---- the refusals, lowest first
 
 module _ (access : List ℕ) (t : Table) (s : List ℕ) (size : ℕ) where
-  pub done-short : size < output_least → done access t s size ≡ refused t ShortOutput
+  pub done_short : size < output_least → done access t s size ≡ refused t ShortOutput
   unfolding done
-  done-short short = rw (lt-ltb size output_least short)
+  done_short short = rw (lt-ltb size output_least short)
 
   module _ (room : output_least ≤ size) where
-    pub done-long : component_most < length s → done access t s size ≡ refused t LongComponent
+    pub done_long : component_most < length s → done access t s size ≡ refused t LongComponent
     unfolding done
-    done-long long = rw (le-ltb size output_least room, lt-ltb component_most (length s) long)
+    done_long long = rw (le-ltb size output_least room, lt-ltb component_most (length s) long)
 
     module _ (fair : length s ≤ component_most) where
-      pub done-profile : (access_read access).ok ≡ false → done access t s size ≡ refused t BadProfile
+      pub done_profile : (access_read access).ok ≡ false → done access t s size ≡ refused t BadProfile
       unfolding done
-      done-profile bad = rw (le-ltb size output_least room, le-ltb component_most (length s) fair, bad)
+      done_profile bad = rw (le-ltb size output_least room, le-ltb component_most (length s) fair, bad)
 
       module _ (ok : (access_read access).ok ≡ true) where
-        pub done-table :
+        pub done_table :
             table_good instances_most (access_read access).profile t ≡ false → done access t s size ≡ refused t BadTable
         unfolding done
-        done-table bad = rw (le-ltb size output_least room, le-ltb component_most (length s) fair, ok, bad)
+        done_table bad = rw (le-ltb size output_least room, le-ltb component_most (length s) fair, ok, bad)
 
-        pub done-answers :
+        pub done_answers :
             table_good instances_most (access_read access).profile t ≡ true →
             done access t s size ≡ answered (step (access_read access).profile t s)
         unfolding done
-        done-answers good = rw (le-ltb size output_least room, le-ltb component_most (length s) fair, ok, good)
+        done_answers good = rw (le-ltb size output_least room, le-ltb component_most (length s) fair, ok, good)
 
 -- what is refused is handed back, and nothing is written
 pub refused_arrives :
@@ -105,29 +105,29 @@ pub record StepFits (x : Step) : Type 0 where
   pub few : length x.entries ≤ instances_most
 
 module _ (p : Profile) (t : Table) (profile : profile_good p ≡ true) (table : table_good instances_most p t ≡ true) where
-  handled-fits :
+  handled_fits :
       (identifier : ℤ) (operation : ℕ) (r : Request) → RequestAsked p t.last identifier operation r →
       StepFits (handled p t identifier operation r)
-  handled-fits identifier operation r is =
+  handled_fits identifier operation r is =
       let sel = selection_of p r in
-      let good = run_good_lem p instances_most t.run (table-good instances_most p t table).1 in
-      handled-ind p t identifier operation r StepFits
+      let good = run_good_lem p instances_most t.run (table_good_lem instances_most p t table).1 in
+      handled_ind p t identifier operation r StepFits
       (λ error h. record {
-        answer = (is.range, judge-errors instances_most p operation r (instances_of t.run) error h);
+        answer = (is.range, judge_errors instances_most p operation r (instances_of t.run) error h);
         good = all_none;
         few = omega arith;
       })
       (λ _ _. record {
         answer = is.range;
-        good = listed-good p (good_profile p profile) sel instances_most (instances_of t.run) good;
-        few = listed-most p sel instances_most (instances_of t.run) good (rw (selection-procedure p r) is.procedure);
+        good = listed_good p (good_profile p profile) sel instances_most (instances_of t.run) good;
+        few = listed_most p sel instances_most (instances_of t.run) good (rw (selection_procedure p r) is.procedure);
       })
       (λ _ _. record { answer = is.range; good = all_none; few = omega arith })
 
   pub step_fits : (s : List ℕ) → StepFits (step p t s)
   step_fits s =
-      step-ind p t s StepFits (λ a said. record { answer = said.fits; good = all_none; few = omega arith })
-      (λ identifier operation r e. handled-fits identifier operation r (question-asks p t.last s identifier operation r e))
+      step_ind p t s StepFits (λ a said. record { answer = said.fits; good = all_none; few = omega arith })
+      (λ identifier operation r e. handled_fits identifier operation r (question_asks p t.last s identifier operation r e))
 
 -- the entries of a record of at most 8 are those it was made of
 listed_all : (es : List Entry) → length es ≤ instances_most → entries_in (entries_of (take instances_most es)) ≡ es
@@ -158,7 +158,7 @@ pub renews_applied :
     (next : Run) → RenewRequest read.profile r run next → next ≡ applied read.profile operation r run
 renews_applied access read reads ok run good operation r v judged renews is h next e =
     let profile : profile_good read.profile ≡ true = rw reads (access_good access (rw reads at ok)) in
-    renew-applied read.profile operation r run next (selection_of read.profile r) refl
+    renew_applied read.profile operation r run next (selection_of read.profile r) refl
     (good_profile read.profile profile) instances_most (run_good_lem read.profile instances_most run good)
     (sym (passes_none _ _ v judged renews is).1 ∙ h) e
 
@@ -176,41 +176,41 @@ module _
     fits =
         let ok : (access_read access).ok ≡ true = rw reads at ok in
         let table : table_good instances_most (access_read access).profile t ≡ true =
-        rw reads at (table-run instances_most p t low ∙ good) in
+        rw reads at (table_run instances_most p t low ∙ good) in
         rw reads (step_fits (access_read access).profile t (access_good access ok) table s)
 
-    step-arrives :
+    step_arrives :
         (x : Step) (n : ℕ) (ys : List ℕ) → step p t s ≡ x → Puts xs 0 (answer_octets x.answer x.entries) n ys →
         Arrives access t s xs (arrived_answered x.next x.answer n) ys
-    step-arrives x n ys is put =
+    step_arrives x n ys is put =
         let ok : (access_read access).ok ≡ true = rw reads at ok in
         let table : table_good instances_most (access_read access).profile t ≡ true =
-        rw reads at (table-run instances_most p t low ∙ good) in
+        rw reads at (table_run instances_most p t low ∙ good) in
         let steps : step (access_read access).profile t s ≡ x = rw reads at is in
         answered_arrives access t s xs x n ys
-        (done-answers access t s (length xs) room fair ok table ∙ ap answered steps)
+        (done_answers access t s (length xs) room fair ok table ∙ ap answered steps)
         (rw is at fits) room put
 
     module _ (q : QuestionRead) (told : q ≡ question_read (question p t.last s)) (n : ℕ) (ys : List ℕ) where
-      pub says-arrives :
+      pub says_arrives :
           q.asked ≡ false → PutAnswer xs q.answer n ys →
           Arrives access t s xs (arrived_answered t q.answer n) ys
-      says-arrives h put =
-          step-arrives (stays t q.answer) n ys (step-says p t s q.answer (read_says (question p t.last s) q told h)) put
+      says_arrives h put =
+          step_arrives (stays t q.answer) n ys (step_says p t s q.answer (read_says (question p t.last s) q told h)) put
 
       module _ (h : q.asked ≡ true) (last : ℕ) (moved : last ≡ last_after p q.identifier t.last) where
         asked : step p t s ≡ handled p t q.identifier q.operation q.request
-        asked = step-asks p t s q.identifier q.operation q.request (read_asks (question p t.last s) q told h)
+        asked = step_asks p t s q.identifier q.operation q.request (read_asks (question p t.last s) q told h)
 
-        pub fails-arrives :
+        pub fails_arrives :
             (v : Verdict) → verdict_no v ≡ verdict p t q.identifier q.operation q.request → (error : ℕ) → v ≡ Fails error →
             PutAnswer xs (answer.Error q.identifier error) n ys →
             Arrives access t s xs
             (arrived_answered (table_of last t.run) (answer.Error q.identifier error) n) ys
-        fails-arrives v judged error is put =
+        fails_arrives v judged error is put =
             rw moved
-            (step-arrives (fails p t q.identifier q.operation q.request error) n ys
-            (asked ∙ handled-fails p t q.identifier q.operation q.request error (sym judged ∙ ap verdict_no is))
+            (step_arrives (fails p t q.identifier q.operation q.request error) n ys
+            (asked ∙ handled_fails p t q.identifier q.operation q.request error (sym judged ∙ ap verdict_no is))
             put)
 
         module _ (v : Verdict) (judged : JudgeRequest p q.operation q.request t.run v) (renews : Bool) (is : v ≡ Passes renews) where
@@ -218,28 +218,28 @@ module _
           passes = (passes_none _ _ v judged renews is).0
 
           -- at most 8 are listed, so that the record of 8 has them all
-          pub lists-arrives :
+          pub lists_arrives :
               q.operation ≡ interrogation →
               PutListed xs q.identifier p (selection_of p q.request) t.run n ys →
               Arrives access t s xs
               (arrived_answered (table_of last t.run) (answer.Listing q.identifier) n) ys
-          lists-arrives interrogates put =
+          lists_arrives interrogates put =
               let x : Step = lists p t q.identifier q.operation q.request in
               let steps : step p t s ≡ x =
-              asked ∙ handled-lists p t q.identifier q.operation q.request passes interrogates in
+              asked ∙ handled_lists p t q.identifier q.operation q.request passes interrogates in
               let held : entries_in (entries_of (take instances_most x.entries)) ≡ x.entries =
               listed_all x.entries (rw steps at fits).few in
               rw moved
-              (step-arrives x n ys steps
+              (step_arrives x n ys steps
               (rw held at (listing_put xs q.identifier (entries_of (take instances_most x.entries)) n ys put)))
 
-          pub changes-arrives :
+          pub changes_arrives :
               (q.operation ≡ interrogation → ⊥) → (next : Run) → next ≡ applied p q.operation q.request t.run →
               PutAnswer xs (answer.Result q.identifier) n ys →
               Arrives access t s xs
               (arrived_answered (table_of last next) (answer.Result q.identifier) n) ys
-          changes-arrives other next applies put =
+          changes_arrives other next applies put =
               rw (moved, applies)
-              (step-arrives (changes p t q.identifier q.operation q.request) n ys
-              (asked ∙ handled-changes p t q.identifier q.operation q.request passes other)
+              (step_arrives (changes p t q.identifier q.operation q.request) n ys
+              (asked ∙ handled_changes p t q.identifier q.operation q.request passes other)
               put)

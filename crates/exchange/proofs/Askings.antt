@@ -65,9 +65,9 @@ is_known_lem (interrogation_is e) = rw e
 
 module _ (p : Profile) (last : ℕ) (s : List ℕ) where
   -- above the last handled identifier, with one of the three operations and an argument that can be read
-  pub asking-new :
+  pub asking_new :
       (n operation : ℕ) (at end : ℕ) (r : Request) (place : ℕ) → heard s ≡ heard.Asks (pos n) (local (pos operation)) at end →
       last < n → Known operation → argument_at (local (pos operation)) s at end ≡ got r place →
       question p last s ≡ asks (pos n) operation r
   unfolding question invoked
-  asking-new n operation at end r place h new is read = rw (h, above_new p last n new, is_known_lem is, read)
+  asking_new n operation at end r place h new is read = rw (h, above_new p last n new, is_known_lem is, read)

@@ -71,8 +71,8 @@ last_known (negsuc n) fits first second = ne_eqb (of_z w16 (negsuc n)) interroga
 -- a signed number of 16 bits, as the machine holds it
 module _ (z : ℤ) (fits : SFits w16 z) where
   -- "identifier not above last handled": a negative one
-  pub below-zero : (last : ℕ) → lt_z (to_z w16 (of_z w16 z)) (pos 0) ≡ true → true ≡ not_above z last
-  below-zero last e = negative_not_above z last (rw (to_z-of_z fits) at e)
+  pub below_zero : (last : ℕ) → lt_z (to_z w16 (of_z w16 z)) (pos 0) ≡ true → true ≡ not_above z last
+  below_zero last e = negative_not_above z last (rw (to_z-of_z fits) at e)
 
   -- and one that can be cast
   pub from_zero :
@@ -80,23 +80,23 @@ module _ (z : ℤ) (fits : SFits w16 z) where
       leb (nat_abs (to_z w16 (of_z w16 z))) last ≡ not_above z last
   from_zero last e = rw (to_z-of_z fits) (number_not_above z last (rw (to_z-of_z fits) at e))
 
-  pub from-zero-fits :
+  pub from_zero_fits :
       lt_z (to_z w16 (of_z w16 z)) (pos 0) ≡ false →
       T (non_neg (to_z w16 (of_z w16 z))) × Fits w16 (nat_abs (to_z w16 (of_z w16 z)))
-  from-zero-fits e = rw (to_z-of_z fits) (number_fits_lem z fits (rw (to_z-of_z fits) at e))
+  from_zero_fits e = rw (to_z-of_z fits) (number_fits_lem z fits (rw (to_z-of_z fits) at e))
 
   -- "operation not 7, 8, 11"
-  pub activation-known : of_z w16 z ≡ activation → true ≡ known_operation z
+  pub activation_known : of_z w16 z ≡ activation → true ≡ known_operation z
   unfolding known_operation
-  activation-known e = rw (bits_are z fits activation (omega arith) e)
+  activation_known e = rw (bits_are z fits activation (omega arith) e)
 
-  pub deactivation-known : of_z w16 z ≡ deactivation → true ≡ known_operation z
+  pub deactivation_known : of_z w16 z ≡ deactivation → true ≡ known_operation z
   unfolding known_operation
-  deactivation-known e = rw (bits_are z fits deactivation (omega arith) e)
+  deactivation_known e = rw (bits_are z fits deactivation (omega arith) e)
 
-  pub interrogation-known :
+  pub interrogation_known :
       (of_z w16 z ≡ activation → ⊥) → (of_z w16 z ≡ deactivation → ⊥) → eqb (of_z w16 z) interrogation ≡ known_operation z
-  interrogation-known = last_known z fits
+  interrogation_known = last_known z fits
 
 -- ---- operations
 
@@ -113,15 +113,15 @@ known_code (negsuc n) = λ e. absurd (false≢true e)
 
 -- so that the machine can cast it
 module _ (z : ℤ) (fits : SFits w16 z) (e : known_operation z ≡ true) where
-  machine-code : to_z w16 (of_z w16 z) ≡ pos (code_of z)
-  machine-code = to_z-of_z fits ∙ (known_code z e).0
+  machine_code : to_z w16 (of_z w16 z) ≡ pos (code_of z)
+  machine_code = to_z-of_z fits ∙ (known_code z e).0
 
   pub code_fits : T (non_neg (to_z w16 (of_z w16 z))) × Fits w8 (nat_abs (to_z w16 (of_z w16 z)))
   code_fits =
-      rw machine-code (tt, record { fits = omega (arith, known_most (known_code z e).1) })
+      rw machine_code (tt, record { fits = omega (arith, known_most (known_code z e).1) })
 
-  pub code-cast : nat_abs (to_z w16 (of_z w16 z)) ≡ code_of z
-  code-cast = ap nat_abs machine-code
+  pub code_cast : nat_abs (to_z w16 (of_z w16 z)) ≡ code_of z
+  code_cast = ap nat_abs machine_code
 
 pub known_number : (n : ℕ) → known_operation (pos n) ≡ any (eqb n activation ∷ eqb n deactivation ∷ eqb n interrogation ∷ [])
 unfolding known_operation
@@ -248,11 +248,11 @@ module _ (p : Profile) (last : ℕ) (s : List ℕ) where
   sound = sound_of p last s (heard s) (heard_range s)
 
   -- what is known of a request that must be judged
-  pub question-asks :
+  pub question_asks :
       (identifier : ℤ) (operation : ℕ) (r : Request) → question p last s ≡ asks identifier operation r →
       RequestAsked p last identifier operation r
-  question-asks identifier operation r e = rw e at sound
+  question_asks identifier operation r e = rw e at sound
 
   -- and of an answer at once
-  pub question-says : (a : Answer) → question p last s ≡ says a → Said a
-  question-says a e = rw e at sound
+  pub question_says : (a : Answer) → question p last s ≡ says a → Said a
+  question_says a e = rw e at sound

@@ -29,7 +29,7 @@ use Rattle.exchange.specs.Step.{Step, stays, last_after, result_of, verdict_of, 
 use Rattle.exchange.specs.inner.Question.{question_read}
 use Rattle.exchange.specs.declared.question.QuestionRead.{QuestionRead}
 use Rattle.exchange.specs.declared.table.Table.{Table}
-use Rattle.exchange.proofs.Questions.{Said, question-says}
+use Rattle.exchange.proofs.Questions.{Said, question_says}
 
 -- ---- the last handled identifier
 
@@ -50,12 +50,12 @@ last_negative p (negsuc n) last e = refl
 
 -- as the machine tells it
 module _ (p : Profile) (z : ℤ) (fits : SFits w16 z) (last : ℕ) where
-  pub machine-below : lt_z (to_z w16 (of_z w16 z)) (pos 0) ≡ true → last ≡ last_after p z last
-  machine-below e = last_negative p z last (rw (to_z-of_z fits) at e)
+  pub machine_below : lt_z (to_z w16 (of_z w16 z)) (pos 0) ≡ true → last ≡ last_after p z last
+  machine_below e = last_negative p z last (rw (to_z-of_z fits) at e)
 
-  pub machine-moves :
+  pub machine_moves :
       lt_z (to_z w16 (of_z w16 z)) (pos 0) ≡ false → p.counted ≡ 1 → nat_abs (to_z w16 (of_z w16 z)) ≡ last_after p z last
-  machine-moves e counted =
+  machine_moves e counted =
       let number = positive z (rw (to_z-of_z fits) at e) in
       rw (to_z-of_z fits, number) (sym (after_moves p (mag z) last counted))
 
@@ -79,69 +79,69 @@ module _ (p : Profile) (t : Table) (identifier : ℤ) (operation : ℕ) (r : Req
   abbrev pub verdict : Option ℕ
   verdict = judge instances_most p operation r (instances_of t.run)
 
-  pub handled-fails : (error : ℕ) → verdict ≡ some error → handled p t identifier operation r ≡ fails error
+  pub handled_fails : (error : ℕ) → verdict ≡ some error → handled p t identifier operation r ≡ fails error
   unfolding handled
-  handled-fails error h = rw h
+  handled_fails error h = rw h
 
   module _ (passes : verdict ≡ none) where
-    pub handled-lists : operation ≡ interrogation → handled p t identifier operation r ≡ lists
+    pub handled_lists : operation ≡ interrogation → handled p t identifier operation r ≡ lists
     unfolding handled result_of
-    handled-lists h = rw (passes, eq-eqb operation interrogation h)
+    handled_lists h = rw (passes, eq-eqb operation interrogation h)
 
-    pub handled-changes : (operation ≡ interrogation → ⊥) → handled p t identifier operation r ≡ changes
+    pub handled_changes : (operation ≡ interrogation → ⊥) → handled p t identifier operation r ≡ changes
     unfolding handled result_of
-    handled-changes h = rw (passes, ne_eqb operation interrogation h)
+    handled_changes h = rw (passes, ne_eqb operation interrogation h)
 
   -- what holds of all three holds of what is done with the request
-  verdict-ind :
+  verdict_ind :
       (P : Step → Type 0) (v : Option ℕ) → verdict ≡ v → ((error : ℕ) → verdict ≡ some error → P (fails error)) →
       (verdict ≡ none → operation ≡ interrogation → P lists) →
       (verdict ≡ none → (operation ≡ interrogation → ⊥) → P changes) →
       P (verdict_of p t identifier operation r v)
   unfolding result_of
-  verdict-ind P none h fail list change =
+  verdict_ind P none h fail list change =
       pick_ind P (eqb operation interrogation)
       (λ e. list h (eqb-true operation interrogation e))
       (λ e. change h (eqb-false operation interrogation e))
-  verdict-ind P (some error) h fail list change = fail error h
+  verdict_ind P (some error) h fail list change = fail error h
 
-  pub handled-ind :
+  pub handled_ind :
       (P : Step → Type 0) → ((error : ℕ) → verdict ≡ some error → P (fails error)) →
       (verdict ≡ none → operation ≡ interrogation → P lists) →
       (verdict ≡ none → (operation ≡ interrogation → ⊥) → P changes) →
       P (handled p t identifier operation r)
   unfolding handled
-  handled-ind P = verdict-ind P verdict refl
+  handled_ind P = verdict_ind P verdict refl
 
 -- ---- a component
 
 module _ (p : Profile) (t : Table) (s : List ℕ) where
-  pub step-says : (a : Answer) → question p t.last s ≡ says a → step p t s ≡ stays t a
+  pub step_says : (a : Answer) → question p t.last s ≡ says a → step p t s ≡ stays t a
   unfolding step
-  step-says a e = rw e
+  step_says a e = rw e
 
-  pub step-asks :
+  pub step_asks :
       (identifier : ℤ) (operation : ℕ) (r : Request) → question p t.last s ≡ asks identifier operation r →
       step p t s ≡ handled p t identifier operation r
   unfolding step
-  step-asks identifier operation r e = rw e
+  step_asks identifier operation r e = rw e
 
   -- what holds of an answer at once, and of a request that is handled, holds of a step
-  question-ind :
+  question_ind :
       (P : Step → Type 0) (q : Question) → question p t.last s ≡ q → ((a : Answer) → Said a → P (stays t a)) →
       ((identifier : ℤ) (operation : ℕ) (r : Request) →
       question p t.last s ≡ asks identifier operation r → P (handled p t identifier operation r)) →
       P (step_of p t q)
-  question-ind P (says a) e said asked = said a (question-says p t.last s a e)
-  question-ind P (asks identifier operation r) e said asked = asked identifier operation r e
+  question_ind P (says a) e said asked = said a (question_says p t.last s a e)
+  question_ind P (asks identifier operation r) e said asked = asked identifier operation r e
 
-  pub step-ind :
+  pub step_ind :
       (P : Step → Type 0) → ((a : Answer) → Said a → P (stays t a)) →
       ((identifier : ℤ) (operation : ℕ) (r : Request) →
       question p t.last s ≡ asks identifier operation r → P (handled p t identifier operation r)) →
       P (step p t s)
   unfolding step
-  step-ind P = question-ind P (question p t.last s) refl
+  step_ind P = question_ind P (question p t.last s) refl
 
 -- ---- a question, as the code tells it
 

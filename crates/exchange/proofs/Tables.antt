@@ -16,26 +16,26 @@ use Rattle.exchange.specs.declared.table.Table.{Table}
 
 module _ (most : ℕ) (p : Profile) (t : Table) where
   -- a last handled identifier above the most
-  pub table-over : last_most < t.last → table_good most p t ≡ false
+  pub table_over : last_most < t.last → table_good most p t ≡ false
   unfolding table_good
-  table-over lt = rw (lt-leb t.last last_most lt)
+  table_over lt = rw (lt-leb t.last last_most lt)
 
   -- where it is not, the instances decide
-  pub table-run : t.last ≤ last_most → table_good most p t ≡ run_good most p t.run
+  pub table_run : t.last ≤ last_most → table_good most p t ≡ run_good most p t.run
   unfolding table_good
-  table-run le = rw (le-leb t.last last_most le) (pick_last (run_good most p t.run))
+  table_run le = rw (le-leb t.last last_most le) (pick_last (run_good most p t.run))
 
   -- a table that breaks no rule
-  pub table-good : table_good most p t ≡ true → (t.last ≤ last_most) × (run_good most p t.run ≡ true)
+  pub table_good_lem : table_good most p t ≡ true → (t.last ≤ last_most) × (run_good most p t.run ≡ true)
   unfolding table_good
-  table-good good =
+  table_good_lem good =
       let both = both_hold (leb t.last last_most) (run_good most p t.run) good in
       (leb-true t.last last_most both.0, both.1)
 
   -- and one that is made
-  pub good-table : t.last ≤ last_most → run_good most p t.run ≡ true → table_good most p t ≡ true
-  good-table le good = table-run le ∙ good
+  pub good_table : t.last ≤ last_most → run_good most p t.run ≡ true → table_good most p t ≡ true
+  good_table le good = table_run le ∙ good
 
 -- the fresh table breaks no rule of any profile
 pub fresh_good : (p : Profile) → table_good instances_most p fresh_table ≡ true
-fresh_good p = good-table instances_most p fresh_table (omega arith) (empty_good p)
+fresh_good p = good_table instances_most p fresh_table (omega arith) (empty_good p)

@@ -15,14 +15,14 @@ use refusals::{COMPONENTMOST, OUTPUTLEAST, Refusal};
 use rules::{Verdict, apply_request, judge_request, renew_request, selection_of};
 
 // What comes of an arriving component: it is not looked at, or it is answered.
-#[derive(Drop)]
+#[derive(Clone, Copy)]
 pub enum Arriving {
     Refuses { refusal: Refusal },
     Answers { answer: Answer },
 }
 
 // The next table, the answer or the refusal, and how many octets the reply has.
-#[derive(Drop)]
+#[derive(Clone, Copy)]
 pub struct Arrived {
     pub table: Table,
     pub outcome: Arriving,

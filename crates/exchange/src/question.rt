@@ -18,7 +18,7 @@ const DEACTIVATIONVALUE: i16 = DEACTIVATION as i16;
 const INTERROGATIONVALUE: i16 = INTERROGATION as i16;
 
 // A request that must be judged, with its identifier and its operation's code; or, where `asked` is false, the answer.
-#[derive(Drop)]
+#[derive(Clone, Copy)]
 pub(crate) struct QuestionRead {
     pub(crate) asked: bool,
     pub(crate) answer: Answer,

@@ -7,7 +7,7 @@ use profile::Profile;
 pub(crate) const LASTMOST: u16 = 32767;
 
 #[repr(C)]
-#[derive(Drop)]
+#[derive(Clone, Copy)]
 pub struct Table {
     pub last: u16,
     pub run: Run,

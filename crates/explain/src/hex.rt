@@ -3,7 +3,7 @@ ghost use Rattle.std.specs.Prelude.{◌≤◌, length};
 ghost use Rattle.explain.specs.Hex.{count_in};
 
 // Octets, as many as were read or as there is room for; or the text is none.
-#[derive(Drop)]
+#[derive(Clone, Copy)]
 pub(crate) enum Hex {
     Octets { count: usize },
     Bad,

@@ -17,20 +17,20 @@ use Rattle.skip.specs.Depth.{component_depth}
 use Rattle.explanations.specs.Elements.{lines_in}
 use Rattle.explanations.specs.Explained.{said, explained, explanation_most, explained_in, Explains}
 use Rattle.explanations.specs.inner.Pen.{Penned}
-use Rattle.explanations.proofs.Pens.{pen-then}
+use Rattle.explanations.proofs.Pens.{pen_then}
 use Rattle.explanations.proofs.Longest.{explained_most}
 
 module _ (s xs : List ℕ) where
-  pub explains-short : length xs < explanation_most → (r : Written) → r ≡ not_written ShortOutput → Explains s xs r xs
+  pub explains_short : length xs < explanation_most → (r : Written) → r ≡ not_written ShortOutput → Explains s xs r xs
   unfolding explained_in
-  explains-short short r e =
+  explains_short short r e =
       let is = lt-ltb (length xs) explanation_most short in
       record { told = rw (is, e); count = rw (is, e); lent = rw is (sym (over_nil xs 0)) }
 
   module _ (wide : explanation_most ≤ length xs) where
-    pub explains-long : component_most < length s → (r : Written) → r ≡ not_written LongComponent → Explains s xs r xs
+    pub explains_long : component_most < length s → (r : Written) → r ≡ not_written LongComponent → Explains s xs r xs
     unfolding explained_in
-    explains-long long r e =
+    explains_long long r e =
         let room = le-ltb (length xs) explanation_most wide in
         let is = lt-ltb component_most (length s) long in
         record { told = rw (room, is, e); count = rw (room, is, e); lent = rw (room, is) (sym (over_nil xs 0)) }
@@ -40,14 +40,14 @@ module _ (s xs : List ℕ) where
         (elements : Penned xs 0 (lines_in component_depth s 0 (length s)) p ys) {n : ℕ} {zs : List ℕ} (last : Penned ys p (said s) n zs) where
       whole : Penned xs 0 (explained s) n zs
       unfolding explained
-      whole = pen-then elements last
+      whole = pen_then elements last
 
       counted : n ≡ length (explained s)
       counted = omega (arith, whole.moved, explained_most s few)
 
-      pub explains-all : Explains s xs (record { outcome = Done; count = n }) zs
+      pub explains_all : Explains s xs (record { outcome = Done; count = n }) zs
       unfolding explained_in
-      explains-all =
+      explains_all =
           let room = le-ltb (length xs) explanation_most wide in
           let is = le-ltb component_most (length s) few in
           record { told = rw (room, is); count = rw (room, is) counted; lent = rw (room, is) whole.holds }

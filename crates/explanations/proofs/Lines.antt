@@ -47,49 +47,49 @@ further (suc depth) s at end h =
 -- ---- siblings
 
 module _ (step : ℕ → Lines) (end : ℕ) (moves : (at : ℕ) → at < end → FurtherLines at end (step at).next) where
-  siblings-past : (n at : ℕ) → end ≤ at → siblings step n at end ≡ []
+  siblings_past : (n at : ℕ) → end ≤ at → siblings step n at end ≡ []
   unfolding siblings
-  siblings-past zero at h = refl
-  siblings-past (suc n) at h = rw (le-leb end at h)
+  siblings_past zero at h = refl
+  siblings_past (suc n) at h = rw (le-leb end at h)
 
-  siblings-more :
+  siblings_more :
       (n at : ℕ) → at < end →
       siblings step (suc n) at end ≡ (step at).text ++ siblings step n (step at).next end
   unfolding siblings
-  siblings-more n at h = rw (lt-leb end at h)
+  siblings_more n at h = rw (lt-leb end at h)
 
   -- a number that is enough gives the same as any other that is
-  siblings-same : (n m at : ℕ) → end - at ≤ n → end - at ≤ m → siblings step n at end ≡ siblings step m at end
-  siblings-same zero m at h k = siblings-past zero at (omega arith) ∙ sym (siblings-past m at (omega arith))
-  siblings-same (suc n) zero at h k = siblings-past (suc n) at (omega arith) ∙ sym (siblings-past zero at (omega arith))
-  siblings-same (suc n) (suc m) at h k =
+  siblings_same : (n m at : ℕ) → end - at ≤ n → end - at ≤ m → siblings step n at end ≡ siblings step m at end
+  siblings_same zero m at h k = siblings_past zero at (omega arith) ∙ sym (siblings_past m at (omega arith))
+  siblings_same (suc n) zero at h k = siblings_past (suc n) at (omega arith) ∙ sym (siblings_past zero at (omega arith))
+  siblings_same (suc n) (suc m) at h k =
       by_bool (siblings step (suc n) at end ≡ siblings step (suc m) at end) (leb end at)
       (λ e.
       let past : end ≤ at = leb-true _ _ e in
-      siblings-past (suc n) at past ∙ sym (siblings-past (suc m) at past))
+      siblings_past (suc n) at past ∙ sym (siblings_past (suc m) at past))
       (λ e.
       let here : at < end = leb-false _ _ e in
       let far = moves at here in
-      siblings-more n at here
-      ∙ ap (λ (l : List ℕ). (step at).text ++ l) (siblings-same n m (step at).next (omega (arith, far)) (omega (arith, far)))
-      ∙ sym (siblings-more m at here))
+      siblings_more n at here
+      ∙ ap (λ (l : List ℕ). (step at).text ++ l) (siblings_same n m (step at).next (omega (arith, far)) (omega (arith, far)))
+      ∙ sym (siblings_more m at here))
 
-  siblings-step :
+  siblings_step :
       (at : ℕ) → at < end →
       siblings step (end - at) at end ≡ (step at).text ++ siblings step (end - (step at).next) (step at).next end
-  siblings-step at h =
+  siblings_step at h =
       let far = moves at h in
-      siblings-same (end - at) (suc (end - at)) at (omega arith) (omega arith)
-      ∙ siblings-more (end - at) at h
+      siblings_same (end - at) (suc (end - at)) at (omega arith) (omega arith)
+      ∙ siblings_more (end - at) at h
       ∙ ap (λ (l : List ℕ). (step at).text ++ l)
-      (siblings-same (end - at) (end - (step at).next) (step at).next (omega (arith, far)) (omega arith))
+      (siblings_same (end - at) (end - (step at).next) (step at).next (omega (arith, far)) (omega arith))
 
 -- ---- contents
 
 pub lines_end : (depth : ℕ) (s : List ℕ) (at end : ℕ) → end ≤ at → lines_in depth s at end ≡ []
 unfolding lines_in
 lines_end depth s at end h =
-    siblings-past (λ a. element_lines depth s a end) end (λ a. further depth s a end) (end - at) at h
+    siblings_past (λ a. element_lines depth s a end) end (λ a. further depth s a end) (end - at) at h
 
 pub lines_step :
     (depth : ℕ) (s : List ℕ) (at end : ℕ) → at < end →
@@ -97,7 +97,7 @@ pub lines_step :
     ≡ (element_lines depth s at end).text ++ lines_in depth s (element_lines depth s at end).next end
 unfolding lines_in
 lines_step depth s at end h =
-    siblings-step (λ a. element_lines depth s a end) end (λ a. further depth s a end) at h
+    siblings_step (λ a. element_lines depth s a end) end (λ a. further depth s a end) at h
 
 -- an element's lines by its head, those in it to one depth less; at depth 0 there is no head
 pub element_lines_lem :

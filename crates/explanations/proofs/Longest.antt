@@ -35,8 +35,8 @@ indent_most : (depth : ℕ) → length (indent depth) ≤ 20
 indent_most depth = omega (arith, blanks_length (component_depth - depth))
 
 module _ (s : List ℕ) where
-  hex-part : (from to : ℕ) → to ≤ length s → length (hex_text (slice from to s)) ≡ 2 * (to - from)
-  hex-part from to h = omega (arith, hex_length (slice from to s), length-slice from to s h)
+  hex_part : (from to : ℕ) → to ≤ length s → length (hex_text (slice from to s)) ≡ 2 * (to - from)
+  hex_part from to h = omega (arith, hex_length (slice from to s), length-slice from to s h)
 
   -- a primitive element's contents; a constructed one has none in its line
   contents_most :
@@ -48,19 +48,19 @@ module _ (s : List ℕ) where
       (λ _.
       pick_ind (λ ws. length ws ≤ 10 + 2 * (stop - start)) (eqb start stop) {x = []} {y = text}
       (λ _. omega arith)
-      (λ _. omega (arith, length-append (chars " contents ") (hex_text (slice start stop s)), hex-part start stop h)))
+      (λ _. omega (arith, length-append (chars " contents ") (hex_text (slice start stop s)), hex_part start stop h)))
       (λ _. omega arith)
 
-  contents-none : (tag start stop : ℕ) → eqb (tag / 32 % 2) 0 ≡ false → length (contents_text tag s start stop) ≡ 0
+  contents_none : (tag start stop : ℕ) → eqb (tag / 32 % 2) 0 ≡ false → length (contents_text tag s start stop) ≡ 0
   unfolding contents_text
-  contents-none tag start stop e = rw e
+  contents_none tag start stop e = rw e
 
-  line-length :
+  line_length :
       (depth tag at start stop : ℕ) → start ≤ length s → at + 1 < start →
       length (element_line depth tag s at start stop)
       ≤ 35 + 2 * (start - (at + 1)) + length (contents_text tag s start stop)
   unfolding element_line
-  line-length depth tag at start stop h more =
+  line_length depth tag at start stop h more =
       let first : List ℕ = hex_text (slice at (at + 1) s) in
       let size : List ℕ = hex_text (slice (at + 1) start s) in
       let contents : List ℕ = contents_text tag s start stop in
@@ -73,14 +73,14 @@ module _ (s : List ℕ) where
         length-append (indent depth ++ chars "tag ") first,
         length-append (indent depth) (chars "tag "),
         indent_most depth,
-        hex-part at (at + 1) (omega arith),
-        hex-part (at + 1) start h,
+        hex_part at (at + 1) (omega arith),
+        hex_part (at + 1) start h,
       )
 
-  unread-most :
+  unread_most :
       (depth at end : ℕ) → at < end → end ≤ length s → length (unread_line depth s at end) ≤ octet_most * (end - at)
   unfolding unread_line
-  unread-most depth at end some h =
+  unread_most depth at end some h =
       let rest : List ℕ = hex_text (slice at end s) in
       omega (
         arith,
@@ -88,7 +88,7 @@ module _ (s : List ℕ) where
         length-append (indent depth ++ chars "unread ") rest,
         length-append (indent depth) (chars "unread "),
         indent_most depth,
-        hex-part at end h,
+        hex_part at end h,
       )
 
 -- ---- an element, by what is known of the lines inside it
@@ -100,7 +100,7 @@ module _ (s : List ℕ) (inner : ℕ → ℕ → List ℕ)
       length (lines_of inner depth s at end x).text ≤ octet_most * ((lines_of inner depth s at end x).next - at)
   head_most depth at end (head.Is tag start stop next) some h w =
       let line : List ℕ = element_line depth tag s at start stop in
-      let long = line-length s depth tag at start stop (omega (arith, w.stops, w.nexts, w.ends)) w.starts in
+      let long = line_length s depth tag at start stop (omega (arith, w.stops, w.nexts, w.ends)) w.starts in
       by_bool
       (length (line ++ pick (eqb (tag / 32 % 2) 0) [] (inner start stop)) ≤ octet_most * (next - at))
       (eqb (tag / 32 % 2) 0)
@@ -121,22 +121,22 @@ module _ (s : List ℕ) (inner : ℕ → ℕ → List ℕ)
         arith,
         length-append line (inner start stop),
         long,
-        contents-none s tag start stop e,
+        contents_none s tag start stop e,
         few start stop (omega (arith, w.nexts, w.ends)),
         w.starts,
         w.stops,
         w.nexts,
       )))
-  head_most depth at end head.Bad some h w = unread-most s depth at end some h
+  head_most depth at end head.Bad some h w = unread_most s depth at end some h
 
 -- ---- siblings
 
 module _ (step : ℕ → Lines) (end : ℕ) (moves : (at : ℕ) → at < end → FurtherLines at end (step at).next)
     (few : (at : ℕ) → at < end → length (step at).text ≤ octet_most * ((step at).next - at)) where
-  siblings-most : (n at : ℕ) → length (siblings step n at end) ≤ octet_most * (end - at)
+  siblings_most : (n at : ℕ) → length (siblings step n at end) ≤ octet_most * (end - at)
   unfolding siblings
-  siblings-most zero at = omega arith
-  siblings-most (suc n) at =
+  siblings_most zero at = omega arith
+  siblings_most (suc n) at =
       let rest : List ℕ = siblings step n (step at).next end in
       pick_ind (λ ws. length ws ≤ octet_most * (end - at)) (leb end at) {x = []} {y = (step at).text ++ rest}
       (λ _. omega arith)
@@ -148,25 +148,25 @@ module _ (step : ℕ → Lines) (end : ℕ) (moves : (at : ℕ) → at < end →
         few at here,
         (moves at here).0,
         (moves at here).1,
-        siblings-most n (step at).next,
+        siblings_most n (step at).next,
       ))
 
 element_most :
     (depth : ℕ) (s : List ℕ) (at end : ℕ) → at < end → end ≤ length s →
     length (element_lines depth s at end).text ≤ octet_most * ((element_lines depth s at end).next - at)
 unfolding element_lines
-element_most zero s at end some h = unread-most s zero at end some h
+element_most zero s at end some h = unread_most s zero at end some h
 element_most (suc depth) s at end some h =
     head_most s (λ start stop. siblings (λ a. element_lines depth s a stop) (stop - start) start stop)
     (λ start stop inside.
-    siblings-most (λ a. element_lines depth s a stop) stop (λ a. further depth s a stop)
+    siblings_most (λ a. element_lines depth s a stop) stop (λ a. further depth s a stop)
     (λ a here. element_most depth s a stop here inside) (stop - start) start)
     (suc depth) at end (head_at (suc depth) s at end) some h (within (suc depth) s at end)
 
 lines_most_lem : (depth : ℕ) (s : List ℕ) (at end : ℕ) → end ≤ length s → length (lines_in depth s at end) ≤ octet_most * (end - at)
 unfolding lines_in
 lines_most_lem depth s at end h =
-    siblings-most (λ a. element_lines depth s a end) end (λ a. further depth s a end)
+    siblings_most (λ a. element_lines depth s a end) end (λ a. further depth s a end)
     (λ a here. element_most depth s a end here h) (end - at) at
 
 -- an explanation has at most 30,895 octets

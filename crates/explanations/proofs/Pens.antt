@@ -1,4 +1,4 @@
--- The laws of all writers that stop where the output ends: one, and then another (`pen-then`). Assumes nothing.
+-- The laws of all writers that stop where the output ends: one, and then another (`pen_then`). Assumes nothing.
 use Prim.Native.Nat.{ℕ, ◌+◌, ◌-◌, ◌≤◌, ◌<◌}
 use mathlib.Core.Path.{◌≡◌, sym, ap, ◌∙◌}
 use mathlib.Core.List.{List, [], ◌∷◌, ◌++◌}
@@ -48,8 +48,8 @@ module _ {xs : List ℕ} {at : ℕ} {ws : List ℕ} {p : ℕ} {ys : List ℕ} (a
       ∙ sym (over_past ys (at + length ws) vs (omega (arith, pen_length a)))
       ∙ whole)
 
-  pub pen-then : {vs : List ℕ} {q : ℕ} {zs : List ℕ} → Penned ys p vs q zs → Penned xs at (ws ++ vs) q zs
-  pen-then {vs} b = record {
+  pub pen_then : {vs : List ℕ} {q : ℕ} {zs : List ℕ} → Penned ys p vs q zs → Penned xs at (ws ++ vs) q zs
+  pen_then {vs} b = record {
     moved = rw (length-append ws vs) (omega (arith, a.moved, b.moved, pen_length a));
     holds = b.holds ∙ rest_over vs;
   }
@@ -65,7 +65,7 @@ module _ {xs : List ℕ} {at : ℕ} {ws : List ℕ} {ys : List ℕ} {p : ℕ} {v
   -- the first part of it was written
   pub going_next :
       (us rest : List ℕ) → vs ≡ us ++ rest → {q : ℕ} {zs : List ℕ} → Penned ys p us q zs → Going xs at ws zs q rest
-  going_next us rest e u r rs w = g r rs (rw e (pen-then u w))
+  going_next us rest e u r rs w = g r rs (rw e (pen_then u w))
 
-  pub going-last : vs ≡ [] → Penned xs at ws p ys
-  going-last e = g p ys (rw e pen_none)
+  pub going_last : vs ≡ [] → Penned xs at ws p ys
+  going_last e = g p ys (rw e pen_none)

@@ -36,11 +36,11 @@ positive (pos n) e = refl
 positive (negsuc n) e = let z : ◌≡◌ {A = ℕ} 0 1 = cc in absurd (omega arith)
 
 module _ (z : ℤ) (fits : SFits w16 z) where
-  pub number-negative : lt_z (to_z w16 (of_z w16 z)) (pos 0) ≡ true → 0 ≡ operation_no z
-  number-negative e = negative z (rw (to_z-of_z fits) at e)
+  pub number_negative : lt_z (to_z w16 (of_z w16 z)) (pos 0) ≡ true → 0 ≡ operation_no z
+  number_negative e = negative z (rw (to_z-of_z fits) at e)
 
-  pub number-positive : lt_z (to_z w16 (of_z w16 z)) (pos 0) ≡ false → mag z ≡ operation_no z
-  number-positive e = positive z (rw (to_z-of_z fits) at e)
+  pub number_positive : lt_z (to_z w16 (of_z w16 z)) (pos 0) ≡ false → mag z ≡ operation_no z
+  number_positive e = positive z (rw (to_z-of_z fits) at e)
 
 pub number_pos : (n : ℕ) → operation_no (pos n) ≡ n
 unfolding operation_no
@@ -76,14 +76,14 @@ asked_is s identifier operation at end = refl
 -- ---- an argument that was read, or not
 
 module _ (identifier : ℤ) (operation : ℕ) where
-  pub argument-told :
+  pub argument_told :
       (g : Got Request) (r : RequestRead) → r ≡ request_read g → r.ok ≡ true →
       argued_text identifier operation g ≡ request_line identifier operation r.request
-  argument-told (got request next) r e h = rw e
-  argument-told wrong r e h = absurd (false≢true (sym (ap (λ (x : RequestRead). x.ok) e) ∙ h))
+  argument_told (got request next) r e h = rw e
+  argument_told wrong r e h = absurd (false≢true (sym (ap (λ (x : RequestRead). x.ok) e) ∙ h))
 
-  pub argument-untold :
+  pub argument_untold :
       (g : Got Request) (r : RequestRead) → r ≡ request_read g → r.ok ≡ false →
       argued_text identifier operation g ≡ argued_text identifier operation wrong
-  argument-untold (got request next) r e h = absurd (false≢true (sym h ∙ ap (λ (x : RequestRead). x.ok) e))
-  argument-untold wrong r e h = refl
+  argument_untold (got request next) r e h = absurd (false≢true (sym h ∙ ap (λ (x : RequestRead). x.ok) e))
+  argument_untold wrong r e h = refl

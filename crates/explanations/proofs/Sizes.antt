@@ -28,7 +28,7 @@ use Rattle.requests.specs.declared.heard.Operation.{Operation}
 use Rattle.requests.specs.declared.request.Request.{Request}
 use Rattle.requests.specs.declared.request.Served.{Served}
 use Rattle.listings.specs.Listing.{decimal, procedure_name, kind_text, hex_text, ended_by}
-use Rattle.listings.proofs.Words.{decimal_ten, hex_length, kind-unknown, kind-public, name-cfu, name-cfb, name-cfnr}
+use Rattle.listings.proofs.Words.{decimal_ten, hex_length, kind_unknown, kind_public, name_cfu, name_cfb, name_cfnr}
 use Rattle.explanations.specs.Text.{chars, signed_text, counted_places, number_text, served_text, octets_word, sub_word}
 use Rattle.explanations.specs.Text.{to_text, operation_text, argument_text, request_line}
 use Rattle.explanations.specs.Explained.{reply_word, value_word, value_text, own_text, reply_text, reply_found, reply_of, reply_line}
@@ -48,23 +48,23 @@ held_most count places = omega (arith, length-take (min count most) places)
 kind_most : (form kind : ℕ) → length (ended_by (kind_text form kind) 32) ≤ 12
 kind_most form kind =
     by_bool (length (ended_by (kind_text form kind) 32) ≤ 12) (eqb form 0)
-    (λ e. omega (arith, ap length (kind-unknown form kind (eqb-true form 0 e))))
+    (λ e. omega (arith, ap length (kind_unknown form kind (eqb-true form 0 e))))
     (λ e.
     omega (
       arith,
       length-append (kind_text form kind) (32 ∷ []),
-      ap length (kind-public form kind (eqb-false form 0 e)),
+      ap length (kind_public form kind (eqb-false form 0 e)),
       decimal_ten kind,
     ))
 
 name_most : (procedure : ℕ) → length (ended_by (procedure_name procedure) 32) ≤ 5
 name_most procedure =
     by_bool (length (ended_by (procedure_name procedure) 32) ≤ 5) (eqb procedure 0)
-    (λ e. omega (arith, ap length (name-cfu procedure (eqb-true procedure 0 e))))
+    (λ e. omega (arith, ap length (name_cfu procedure (eqb-true procedure 0 e))))
     (λ e.
     by_bool (length (ended_by (procedure_name procedure) 32) ≤ 5) (eqb procedure 1)
-    (λ f. omega (arith, ap length (name-cfb procedure (eqb-false procedure 0 e) (eqb-true procedure 1 f))))
-    (λ f. omega (arith, ap length (name-cfnr procedure (eqb-false procedure 0 e) (eqb-false procedure 1 f)))))
+    (λ f. omega (arith, ap length (name_cfb procedure (eqb-false procedure 0 e) (eqb-true procedure 1 f))))
+    (λ f. omega (arith, ap length (name_cfnr procedure (eqb-false procedure 0 e) (eqb-false procedure 1 f)))))
 
 -- ---- a request
 

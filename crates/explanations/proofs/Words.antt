@@ -45,8 +45,8 @@ positive (pos n) e = refl
 positive (negsuc n) e = let z : ◌≡◌ {A = ℕ} 0 1 = cc in absurd (omega arith)
 
 module _ (z : ℤ) (fits : SFits w16 z) where
-  pub signed-negative : lt_z (to_z w16 (of_z w16 z)) (pos 0) ≡ true → signed_text z ≡ chars "-" ++ decimal (mag z + 1)
-  signed-negative e = negative z (rw (to_z-of_z fits) at e)
+  pub signed_negative : lt_z (to_z w16 (of_z w16 z)) (pos 0) ≡ true → signed_text z ≡ chars "-" ++ decimal (mag z + 1)
+  signed_negative e = negative z (rw (to_z-of_z fits) at e)
 
-  pub signed-positive : lt_z (to_z w16 (of_z w16 z)) (pos 0) ≡ false → signed_text z ≡ decimal (mag z)
-  signed-positive e = positive z (rw (to_z-of_z fits) at e)
+  pub signed_positive : lt_z (to_z w16 (of_z w16 z)) (pos 0) ≡ false → signed_text z ≡ decimal (mag z)
+  signed_positive e = positive z (rw (to_z-of_z fits) at e)

@@ -9,7 +9,7 @@ use octets::{Head, head_at};
 use skip::COMPONENTDEPTH;
 
 // Where the text of an element ends, and where what follows it begins.
-#[derive(Drop)]
+#[derive(Clone, Copy)]
 struct Line {
     place: usize,
     next: usize,

@@ -1,5 +1,5 @@
 // Writers of a text into lent output. Each writes as much as there is room for and answers the place after that, so that none asks for
-// room; `pen-then` (proofs) puts two of them together.
+// room; `pen_then` (proofs) puts two of them together.
 ghost use Rattle.std.specs.Prelude.{[], ◌∷◌};
 ghost use Rattle.explanations.specs.inner.Pen.{Penned};
 

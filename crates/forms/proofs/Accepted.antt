@@ -32,12 +32,12 @@ use Rattle.forms.specs.Sheet.{Sheet, instances_from, in_order, instances_octets,
 use Rattle.forms.specs.Formed.{ReadForm}
 use Rattle.forms.specs.declared.form.Form.{Form}
 use Rattle.forms.specs.declared.sheet.FormRead.{FormRead}
-use Rattle.forms.proofs.Fields.{Passing, field-passes, fields_passing}
+use Rattle.forms.proofs.Fields.{Passing, field_passes, fields_passing}
 use Rattle.forms.proofs.Fits.{few_instances, Short, form1_short}
-use Rattle.forms.proofs.Instances.{instances-count}
+use Rattle.forms.proofs.Instances.{instances_count}
 use Rattle.forms.proofs.Sheets.{Allowed, sheet_allowed_lem, form_found}
 use Rattle.forms.proofs.Octets.{fields_none, fields_more, fields_both, octets_none, octets_more, sheet_octets_lem}
-use Rattle.forms.proofs.Sizes.{sheet-most}
+use Rattle.forms.proofs.Sizes.{sheet_most_lem}
 
 -- ---- what stands one after the other
 
@@ -70,9 +70,9 @@ module _ (s : List ℕ) (small : (i : ℕ) → get_or s i 0 < 256) where
   abbrev All : ℕ → List ℕ → ℕ → Type 0
   All at ns next = StandsTo s at (all_groups ns) next
 
-  field-only : (good : ℕ → Bool) (at : ℕ) → FoundAt (One at) (field_at good s at)
+  field_only : (good : ℕ → Bool) (at : ℕ) → FoundAt (One at) (field_at good s at)
   unfolding field_at
-  field-only good at = each (groups_at s at (length s)) refl
+  field_only good at = each (groups_at s at (length s)) refl
     where
       each : (g : Groups) → groups_at s at (length s) ≡ g → FoundAt (One at) (field_of good g)
       each (variants.Is n next) e =
@@ -82,28 +82,28 @@ module _ (s : List ℕ) (small : (i : ℕ) → get_or s i 0 < 256) where
       each (variants.Large next) e = tt
       each variants.Bad e = tt
 
-  field-stands : (good : ℕ → Bool) (at n next : ℕ) → field_at good s at ≡ got n next → One at n next
-  field-stands good at n next e = found_at_is (One at) e (field-only good at)
+  field_stands : (good : ℕ → Bool) (at n next : ℕ) → field_at good s at ≡ got n next → One at n next
+  field_stands good at n next e = found_at_is (One at) e (field_only good at)
 
   -- a field, and others after it
-  cons-only : (at n p : ℕ) (ns : List ℕ) (q : ℕ) → One at n p → All p ns q → All at (n ∷ ns) q
-  cons-only at n p ns q a b = rw (fields_more n ns) (joined s at (groups n) p (all_groups ns) q a b)
+  cons_only : (at n p : ℕ) (ns : List ℕ) (q : ℕ) → One at n p → All p ns q → All at (n ∷ ns) q
+  cons_only at n p ns q a b = rw (fields_more n ns) (joined s at (groups n) p (all_groups ns) q a b)
 
-  fields-only : (good : ℕ → Bool) (count at : ℕ) → FoundAt (All at) (fields_at good count s at)
+  fields_only : (good : ℕ → Bool) (count at : ℕ) → FoundAt (All at) (fields_at good count s at)
   unfolding fields_at
-  fields-only good zero at = rw fields_none (nothing s at)
-  fields-only good (suc count) at =
+  fields_only good zero at = rw fields_none (nothing s at)
+  fields_only good (suc count) at =
       found_at_then (All at) (field_at good s at) _ (λ n p e.
       found_at_then (All at) (fields_at good count s p) _ (λ ns q f.
-      cons-only at n p ns q (field-stands good at n p e) (found_at_is (All p) f (fields-only good count p))))
+      cons_only at n p ns q (field_stands good at n p e) (found_at_is (All p) f (fields_only good count p))))
 
-  fields-stand :
+  fields_stand :
       (good : ℕ → Bool) (count at : ℕ) (ns : List ℕ) (next : ℕ) → fields_at good count s at ≡ got ns next → All at ns next
-  fields-stand good count at ns next e = found_at_is (All at) e (fields-only good count at)
+  fields_stand good count at ns next e = found_at_is (All at) e (fields_only good count at)
 
-  fields-count :
+  fields_count :
       (good : ℕ → Bool) (count at : ℕ) (ns : List ℕ) (next : ℕ) → fields_at good count s at ≡ got ns next → length ns ≡ count
-  fields-count good count at ns next e = (found_is (Passing good count) e (fields_passing good count s at)).counted
+  fields_count good count at ns next e = (found_is (Passing good count) e (fields_passing good count s at)).counted
 
 -- ---- addresses
 
@@ -124,9 +124,9 @@ module _ (s : List ℕ) (small : (i : ℕ) → get_or s i 0 < 256) where
   abbrev Of : ℕ → Address → ℕ → Type 0
   Of at a next = StandsTo s at (all_groups (address_fields a)) next
 
-  address-only : (at : ℕ) → FoundAt (Of at) (address_from s at)
+  address_only : (at : ℕ) → FoundAt (Of at) (address_from s at)
   unfolding address_from
-  address-only at =
+  address_only at =
       found_at_then (Of at) (field_at (λ form. ltb form 2) s at) _ (λ form p e.
       found_at_then (Of at) (field_at (kind_good form) s p) _ (λ kind q f.
       found_at_then (Of at) (field_at fair s q) _ (λ count a g.
@@ -136,17 +136,17 @@ module _ (s : List ℕ) (small : (i : ℕ) → get_or s i 0 < 256) where
       let rest : List ℕ = ds ++ (subcount ∷ sub) in
       let after =
       joined s a (all_groups ds) b (all_groups (subcount ∷ sub)) next
-      (fields-stand s small (λ d. ltb d 10) count a ds b h)
-      (cons-only s small b subcount c sub next (field-stands s small (λ n. leb n most) b subcount c k)
-      (fields-stand s small (λ o. ltb o 256) subcount c sub next l)) in
+      (fields_stand s small (λ d. ltb d 10) count a ds b h)
+      (cons_only s small b subcount c sub next (field_stands s small (λ n. leb n most) b subcount c k)
+      (fields_stand s small (λ o. ltb o 256) subcount c sub next l)) in
       rw (
         made_fields form kind ds sub,
-        fields-count s small (λ d. ltb d 10) count a ds b h,
-        fields-count s small (λ o. ltb o 256) subcount c sub next l,
+        fields_count s small (λ d. ltb d 10) count a ds b h,
+        fields_count s small (λ o. ltb o 256) subcount c sub next l,
       )
-      (cons-only s small at form p (kind ∷ count ∷ rest) next (field-stands s small (λ form. ltb form 2) at form p e)
-      (cons-only s small p kind q (count ∷ rest) next (field-stands s small (kind_good form) p kind q f)
-      (cons-only s small q count a rest next (field-stands s small fair q count a g)
+      (cons_only s small at form p (kind ∷ count ∷ rest) next (field_stands s small (λ form. ltb form 2) at form p e)
+      (cons_only s small p kind q (count ∷ rest) next (field_stands s small (kind_good form) p kind q f)
+      (cons_only s small q count a rest next (field_stands s small fair q count a g)
       (rw (fields_both ds (subcount ∷ sub)) after))))))))))
 
   -- ---- instances
@@ -154,32 +154,32 @@ module _ (s : List ℕ) (small : (i : ℕ) → get_or s i 0 < 256) where
   abbrev Is : ℕ → Instance → ℕ → Type 0
   Is at i next = StandsTo s at (all_groups (instance_fields i)) next
 
-  instance-only : (form : Form) (at : ℕ) → FoundAt (Is at) (instance_from form s at)
+  instance_only : (form : Form) (at : ℕ) → FoundAt (Is at) (instance_from form s at)
   unfolding instance_from
-  instance-only form at =
+  instance_only form at =
       found_at_then (Is at) (field_at (λ n. ltb n form.procedures) s at) _ (λ procedure p e.
       found_at_then (Is at) (field_at (λ n. ltb n form.numbers) s p) _ (λ number q f.
       found_at_then (Is at) (field_at service_of s q) _ (λ service a g.
       found_at_then (Is at) (address_from s a) _ (λ address next h.
       let rest : List ℕ = address_fields address in
-      cons-only s small at procedure p (number ∷ service ∷ rest) next
-      (field-stands s small (λ n. ltb n form.procedures) at procedure p e)
-      (cons-only s small p number q (service ∷ rest) next (field-stands s small (λ n. ltb n form.numbers) p number q f)
-      (cons-only s small q service a rest next (field-stands s small service_of q service a g)
-      (found_at_is (Of a) h (address-only a))))))))
+      cons_only s small at procedure p (number ∷ service ∷ rest) next
+      (field_stands s small (λ n. ltb n form.procedures) at procedure p e)
+      (cons_only s small p number q (service ∷ rest) next (field_stands s small (λ n. ltb n form.numbers) p number q f)
+      (cons_only s small q service a rest next (field_stands s small service_of q service a g)
+      (found_at_is (Of a) h (address_only a))))))))
 
   abbrev Are : ℕ → List Instance → ℕ → Type 0
   Are at is next = StandsTo s at (instances_octets is) next
 
-  instances-only : (form : Form) (n at : ℕ) → FoundAt (Are at) (instances_from form n s at)
+  instances_only : (form : Form) (n at : ℕ) → FoundAt (Are at) (instances_from form n s at)
   unfolding instances_from
-  instances-only form zero at = rw octets_none (nothing s at)
-  instances-only form (suc n) at =
+  instances_only form zero at = rw octets_none (nothing s at)
+  instances_only form (suc n) at =
       found_at_then (Are at) (instance_from form s at) _ (λ k p e.
       found_at_then (Are at) (instances_from form n s p) _ (λ ks q f.
       rw (octets_more k ks)
-      (joined s at (all_groups (instance_fields k)) p (instances_octets ks) q (found_at_is (Is at) e (instance-only form at))
-      (found_at_is (Are p) f (instances-only form n p)))))
+      (joined s at (all_groups (instance_fields k)) p (instances_octets ks) q (found_at_is (Is at) e (instance_only form at))
+      (found_at_is (Are p) f (instances_only form n p)))))
 
   -- ---- the sheet
 
@@ -204,36 +204,36 @@ module _ (s : List ℕ) (small : (i : ℕ) → get_or s i 0 < 256) where
       (λ t.
       let end : eqb next (length s) ≡ true = (both_hold (eqb next (length s)) (in_order form is) t).0 in
       let same : form.code ≡ code =
-      eqb-true form.code code (found_is (λ n. eqb form.code n ≡ true) e (field-passes s 0 (eqb form.code))) in
-      let counted : length is ≡ count = found_is (λ ks. length ks ≡ count) h (instances-count s form count a) in
+      eqb-true form.code code (found_is (λ n. eqb form.code n ≡ true) e (field_passes s 0 (eqb form.code))) in
+      let counted : length is ≡ count = found_is (λ ks. length ks ≡ count) h (instances_count s form count a) in
       let head =
-      cons-only s small 0 code p (last ∷ count ∷ []) a (field-stands s small (eqb form.code) 0 code p e)
-      (cons-only s small p last q (count ∷ []) a (field-stands s small (λ n. leb n form.lastmost) p last q f)
-      (cons-only s small q count a [] a (field-stands s small (λ n. true) q count a g) (rw fields_none (nothing s a)))) in
+      cons_only s small 0 code p (last ∷ count ∷ []) a (field_stands s small (eqb form.code) 0 code p e)
+      (cons_only s small p last q (count ∷ []) a (field_stands s small (λ n. leb n form.lastmost) p last q f)
+      (cons_only s small q count a [] a (field_stands s small (λ n. true) q count a g) (rw fields_none (nothing s a)))) in
       whole (sheet_octets form last is) next (eqb-true next (length s) end)
       (rw (sheet_octets_lem form last is, same, counted)
       (joined s 0 (all_groups (code ∷ last ∷ count ∷ [])) a (instances_octets is) next head
-      (found_at_is (Are a) h (instances-only form count a)))))
+      (found_at_is (Are a) h (instances_only form count a)))))
       (λ _. tt)))))
 
   -- the octets of a sheet that is accepted are exactly those in which it is written
-  pub sheet-only :
+  pub sheet_only :
       (form : Form) (sheet : Sheet) (next : ℕ) → sheet_in form s ≡ got sheet next →
       s ≡ sheet_octets form sheet.last sheet.instances
-  sheet-only form sheet next e = found_at_is (Exactly form) e (exactly form)
+  sheet_only form sheet next e = found_at_is (Exactly form) e (exactly form)
 
   -- and no more than a sheet of the form has
-  pub accepted-most :
+  pub accepted_most :
       (form : Form) → Short form → (sheet : Sheet) (next : ℕ) → sheet_in form s ≡ got sheet next → length s ≤ sheet_most form
-  accepted-most form short sheet next e =
+  accepted_most form short sheet next e =
       let so = found_is (Allowed form) e (sheet_allowed_lem form s) in
       let few = few_instances form sheet.instances short.procedures so.each so.order in
-      rw (sheet-only form sheet next e) (sheet-most form short sheet.last sheet.instances so.last so.each few)
+      rw (sheet_only form sheet next e) (sheet_most_lem form short sheet.last sheet.instances so.last so.each few)
 
   -- of form 1: "1,613 (sheet)"
-  pub accepted-form1 : (sheet : Sheet) (next : ℕ) → sheet_in form1 s ≡ got sheet next → length s ≤ 1613
-  accepted-form1 = accepted-most form1 form1_short
+  pub accepted_form1 : (sheet : Sheet) (next : ℕ) → sheet_in form1 s ≡ got sheet next → length s ≤ 1613
+  accepted_form1 = accepted_most form1 form1_short
 
   -- and so what `read_form` accepts
-  pub form-accepted : (r : FormRead) → ReadForm s r → r.ok ≡ true → length s ≤ 1613
-  form-accepted r told ok = let found = form_found s r told ok in accepted-form1 found.sheet found.next found.is
+  pub form_accepted : (r : FormRead) → ReadForm s r → r.ok ≡ true → length s ≤ 1613
+  form_accepted r told ok = let found = form_found s r told ok in accepted_form1 found.sheet found.next found.is

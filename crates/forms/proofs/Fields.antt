@@ -43,18 +43,18 @@ module _ (s : List ℕ) (at : ℕ) where
   unfolding field_at
   field_is value next e = rw e
 
-  pub field-large : (next : ℕ) → groups_at s at (length s) ≡ groups.Large next → any_field s at ≡ wrong
+  pub field_large : (next : ℕ) → groups_at s at (length s) ≡ groups.Large next → any_field s at ≡ wrong
   unfolding field_at
-  field-large next e = rw e
+  field_large next e = rw e
 
-  pub field-bad : groups_at s at (length s) ≡ groups.Bad → any_field s at ≡ wrong
+  pub field_bad : groups_at s at (length s) ≡ groups.Bad → any_field s at ≡ wrong
   unfolding field_at
-  field-bad e = rw e
+  field_bad e = rw e
 
   -- tests that agree let in the same fields
-  pub field-same : (good other : ℕ → Bool) → ((n : ℕ) → good n ≡ other n) → field_at good s at ≡ field_at other s at
+  pub field_same : (good other : ℕ → Bool) → ((n : ℕ) → good n ≡ other n) → field_at good s at ≡ field_at other s at
   unfolding field_at
-  field-same good other h = each (groups_at s at (length s))
+  field_same good other h = each (groups_at s at (length s))
     where
       each : (g : Groups) → field_of good g ≡ field_of other g
       each (groups.Is n next) = rw (h n)
@@ -62,9 +62,9 @@ module _ (s : List ℕ) (at : ℕ) where
       each groups.Bad = refl
 
   -- a field that is found passes its test
-  pub field-passes : (good : ℕ → Bool) → Something (λ n. good n ≡ true) (field_at good s at)
+  pub field_passes : (good : ℕ → Bool) → Something (λ n. good n ≡ true) (field_at good s at)
   unfolding field_at
-  field-passes good = each (groups_at s at (length s))
+  field_passes good = each (groups_at s at (length s))
     where
       each : (g : Groups) → Something (λ n. good n ≡ true) (field_of good g)
       each (groups.Is n next) = pick_ind (Something (λ n. good n ≡ true)) (good n) (λ e. e) (λ _. tt)
@@ -72,11 +72,11 @@ module _ (s : List ℕ) (at : ℕ) where
       each groups.Bad = tt
 
   -- a test of a field within a wider one
-  pub field-narrow :
+  pub field_narrow :
       (wide good : ℕ → Bool) → ((n : ℕ) → good n ≡ true → wide n ≡ true) →
       field_at good s at ≡ and_then (field_at wide s at) (λ n next. pick (good n) (got n next) wrong)
   unfolding field_at
-  field-narrow wide good h = each (groups_at s at (length s))
+  field_narrow wide good h = each (groups_at s at (length s))
     where
       test : ℕ → ℕ → Got ℕ
       test n next = pick (good n) (got n next) wrong
@@ -89,23 +89,23 @@ module _ (s : List ℕ) (at : ℕ) where
       each groups.Bad = refl
 
   -- a field of any number, below a bound or not
-  pub below-is :
+  pub below_is :
       (below value next : ℕ) → any_field s at ≡ got value next → value < below → field_below below s at ≡ got value next
-  below-is below value next e h =
-      field-narrow (λ _. true) (λ n. ltb n below) (λ n _. refl) ∙ rw (e, lt-ltb value below h)
+  below_is below value next e h =
+      field_narrow (λ _. true) (λ n. ltb n below) (λ n _. refl) ∙ rw (e, lt-ltb value below h)
 
-  pub below-not :
+  pub below_not :
       (below value next : ℕ) → any_field s at ≡ got value next → below ≤ value → field_below below s at ≡ wrong
-  below-not below value next e h =
-      field-narrow (λ _. true) (λ n. ltb n below) (λ n _. refl) ∙ rw (e, le-ltb value below h)
+  below_not below value next e h =
+      field_narrow (λ _. true) (λ n. ltb n below) (λ n _. refl) ∙ rw (e, le-ltb value below h)
 
   pub below_none : (below : ℕ) → any_field s at ≡ wrong → field_below below s at ≡ wrong
-  below_none below e = field-narrow (λ _. true) (λ n. ltb n below) (λ n _. refl) ∙ rw e
+  below_none below e = field_narrow (λ _. true) (λ n. ltb n below) (λ n _. refl) ∙ rw e
 
   -- what is found below a bound is below it
-  pub below-small : (below value next : ℕ) → field_below below s at ≡ got value next → value < below
-  below-small below value next e =
-      ltb-true value below (found_is (λ n. ltb n below ≡ true) e (field-passes (λ n. ltb n below)))
+  pub below_small : (below value next : ℕ) → field_below below s at ≡ got value next → value < below
+  below_small below value next e =
+      ltb-true value below (found_is (λ n. ltb n below ≡ true) e (field_passes (λ n. ltb n below)))
 
 -- ---- fields, one after the other
 
@@ -128,7 +128,7 @@ fields_passing good (suc count) s at =
     let rest = found_is (Passing good count) f (fields_passing good count s next) in
     record {
       counted = ap suc rest.counted;
-      passes = (found_is (λ m. good m ≡ true) e (field-passes s at good), rest.passes);
+      passes = (found_is (λ m. good m ≡ true) e (field_passes s at good), rest.passes);
     }))
 
 -- things that were read, before what is found after them
@@ -157,8 +157,8 @@ pub record Come (below base count : ℕ) (s : List ℕ) (at i here : ℕ) (octet
 
 module _ (below base count : ℕ) (s : List ℕ) (at : ℕ) where
   -- it begins at `at`, with none
-  pub come-first : Come below base count s at 0 at (replicate most 0)
-  come-first = record {
+  pub come_first : Come below base count s at 0 at (replicate most 0)
+  come_first = record {
     read = [];
     counted = refl;
     few = omega arith;
@@ -168,13 +168,13 @@ module _ (below base count : ℕ) (s : List ℕ) (at : ℕ) where
 
   module _ (i here : ℕ) (octets : List ℕ) (so : Come below base count s at i here octets) where
     -- it has read them all
-    pub come-all :
+    pub come_all :
         count ≤ i → count ≤ most →
         ◌≡◌ {A = FieldsRead}
         record { ok = true; octets = octets; next = here }
         (fields_read base (fields_below below count s at))
     unfolding fields_at
-    come-all h room =
+    come_all h room =
         let none : count - i ≡ 0 = omega arith in
         let left : most - i ≡ most - length (map (λ n. base + n) so.read) =
         omega (arith, so.counted, length-map so.read (λ n. base + n)) in
@@ -184,23 +184,23 @@ module _ (below base count : ℕ) (s : List ℕ) (at : ℕ) where
       left_one : count - i ≡ suc (count - (i + 1))
       left_one = omega arith
 
-      come-step :
+      come_step :
           fields_below below count s at
           ≡ ahead so.read
           (and_then (field_below below s here) (λ n next.
           and_then (fields_below below (count - (i + 1)) s next) (λ ns last. got (n ∷ ns) last)))
       unfolding fields_at
-      come-step = so.decides ∙ rw left_one
+      come_step = so.decides ∙ rw left_one
 
       -- no such field stands there
-      pub come-wrong : field_below below s here ≡ wrong → fields_below below count s at ≡ wrong
-      come-wrong none = come-step ∙ rw none
+      pub come_wrong : field_below below s here ≡ wrong → fields_below below count s at ≡ wrong
+      come_wrong none = come_step ∙ rw none
 
       -- one stands there: it goes on after it
-      pub come-next :
+      pub come_next :
           (n next : ℕ) → count ≤ most → field_below below s here ≡ got n next →
           Come below base count s at (i + 1) next (set octets i (base + n))
-      come-next n next room found = record {
+      come_next n next room found = record {
         read = so.read ++ (n ∷ []);
         counted = rw (length-append so.read (n ∷ []), so.counted);
         few = omega arith;
@@ -209,7 +209,7 @@ module _ (below base count : ℕ) (s : List ℕ) (at : ℕ) where
             let place : i ≡ length (map f so.read) = so.counted ∙ sym (length-map so.read f) in
             let left : most - i ≡ suc (most - (i + 1)) = omega arith in
             rw (so.stored, left, map-append f so.read (n ∷ []), ← store_next (map f so.read) (base + n) 0 (most - (i + 1)), ← place);
-        decides = come-step ∙ rw (found, ahead_one so.read n (fields_below below (count - (i + 1)) s next));
+        decides = come_step ∙ rw (found, ahead_one so.read n (fields_below below (count - (i + 1)) s next));
       }
 
 -- ---- what the reader of fields answers

@@ -12,7 +12,7 @@ use borrow.Author.Tests.{lt-ltb, ltb-false}
 use Rattle.laws.specs.Pick.{pick}
 use Rattle.laws.proofs.Picks.{pick_else}
 use Rattle.laws.proofs.Tests.{both_hold}
-use Rattle.laws.proofs.Eaches.{Each, each-so, up_map}
+use Rattle.laws.proofs.Eaches.{Each, each_so, up_map}
 use Rattle.codes.specs.Digits.{all_digits}
 use Rattle.codes.proofs.Characters.{digits_step, type_most}
 use Rattle.numbers.specs.Number.{most, digits_of}
@@ -44,20 +44,20 @@ module _ (c : ℕ) (cs : List ℕ) (h : all_digits (c ∷ cs) ≡ true) where
   from_zero : 48 ≤ c
   from_zero = ltb-false c 48 (pick_else (ltb c 48) (pick (ltb 57 c) false (all_digits cs)) tested).0
 
-  to-nine : (c ≤ 57) × (all_digits cs ≡ true)
-  to-nine =
+  to_nine : (c ≤ 57) × (all_digits cs ≡ true)
+  to_nine =
       let q = pick_else (ltb 57 c) (all_digits cs) (pick_else (ltb c 48) (pick (ltb 57 c) false (all_digits cs)) tested).1 in
       (ltb-false 57 c q.0, q.1)
 
 pub digits_pass : (cs : List ℕ) → all_digits cs ≡ true → AllPass (λ d. ltb d 10) (map digit_of cs)
 digits_pass [] h = tt
 digits_pass (c ∷ cs) h =
-    (lt-ltb (c - 48) 10 (omega (arith, from_zero c cs h, (to-nine c cs h).0)), digits_pass cs (to-nine c cs h).1)
+    (lt-ltb (c - 48) 10 (omega (arith, from_zero c cs h, (to_nine c cs h).0)), digits_pass cs (to_nine c cs h).1)
 
 pub digits_kept : (cs : List ℕ) → all_digits cs ≡ true → map (λ d. 48 + d) (map digit_of cs) ≡ cs
 digits_kept [] h = refl
 digits_kept (c ∷ cs) h =
-    let same : 48 + (c - 48) ≡ c = omega (arith, from_zero c cs h) in rw (same, digits_kept cs (to-nine c cs h).1)
+    let same : 48 + (c - 48) ≡ c = omega (arith, from_zero c cs h) in rw (same, digits_kept cs (to_nine c cs h).1)
 
 -- ---- addresses
 
@@ -170,7 +170,7 @@ pub few_instances :
     length is ≤ f.procedures * f.perprocedure
 few_instances f is three each order =
     let few = few_of f.perprocedure is (order_of f is order).1 in
-    let all = all_three is (each-so (FieldsFit f) (λ x. x.procedure < 3) (λ x h. omega (arith, h.procedure, three)) is each) in
+    let all = all_three is (each_so (FieldsFit f) (λ x. x.procedure < 3) (λ x h. omega (arith, h.procedure, three)) is each) in
     rw three (omega (arith, all, few.0, few.1, few.2))
 
 -- ---- forms

@@ -10,7 +10,7 @@ use lib.Dec.{ltb, leb}
 use borrow.Author.Tests.{leb-true}
 use Rattle.laws.specs.Got.{Got, got, wrong, and_then}
 use Rattle.laws.proofs.Gots.{Something, found_then, found_is}
-use Rattle.laws.proofs.Filled.{Filled, filled_none, filled_next, filled-done}
+use Rattle.laws.proofs.Filled.{Filled, filled_none, filled_next, filled_done}
 use Rattle.laws.proofs.Eaches.{Each}
 use Rattle.numbers.specs.Number.{most, padded, fair, number_of}
 use Rattle.numbers.specs.Address.{sub_of}
@@ -26,8 +26,8 @@ use Rattle.forms.specs.Sheet.{instances_from}
 use Rattle.forms.specs.inner.Reading.{field_below, instances_read}
 use Rattle.forms.specs.declared.form.Form.{Form}
 use Rattle.forms.specs.declared.sheet.InstancesRead.{InstancesRead}
-use Rattle.forms.proofs.Fields.{AllPass, Passing, field-passes, below-small, fields_passing, ahead, ahead_none, ahead_one}
-use Rattle.forms.proofs.Readers.{characters, fair-good}
+use Rattle.forms.proofs.Fields.{AllPass, Passing, field_passes, below_small, fields_passing, ahead, ahead_none, ahead_one}
+use Rattle.forms.proofs.Readers.{characters, fair_good}
 use Rattle.forms.proofs.Fits.{Held, FieldsFit}
 
 -- ---- what is read of an instance is such as a sheet may hold
@@ -50,7 +50,7 @@ made_held form kind ds sub low type some digits few octets =
     record {
       good =
           parts_good_lem (number_of form kind cs) (sub_of sub) few
-          (λ _. fair-good form kind cs low (characters ds digits) short fairly ∙ type)
+          (λ _. fair_good form kind cs low (characters ds digits) short fairly ∙ type)
           (λ e. omega (arith, low, e));
       digits = long cs short;
       sub = long sub few;
@@ -70,59 +70,59 @@ module _ (s : List ℕ) where
       let digits = found_is (Passing (λ d. ltb d 10) count) h (fields_passing (λ d. ltb d 10) count s a) in
       let octets = found_is (Passing (λ o. ltb o 256) subcount) l (fields_passing (λ o. ltb o 256) subcount s c) in
       let few : subcount ≤ most =
-      leb-true subcount most (found_is (λ n. leb n most ≡ true) k (field-passes s b (λ n. leb n most))) in
-      made_held form kind ds sub (below-small s at 2 form p e)
-      (found_is (λ n. kind_good form n ≡ true) f (field-passes s p (kind_good form)))
-      (rw digits.counted (found_is (λ n. fair n ≡ true) g (field-passes s q fair)))
+      leb-true subcount most (found_is (λ n. leb n most ≡ true) k (field_passes s b (λ n. leb n most))) in
+      made_held form kind ds sub (below_small s at 2 form p e)
+      (found_is (λ n. kind_good form n ≡ true) f (field_passes s p (kind_good form)))
+      (rw digits.counted (found_is (λ n. fair n ≡ true) g (field_passes s q fair)))
       digits.passes (omega (arith, few, octets.counted)) octets.passes))))))
 
   module _ (form : Form) where
-    instance-fits : (at : ℕ) → Something (FieldsFit form) (instance_from form s at)
+    instance_fits_lem : (at : ℕ) → Something (FieldsFit form) (instance_from form s at)
     unfolding instance_from
-    instance-fits at =
+    instance_fits_lem at =
         let P : Instance → Type 0 = FieldsFit form in
         found_then P (field_below form.procedures s at) _ (λ procedure p e.
         found_then P (field_below form.numbers s p) _ (λ number q f.
         found_then P (field_at service_of s q) _ (λ service a g.
         found_then P (address_from s a) _ (λ address next h. record {
-          procedure = below-small s at form.procedures procedure p e;
-          number = below-small s p form.numbers number q f;
-          service = found_is (λ n. service_of n ≡ true) g (field-passes s q service_of);
+          procedure = below_small s at form.procedures procedure p e;
+          number = below_small s p form.numbers number q f;
+          service = found_is (λ n. service_of n ≡ true) g (field_passes s q service_of);
           address = found_is Held h (address_held_lem a);
         }))))
 
-    pub instances-fit : (n at : ℕ) → Something (Each (FieldsFit form)) (instances_from form n s at)
+    pub instances_fit : (n at : ℕ) → Something (Each (FieldsFit form)) (instances_from form n s at)
     unfolding instances_from
-    instances-fit zero at = tt
-    instances-fit (suc n) at =
+    instances_fit zero at = tt
+    instances_fit (suc n) at =
         let P : List Instance → Type 0 = Each (FieldsFit form) in
         found_then P (instance_from form s at) _ (λ k p e.
         found_then P (instances_from form n s p) _ (λ ks q f.
-        (found_is (FieldsFit form) e (instance-fits at), found_is P f (instances-fit n p))))
+        (found_is (FieldsFit form) e (instance_fits_lem at), found_is P f (instances_fit n p))))
 
     -- as many as were asked for
-    pub instances-count : (n at : ℕ) → Something (λ is. length is ≡ n) (instances_from form n s at)
+    pub instances_count : (n at : ℕ) → Something (λ is. length is ≡ n) (instances_from form n s at)
     unfolding instances_from
-    instances-count zero at = refl
-    instances-count (suc n) at =
+    instances_count zero at = refl
+    instances_count (suc n) at =
         let P : List Instance → Type 0 = λ is. length is ≡ suc n in
         found_then P (instance_from form s at) _ (λ k p _.
         found_then P (instances_from form n s p) _ (λ ks q e.
-        ap suc (found_is (λ is. length is ≡ n) e (instances-count n p))))
+        ap suc (found_is (λ is. length is ≡ n) e (instances_count n p))))
 
 -- ---- a walk that reads them into a run
 
 module _ (f : Form) (s : List ℕ) where
-  pub instances-end : (at : ℕ) → instances_from f 0 s at ≡ got [] at
+  pub instances_end : (at : ℕ) → instances_from f 0 s at ≡ got [] at
   unfolding instances_from
-  instances-end at = refl
+  instances_end at = refl
 
-  pub instances-step :
+  pub instances_step :
       (n at : ℕ) →
       instances_from f (suc n) s at
       ≡ and_then (instance_from f s at) (λ k p. and_then (instances_from f n s p) (λ ks q. got (k ∷ ks) q))
   unfolding instances_from
-  instances-step n at = refl
+  instances_step n at = refl
 
 -- A reader of `count` instances from `at` on has come to `here`: it has `read` i of them, which stand in the array of a run with
 -- blanks past them, whatever comes after; and what is found from `here` on decides.
@@ -144,16 +144,16 @@ module _ (f : Form) (s : List ℕ) (at count : ℕ) where
 
   module _ (i here : ℕ) (array : List Instance) (so : Going f s at count i here array) where
     -- it has read them all
-    pub going-all :
+    pub going_all :
         count ≤ i →
         ◌≡◌ {A = InstancesRead}
         record { ok = true; run = record { count = count; run = array }; next = here }
         (instances_read (instances_from f count s at))
-    going-all h =
+    going_all h =
         let same : count ≡ i = omega (arith, so.few) in
         let none : count - i ≡ 0 = omega arith in
-        let full = filled-done run_most blank_instance so.read i array (rw (append-nil so.read) at (so.filled [])) in
-        rw (so.decides, none, instances-end f s here, append-nil so.read, same, packed_done so.read i array full)
+        let full = filled_done run_most blank_instance so.read i array (rw (append-nil so.read) at (so.filled [])) in
+        rw (so.decides, none, instances_end f s here, append-nil so.read, same, packed_done so.read i array full)
 
     module _ (more : i < count) where
       going_step :
@@ -162,11 +162,11 @@ module _ (f : Form) (s : List ℕ) (at count : ℕ) where
           (and_then (instance_from f s here) (λ k p. and_then (instances_from f (count - (i + 1)) s p) (λ ks q. got (k ∷ ks) q)))
       going_step =
           let one : count - i ≡ suc (count - (i + 1)) = omega arith in
-          so.decides ∙ rw (one, instances-step f s (count - (i + 1)) here)
+          so.decides ∙ rw (one, instances_step f s (count - (i + 1)) here)
 
       -- no instance stands there
-      pub going-wrong : instance_from f s here ≡ wrong → instances_from f count s at ≡ wrong
-      going-wrong e = going_step ∙ rw e
+      pub going_wrong : instance_from f s here ≡ wrong → instances_from f count s at ≡ wrong
+      going_wrong e = going_step ∙ rw e
 
       -- one stands there: it goes on after it
       pub going_next :

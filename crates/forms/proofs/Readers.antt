@@ -30,7 +30,7 @@ use Rattle.forms.specs.declared.field.FieldsRead.{FieldsRead}
 use Rattle.forms.specs.declared.read.ForwardedRead.{ForwardedRead}
 use Rattle.forms.specs.declared.read.InstanceRead.{InstanceRead}
 use Rattle.forms.proofs.Parts.{test_none, test_then, then_through}
-use Rattle.forms.proofs.Fields.{Passing, AllPass, FieldsFound, field-same, field-narrow, field-passes, below-small, fields_passing, map_none}
+use Rattle.forms.proofs.Fields.{Passing, AllPass, FieldsFound, field_same, field_narrow, field_passes, below_small, fields_passing, map_none}
 
 -- ---- numbers
 
@@ -68,13 +68,13 @@ module _ (form kind : ℕ) (cs : List ℕ) (low : form < 2) (digits : all_digits
   shaped (suc zero) h = refl
   shaped (suc (suc n)) h = absurd (omega arith)
 
-  pub fair-good : fair (length cs) ≡ true → number_good (number_of form kind cs) ≡ kind_good form kind
-  fair-good e =
+  pub fair_good : fair (length cs) ≡ true → number_good (number_of form kind cs) ≡ kind_good form kind
+  fair_good e =
       let some = fair_some (length cs) e in
       record_good (number_of form kind cs) some.0 some.1 long ∙ rw (held, digits) (shaped form low)
 
-  unfair-good : fair (length cs) ≡ false → number_good (number_of form kind cs) ≡ false
-  unfair-good e =
+  unfair_good : fair (length cs) ≡ false → number_good (number_of form kind cs) ≡ false
+  unfair_good e =
       by_bool (number_good (number_of form kind cs) ≡ false) (number_good (number_of form kind cs))
       (λ h.
       let some = digits_fair cs (rw held at (good_number (number_of form kind cs) h).digits) in
@@ -90,8 +90,8 @@ module _ (form kind : ℕ) (cs : List ℕ) (low : form < 2) (digits : all_digits
       by_bool
       (pick (kind_good form kind) (pick (fair (length cs)) x wrong) wrong ≡ pick (number_good (number_of form kind cs)) x wrong)
       (fair (length cs))
-      (λ e. rw (e, fair-good e))
-      (λ e. rw (e, unfair-good e) (test_none (kind_good form kind)))
+      (λ e. rw (e, fair_good e))
+      (λ e. rw (e, unfair_good e) (test_none (kind_good form kind)))
 
 -- what is read after a form and type, and after the count
 abbrev digits_from : List ℕ → ℕ → ℕ → ℕ → ℕ → Got Number
@@ -102,39 +102,39 @@ abbrev count_from : List ℕ → ℕ → ℕ → ℕ → Got Number
 count_from s form kind q = and_then (field_at fair s q) (λ count a. digits_from s form kind count a)
 
 module _ (s : List ℕ) (at : ℕ) where
-  pub number-no-form : field_below 2 s at ≡ wrong → number_from_fields s at ≡ wrong
+  pub number_no_form : field_below 2 s at ≡ wrong → number_from_fields s at ≡ wrong
   unfolding number_from_fields
-  number-no-form e = rw e
+  number_no_form e = rw e
 
   module _ (form p : ℕ) (f : field_below 2 s at ≡ got form p) where
-    pub number-no-kind : field_below 256 s p ≡ wrong → number_from_fields s at ≡ wrong
+    pub number_no_kind : field_below 256 s p ≡ wrong → number_from_fields s at ≡ wrong
     unfolding number_from_fields
-    number-no-kind e = rw (f, field-narrow s p (λ n. ltb n 256) (kind_good form) (kind_small form), e)
+    number_no_kind e = rw (f, field_narrow s p (λ n. ltb n 256) (kind_good form) (kind_small form), e)
 
     module _ (kind q : ℕ) (k : field_below 256 s p ≡ got kind q) where
-      number-kind : number_from_fields s at ≡ pick (kind_good form kind) (count_from s form kind q) wrong
+      number_kind : number_from_fields s at ≡ pick (kind_good form kind) (count_from s form kind q) wrong
       unfolding number_from_fields
-      number-kind =
-          rw (f, field-narrow s p (λ n. ltb n 256) (kind_good form) (kind_small form), k)
+      number_kind =
+          rw (f, field_narrow s p (λ n. ltb n 256) (kind_good form) (kind_small form), k)
           (test_then (kind_good form kind) kind q (λ n next. count_from s form n next))
 
-      pub number-no-count : field_below 21 s q ≡ wrong → number_from_fields s at ≡ wrong
-      number-no-count e =
-          number-kind ∙ rw (field-narrow s q (λ n. ltb n 21) fair count_small, e) (test_none (kind_good form kind))
+      pub number_no_count : field_below 21 s q ≡ wrong → number_from_fields s at ≡ wrong
+      number_no_count e =
+          number_kind ∙ rw (field_narrow s q (λ n. ltb n 21) fair count_small, e) (test_none (kind_good form kind))
 
       module _ (count a : ℕ) (c : field_below 21 s q ≡ got count a) where
         number_digits :
             number_from_fields s at ≡ pick (kind_good form kind) (pick (fair count) (digits_from s form kind count a) wrong) wrong
         number_digits =
-            number-kind
+            number_kind
             ∙ rw (
-              field-narrow s q (λ n. ltb n 21) fair count_small,
+              field_narrow s q (λ n. ltb n 21) fair count_small,
               c,
               test_then (fair count) count a (λ n next. digits_from s form kind n next),
             )
 
-        pub number-no-digits : fields_below 10 count s a ≡ wrong → number_from_fields s at ≡ wrong
-        number-no-digits e =
+        pub number_no_digits : fields_below 10 count s a ≡ wrong → number_from_fields s at ≡ wrong
+        number_no_digits e =
             number_digits ∙ rw (e, test_none {A = Number} (fair count)) (test_none (kind_good form kind))
 
         -- the record that the reader makes of the fields, and whether it is let in
@@ -154,19 +154,19 @@ module _ (s : List ℕ) (at : ℕ) where
           number_made : made ≡ number_of form kind cs
           number_made = rw (d.octets, ← counted)
 
-          number-judged : number_from_fields s at ≡ pick (number_good made) (got made r.next) wrong
-          number-judged =
-              let low : form < 2 = below-small s at 2 form p f in
-              let few : count < 21 = below-small s q 21 count a c in
+          number_judged : number_from_fields s at ≡ pick (number_good made) (got made r.next) wrong
+          number_judged =
+              let low : form < 2 = below_small s at 2 form p f in
+              let few : count < 21 = below_small s q 21 count a c in
               let j = judged form kind cs low (characters d.fields passing.passes) (omega (arith, counted))
               (got (number_of form kind cs) r.next) in
               number_digits ∙ rw (number_made, d.is, ← counted) j
 
-          pub number-refused : number_good made ≡ false → number_from_fields s at ≡ wrong
-          number-refused h = number-judged ∙ rw h
+          pub number_refused : number_good made ≡ false → number_from_fields s at ≡ wrong
+          number_refused h = number_judged ∙ rw h
 
           pub number_found : number_good made ≡ true → number_from_fields s at ≡ got made r.next
-          number_found h = number-judged ∙ rw h
+          number_found h = number_judged ∙ rw h
 
 -- ---- addresses
 
@@ -177,34 +177,34 @@ sub_from s number b =
     and_then (fields_at (λ o. ltb o 256) subcount s c) (λ sub next. got (forwarded_of number (sub_of sub)).address next))
 
 module _ (s : List ℕ) (at : ℕ) where
-  address-parts : address_from s at ≡ and_then (number_from_fields s at) (sub_from s)
+  address_parts : address_from s at ≡ and_then (number_from_fields s at) (sub_from s)
   unfolding address_from number_from_fields
-  address-parts =
+  address_parts =
       then_through (field_at (λ form. ltb form 2) s at) _ _ (sub_from s) (λ form p.
       then_through (field_at (kind_good form) s p) _ _ (sub_from s) (λ kind q.
       then_through (field_at fair s q) _ _ (sub_from s) (λ count a.
       then_through (fields_at (λ d. ltb d 10) count s a) _ _ (sub_from s) (λ ds b. refl))))
 
-  pub address-no-number : number_from_fields s at ≡ wrong → address_from s at ≡ wrong
-  address-no-number e = address-parts ∙ rw e
+  pub address_no_number : number_from_fields s at ≡ wrong → address_from s at ≡ wrong
+  address_no_number e = address_parts ∙ rw e
 
   module _ (number : Number) (b : ℕ) (n : number_from_fields s at ≡ got number b) where
-    sub-field : field_at (λ n. leb n most) s b ≡ field_below 21 s b
-    sub-field = field-same s b (λ n. leb n most) (λ n. ltb n 21) (λ n. sym (leb-suc-suc n most))
+    sub_field : field_at (λ n. leb n most) s b ≡ field_below 21 s b
+    sub_field = field_same s b (λ n. leb n most) (λ n. ltb n 21) (λ n. sym (leb-suc-suc n most))
 
-    pub address-no-count : field_below 21 s b ≡ wrong → address_from s at ≡ wrong
-    address-no-count e = address-parts ∙ rw (n, sub-field, e)
+    pub address_no_count : field_below 21 s b ≡ wrong → address_from s at ≡ wrong
+    address_no_count e = address_parts ∙ rw (n, sub_field, e)
 
     module _ (count c : ℕ) (k : field_below 21 s b ≡ got count c) where
-      pub address-no-octets : fields_below 256 count s c ≡ wrong → address_from s at ≡ wrong
-      address-no-octets e = address-parts ∙ rw (n, sub-field, k, e)
+      pub address_no_octets : fields_below 256 count s c ≡ wrong → address_from s at ≡ wrong
+      address_no_octets e = address_parts ∙ rw (n, sub_field, k, e)
 
       pub address_found :
           (r : FieldsRead) → FieldsFound 0 (fields_below 256 count s c) r →
           address_from s at ≡ got (record { number = number; subcount = count; sub = r.octets }) r.next
       address_found r d =
           let passing = found_is (Passing (λ o. ltb o 256) count) d.is (fields_passing (λ o. ltb o 256) count s c) in
-          address-parts ∙ rw (n, sub-field, k, d.is, d.octets, map_none d.fields, passing.counted)
+          address_parts ∙ rw (n, sub_field, k, d.is, d.octets, map_none d.fields, passing.counted)
 
 -- an answer with `ok` names the address that was found
 pub forwarded_found :
@@ -226,27 +226,27 @@ pub service_few : (n : ℕ) → service_of n ≡ true → n ≤ 42
 service_few n h = service_most n (all_at (not (eqb n 0) ∷ ltb n 256 ∷ service_code n ∷ []) 2 h)
 
 module _ (s : List ℕ) (at : ℕ) where
-  service-tested : field_at service_of s at ≡ and_then (field_below 256 s at) (λ n next. pick (service_of n) (got n next) wrong)
-  service-tested = field-narrow s at (λ n. ltb n 256) service_of service_small
+  service_tested : field_at service_of s at ≡ and_then (field_below 256 s at) (λ n next. pick (service_of n) (got n next) wrong)
+  service_tested = field_narrow s at (λ n. ltb n 256) service_of service_small
 
-  pub service-none : field_below 256 s at ≡ wrong → field_at service_of s at ≡ wrong
-  service-none e = service-tested ∙ rw e
+  pub service_none : field_below 256 s at ≡ wrong → field_at service_of s at ≡ wrong
+  service_none e = service_tested ∙ rw e
 
   module _ (code next : ℕ) (f : field_below 256 s at ≡ got code next) where
     pub service_all : code ≡ 0 → field_at service_of s at ≡ wrong
-    service_all e = service-tested ∙ rw (f, eq-eqb code 0 e)
+    service_all e = service_tested ∙ rw (f, eq-eqb code 0 e)
 
-    pub service-other : (code ≡ 0 → ⊥) → service_code code ≡ false → field_at service_of s at ≡ wrong
-    service-other e h =
-        service-tested ∙ rw (f, ne_eqb code 0 e, lt-ltb code 256 (below-small s at 256 code next f), h)
+    pub service_other : (code ≡ 0 → ⊥) → service_code code ≡ false → field_at service_of s at ≡ wrong
+    service_other e h =
+        service_tested ∙ rw (f, ne_eqb code 0 e, lt-ltb code 256 (below_small s at 256 code next f), h)
 
-    pub service-found : (code ≡ 0 → ⊥) → service_code code ≡ true → field_at service_of s at ≡ got code next
-    service-found e h =
-        service-tested ∙ rw (f, ne_eqb code 0 e, lt-ltb code 256 (below-small s at 256 code next f), h)
+    pub service_found : (code ≡ 0 → ⊥) → service_code code ≡ true → field_at service_of s at ≡ got code next
+    service_found e h =
+        service_tested ∙ rw (f, ne_eqb code 0 e, lt-ltb code 256 (below_small s at 256 code next f), h)
 
 pub service_octet : (s : List ℕ) (at code next : ℕ) → field_at service_of s at ≡ got code next → code < 256
 service_octet s at code next e =
-    ltb-true code 256 (service_small code (found_is (λ n. service_of n ≡ true) e (field-passes s at service_of)))
+    ltb-true code 256 (service_small code (found_is (λ n. service_of n ≡ true) e (field_passes s at service_of)))
 
 -- ---- instances
 

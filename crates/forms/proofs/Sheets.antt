@@ -28,9 +28,9 @@ use Rattle.forms.specs.declared.form.Form.{Form}
 use Rattle.forms.specs.declared.sheet.FormRead.{FormRead}
 use Rattle.forms.specs.declared.sheet.Opening.{Opening}
 use Rattle.forms.proofs.Parts.{then_through}
-use Rattle.forms.proofs.Fields.{field-same, field-narrow, field-passes}
+use Rattle.forms.proofs.Fields.{field_same, field_narrow, field_passes}
 use Rattle.forms.proofs.Fits.{FieldsFit, few_instances, Short, form1_short}
-use Rattle.forms.proofs.Instances.{instances-fit, instances-count}
+use Rattle.forms.proofs.Instances.{instances_fit, instances_count}
 
 -- ---- what stands before the instances
 
@@ -39,37 +39,37 @@ most_below : (n most : ℕ) → leb n most ≡ ltb n (most + 1)
 most_below n most = let next : most + 1 ≡ suc most = omega arith in rw next (sym (leb-suc-suc n most))
 
 module _ (f : Form) (s : List ℕ) where
-  form-field : field_at (eqb f.code) s 0 ≡ and_then (any_field s 0) (λ n next. pick (eqb f.code n) (got n next) wrong)
-  form-field = field-narrow s 0 (λ _. true) (eqb f.code) (λ n _. refl)
+  form_field : field_at (eqb f.code) s 0 ≡ and_then (any_field s 0) (λ n next. pick (eqb f.code n) (got n next) wrong)
+  form_field = field_narrow s 0 (λ _. true) (eqb f.code) (λ n _. refl)
 
-  pub opening-no-form : any_field s 0 ≡ wrong → opening_in f s ≡ wrong
+  pub opening_no_form : any_field s 0 ≡ wrong → opening_in f s ≡ wrong
   unfolding opening_in
-  opening-no-form e = rw (form-field, e)
+  opening_no_form e = rw (form_field, e)
 
   module _ (code p : ℕ) (is : any_field s 0 ≡ got code p) where
-    pub opening-other : (code ≡ f.code → ⊥) → opening_in f s ≡ wrong
+    pub opening_other : (code ≡ f.code → ⊥) → opening_in f s ≡ wrong
     unfolding opening_in
-    opening-other e = rw (form-field, is, ne_eqb f.code code (λ q. e (sym q)))
+    opening_other e = rw (form_field, is, ne_eqb f.code code (λ q. e (sym q)))
 
     module _ (same : code ≡ f.code) where
-      last-field : field_at (λ n. leb n f.lastmost) s p ≡ field_below (f.lastmost + 1) s p
-      last-field =
-          field-same s p (λ n. leb n f.lastmost) (λ n. ltb n (f.lastmost + 1)) (λ n. most_below n f.lastmost)
+      last_field_lem : field_at (λ n. leb n f.lastmost) s p ≡ field_below (f.lastmost + 1) s p
+      last_field_lem =
+          field_same s p (λ n. leb n f.lastmost) (λ n. ltb n (f.lastmost + 1)) (λ n. most_below n f.lastmost)
 
-      pub opening-no-last : field_below (f.lastmost + 1) s p ≡ wrong → opening_in f s ≡ wrong
+      pub opening_no_last : field_below (f.lastmost + 1) s p ≡ wrong → opening_in f s ≡ wrong
       unfolding opening_in
-      opening-no-last e = rw (form-field, is, eq-eqb f.code code (sym same), last-field, e)
+      opening_no_last e = rw (form_field, is, eq-eqb f.code code (sym same), last_field_lem, e)
 
       module _ (last q : ℕ) (l : field_below (f.lastmost + 1) s p ≡ got last q) where
-        pub opening-no-count : any_field s q ≡ wrong → opening_in f s ≡ wrong
+        pub opening_no_count : any_field s q ≡ wrong → opening_in f s ≡ wrong
         unfolding opening_in
-        opening-no-count e = rw (form-field, is, eq-eqb f.code code (sym same), last-field, l, e)
+        opening_no_count e = rw (form_field, is, eq-eqb f.code code (sym same), last_field_lem, l, e)
 
-        pub opening-is :
+        pub opening_is :
             (count next : ℕ) → any_field s q ≡ got count next →
             opening_in f s ≡ got (record { last = last; count = count }) next
         unfolding opening_in
-        opening-is count next e = rw (form-field, is, eq-eqb f.code code (sym same), last-field, l, e)
+        opening_is count next e = rw (form_field, is, eq-eqb f.code code (sym same), last_field_lem, l, e)
 
 -- an answer with `ok` names what was found
 pub opening_found :
@@ -93,40 +93,40 @@ abbrev rest_from : Form → List ℕ → Opened → ℕ → Got Sheet
 rest_from f s o a = and_then (instances_from f o.count s a) (whole_of f s o.last)
 
 module _ (f : Form) (s : List ℕ) where
-  sheet-parts : sheet_in f s ≡ and_then (opening_in f s) (rest_from f s)
+  sheet_parts : sheet_in f s ≡ and_then (opening_in f s) (rest_from f s)
   unfolding sheet_in opening_in
-  sheet-parts =
+  sheet_parts =
       then_through (field_at (eqb f.code) s 0) _ _ (rest_from f s) (λ code p.
       then_through (field_at (λ n. leb n f.lastmost) s p) _ _ (rest_from f s) (λ last q.
       then_through (field_at (λ n. true) s q) _ _ (rest_from f s) (λ count a. refl)))
 
-  pub sheet-no-opening : opening_in f s ≡ wrong → sheet_in f s ≡ wrong
-  sheet-no-opening e = sheet-parts ∙ rw e
+  pub sheet_no_opening : opening_in f s ≡ wrong → sheet_in f s ≡ wrong
+  sheet_no_opening e = sheet_parts ∙ rw e
 
   module _ (o : Opened) (a : ℕ) (opened : opening_in f s ≡ got o a) where
-    pub sheet-no-instances : instances_from f o.count s a ≡ wrong → sheet_in f s ≡ wrong
-    sheet-no-instances e = sheet-parts ∙ rw (opened, e)
+    pub sheet_no_instances : instances_from f o.count s a ≡ wrong → sheet_in f s ≡ wrong
+    sheet_no_instances e = sheet_parts ∙ rw (opened, e)
 
     module _ (is : List Instance) (next : ℕ) (found : instances_from f o.count s a ≡ got is next) where
-      pub sheet-after : (next ≡ length s → ⊥) → sheet_in f s ≡ wrong
-      sheet-after e = sheet-parts ∙ rw (opened, found, ne_eqb next (length s) e)
+      pub sheet_after : (next ≡ length s → ⊥) → sheet_in f s ≡ wrong
+      sheet_after e = sheet_parts ∙ rw (opened, found, ne_eqb next (length s) e)
 
       out_of_order : in_order f is ≡ false → sheet_in f s ≡ wrong
       out_of_order e =
           let sheet : Sheet = record { last = o.last; instances = is } in
-          sheet-parts
+          sheet_parts
           ∙ rw (opened, found, e)
           (pick_ind (λ t. pick t (got sheet next) wrong ≡ wrong) (eqb next (length s)) {x = false} {y = false} (λ _. refl) (λ _. refl))
 
       in_order :
           next ≡ length s → in_order f is ≡ true → sheet_in f s ≡ got (record { last = o.last; instances = is }) next
-      in_order e h = sheet-parts ∙ rw (opened, found, eq-eqb next (length s) e, h)
+      in_order e h = sheet_parts ∙ rw (opened, found, eq-eqb next (length s) e, h)
 
       fits : Each (FieldsFit f) is
-      fits = found_is (Each (FieldsFit f)) found (instances-fit s f o.count a)
+      fits = found_is (Each (FieldsFit f)) found (instances_fit s f o.count a)
 
       counted : length is ≡ o.count
-      counted = found_is (λ ks. length ks ≡ o.count) found (instances-count s f o.count a)
+      counted = found_is (λ ks. length ks ≡ o.count) found (instances_count s f o.count a)
 
       -- more than a run has room for are too many of a procedure
       too_many : Fitting f → run_most < o.count → in_order f is ≡ false
@@ -139,26 +139,26 @@ module _ (f : Form) (s : List ℕ) where
 
       -- in a run, as its `ordered` answers of it
       module _ (run : Run) (held : run ≡ packed is) (short : o.count ≤ run_most) (t : Bool) (ordered : Ordered f.perprocedure run t) where
-        order-told : t ≡ in_order f is
+        order_told : t ≡ in_order f is
         unfolding in_order
-        order-told =
+        order_told =
             let all : instances_of run ≡ is = rw held (packed_all is (omega (arith, counted))) in
             ordered ∙ rw all
 
-        pub sheet-disordered : t ≡ false → sheet_in f s ≡ wrong
-        sheet-disordered e = out_of_order (sym order-told ∙ e)
+        pub sheet_disordered : t ≡ false → sheet_in f s ≡ wrong
+        sheet_disordered e = out_of_order (sym order_told ∙ e)
 
-        pub sheet-read :
+        pub sheet_read :
             next ≡ length s → t ≡ true →
             ◌≡◌ {A = FormRead} record { ok = true; last = o.last; run = run } (form_read (sheet_in f s))
-        sheet-read e h = rw (in_order e (sym order-told ∙ h), held)
+        sheet_read e h = rw (in_order e (sym order_told ∙ h), held)
 
-    pub sheet-many : Fitting f → run_most < o.count → sheet_in f s ≡ wrong
-    sheet-many fitting h = each (instances_from f o.count s a) refl
+    pub sheet_many : Fitting f → run_most < o.count → sheet_in f s ≡ wrong
+    sheet_many fitting h = each (instances_from f o.count s a) refl
       where
         each : (g : Got (List Instance)) → instances_from f o.count s a ≡ g → sheet_in f s ≡ wrong
         each (got is next) e = out_of_order is next e (too_many is next e fitting h)
-        each wrong e = sheet-no-instances e
+        each wrong e = sheet_no_instances e
 
 -- ---- what is accepted is allowed
 
@@ -178,19 +178,19 @@ sheet_allowed_lem f s =
     found_then P (instances_from f count s a) _ (λ is next h.
     pick_ind (Something P) (all (eqb next (length s) ∷ in_order f is ∷ []))
     (λ t. record {
-      last = leb-true last f.lastmost (found_is (λ n. leb n f.lastmost ≡ true) g (field-passes s p (λ n. leb n f.lastmost)));
-      each = found_is (Each (FieldsFit f)) h (instances-fit s f count a);
+      last = leb-true last f.lastmost (found_is (λ n. leb n f.lastmost ≡ true) g (field_passes s p (λ n. leb n f.lastmost)));
+      each = found_is (Each (FieldsFit f)) h (instances_fit s f count a);
       order = (both_hold (eqb next (length s)) (in_order f is) t).1;
     })
     (λ _. tt)))))
 
 -- a run has room for what is allowed, and holds it all
 module _ (f : Form) (short : Short f) (sheet : Sheet) (so : Allowed f sheet) where
-  pub allowed-room : length sheet.instances ≤ run_most
-  allowed-room = omega (arith, few_instances f sheet.instances short.procedures so.each so.order, short.few)
+  pub allowed_room : length sheet.instances ≤ run_most
+  allowed_room = omega (arith, few_instances f sheet.instances short.procedures so.each so.order, short.few)
 
-  pub allowed-packed : instances_of (packed sheet.instances) ≡ sheet.instances
-  allowed-packed = packed_all sheet.instances allowed-room
+  pub allowed_packed : instances_of (packed sheet.instances) ≡ sheet.instances
+  allowed_packed = packed_all sheet.instances allowed_room
 
 -- ---- what the reader of sheets answers
 
@@ -219,7 +219,7 @@ form_found s r e h = each (sheet_in form1 s) refl
           allowed = allowed;
           last = ap (λ (x : FormRead). x.last) told;
           run = held;
-          instances = ap instances_of held ∙ allowed-packed form1 form1_short sheet allowed;
+          instances = ap instances_of held ∙ allowed_packed form1 form1_short sheet allowed;
         }
     each wrong f = absurd (false≢true (sym (ap (λ (x : FormRead). x.ok) (e ∙ ap form_read f)) ∙ h))
 

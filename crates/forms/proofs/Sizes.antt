@@ -45,8 +45,8 @@ fields_most c good small (n ∷ ns) h =
 
 module _ (a : Address) (h : Held a) where
   -- 20 digits, each in one octet
-  digits-most : length (all_groups (map digit_of (digits_of a.number))) ≤ most
-  digits-most =
+  digits_most : length (all_groups (map digit_of (digits_of a.number))) ≤ most
+  digits_most =
       let good = (good_number a.number (good_address a h.good).number).digits in
       let cs : List ℕ = digits_of a.number in
       omega (
@@ -81,7 +81,7 @@ module _ (a : Address) (h : Held a) where
         field_most a.number.count rest (omega (arith, small.digits)),
         ap length (fields_both ds (a.subcount ∷ ws)),
         length-append (all_groups ds) (all_groups (a.subcount ∷ ws)),
-        digits-most,
+        digits_most,
         field_most a.subcount ws (omega (arith, small.sub)),
         sub_most,
       )
@@ -89,8 +89,8 @@ module _ (a : Address) (h : Held a) where
 -- ---- instances
 
 module _ (f : Form) (short : Short f) where
-  pub instance-most : (i : Instance) → FieldsFit f i → length (all_groups (instance_fields i)) ≤ instance_most
-  instance-most i fits =
+  pub instance_most_lem : (i : Instance) → FieldsFit f i → length (all_groups (instance_fields i)) ≤ instance_most
+  instance_most_lem i fits =
       let rest : List ℕ = address_fields i.address in
       omega (
         arith,
@@ -101,15 +101,15 @@ module _ (f : Form) (short : Short f) where
       )
 
   -- n instances are at most 67 n octets
-  pub instances-most : (is : List Instance) → Each (FieldsFit f) is → length (instances_octets is) ≤ instance_most * length is
-  instances-most [] fits = rw octets_none (omega arith)
-  instances-most (i ∷ is) fits =
+  pub instances_most_lem : (is : List Instance) → Each (FieldsFit f) is → length (instances_octets is) ≤ instance_most * length is
+  instances_most_lem [] fits = rw octets_none (omega arith)
+  instances_most_lem (i ∷ is) fits =
       rw (octets_more i is)
       (omega (
         arith,
         length-append (all_groups (instance_fields i)) (instances_octets is),
-        instance-most i fits.0,
-        instances-most is fits.1,
+        instance_most_lem i fits.0,
+        instances_most_lem is fits.1,
       ))
 
 -- ---- a sheet
@@ -132,18 +132,18 @@ head_most code last count small few least =
 module _ (f : Form) (short : Short f) (last : ℕ) (is : List Instance) (small : last ≤ f.lastmost) (each : Each (FieldsFit f) is)
     (few : length is ≤ f.procedures * f.perprocedure) where
   -- a sheet of n instances is at most 67 n + 5 octets
-  pub sheet-size : length (sheet_octets f last is) ≤ instance_most * length is + 5
-  sheet-size =
+  pub sheet_size : length (sheet_octets f last is) ≤ instance_most * length is + 5
+  sheet_size =
       omega (
         arith,
         ap length (sheet_octets_lem f last is),
         length-append (all_groups (f.code ∷ last ∷ length is ∷ [])) (instances_octets is),
         head_most f.code last (length is) short.code (omega (arith, small, short.last)) (omega (arith, few, short.few)),
-        instances-most f short is each,
+        instances_most_lem f short is each,
       )
 
-  pub sheet-most : length (sheet_octets f last is) ≤ sheet_most f
-  sheet-most = omega (arith, sheet-size, few)
+  pub sheet_most_lem : length (sheet_octets f last is) ≤ sheet_most f
+  sheet_most_lem = omega (arith, sheet_size, few)
 
 -- "under .. 1,613 (sheet)"
 pub form1_most : sheet_most form1 ≡ 1613

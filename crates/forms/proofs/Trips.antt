@@ -30,7 +30,7 @@ use Rattle.forms.specs.declared.form.Form.{Form}
 use Rattle.forms.proofs.Fields.{AllPass}
 use Rattle.forms.proofs.Readers.{kind_small, service_few}
 use Rattle.forms.proofs.Fits.{Held, digits_pass, digits_kept, held_digits, FieldsFit, tidy_instance, order_tidy, few_instances, Short}
-use Rattle.forms.proofs.Instances.{instances-end, instances-step}
+use Rattle.forms.proofs.Instances.{instances_end, instances_step}
 use Rattle.forms.proofs.Octets.{fields_none, fields_more, fields_both, octets_none, octets_more, sheet_octets_lem}
 
 -- ---- fields that stand in their groups
@@ -54,20 +54,20 @@ pub past_one : (at n : ℕ) (ns : List ℕ) → past (after at n) ns ≡ past at
 past_one at n ns = omega (arith, ap length (fields_more n ns), length-append (groups n) (all_groups ns))
 
 module _ (s : List ℕ) (at : ℕ) where
-  standing-left : (ns ms : List ℕ) → Standing s at (ns ++ ms) → Standing s at ns
-  standing-left ns ms st = record {
+  standing_left : (ns ms : List ℕ) → Standing s at (ns ++ ms) → Standing s at ns
+  standing_left ns ms st = record {
     stands = stands_left s at (all_groups ns) (all_groups ms) (rw fields_both at st.stands);
     fits = omega (arith, st.fits, past_both at ns ms);
   }
 
-  standing-right : (ns ms : List ℕ) → Standing s at (ns ++ ms) → Standing s (past at ns) ms
-  standing-right ns ms st = record {
+  standing_right : (ns ms : List ℕ) → Standing s at (ns ++ ms) → Standing s (past at ns) ms
+  standing_right ns ms st = record {
     stands = stands_right s at (all_groups ns) (all_groups ms) (rw fields_both at st.stands);
     fits = omega (arith, st.fits, past_both at ns ms);
   }
 
-  pub standing-rest : (n : ℕ) (ns : List ℕ) → Standing s at (n ∷ ns) → Standing s (after at n) ns
-  standing-rest n ns st = record {
+  pub standing_rest : (n : ℕ) (ns : List ℕ) → Standing s at (n ∷ ns) → Standing s (after at n) ns
+  standing_rest n ns st = record {
     stands = stands_right s at (groups n) (all_groups ns) (rw fields_more at st.stands);
     fits = omega (arith, st.fits, past_one at n ns);
   }
@@ -93,7 +93,7 @@ fields_back good small s at zero (n ∷ ns) long pass st = absurd (omega arith)
 fields_back good small s at (suc count) (n ∷ ns) long pass st =
     rw (
       field_back s at good n ns (small n pass.0) pass.0 st,
-      fields_back good small s (after at n) count ns (omega arith) pass.1 (standing-rest s at n ns st),
+      fields_back good small s (after at n) count ns (omega arith) pass.1 (standing_rest s at n ns st),
       past_one at n ns,
     )
 
@@ -147,11 +147,11 @@ module _ (a : Address) (h : Held a) where
       let r : ℕ = after q n.count in
       let t : ℕ = past r ds in
       let u : ℕ = after t a.subcount in
-      let st1 = standing-rest s at n.form (n.kind ∷ n.count ∷ ds ++ (a.subcount ∷ os)) st in
-      let st2 = standing-rest s p n.kind (n.count ∷ ds ++ (a.subcount ∷ os)) st1 in
-      let st3 = standing-rest s q n.count (ds ++ (a.subcount ∷ os)) st2 in
-      let st4 = standing-right s r ds (a.subcount ∷ os) st3 in
-      let st5 = standing-rest s t a.subcount os st4 in
+      let st1 = standing_rest s at n.form (n.kind ∷ n.count ∷ ds ++ (a.subcount ∷ os)) st in
+      let st2 = standing_rest s p n.kind (n.count ∷ ds ++ (a.subcount ∷ os)) st1 in
+      let st3 = standing_rest s q n.count (ds ++ (a.subcount ∷ os)) st2 in
+      let st4 = standing_right s r ds (a.subcount ∷ os) st3 in
+      let st5 = standing_rest s t a.subcount os st4 in
       let fairly : fair n.count ≡ true = some_fair n.count (omega (arith, some.0, counted)) count in
       let end : past u os ≡ past at (address_fields a) =
       past_one t a.subcount os
@@ -164,7 +164,7 @@ module _ (a : Address) (h : Held a) where
         field_back s p (kind_good n.form) n.kind _ (omega (arith, kind)) shaped.1 st1,
         field_back s q fair n.count _ (omega (arith, count)) fairly st2,
         fields_back (λ d. ltb d 10) (λ d e. omega (arith, ltb-true d 10 e)) s r n.count ds (length-map ws digit_of ∙ counted)
-            (digits_pass ws digits) (standing-left s r ds (a.subcount ∷ os) st3),
+            (digits_pass ws digits) (standing_left s r ds (a.subcount ∷ os) st3),
         field_back s t (λ m. leb m most) a.subcount _ (omega (arith, few)) (le-leb a.subcount most few) st4,
         fields_back (λ o. ltb o 256) (λ o e. omega (arith, ltb-true o 256 e)) s u a.subcount os subcounted h.octets st5,
         digits_kept ws digits,
@@ -174,18 +174,18 @@ module _ (a : Address) (h : Held a) where
 -- ---- instances
 
 module _ (f : Form) (short : Short f) where
-  instance-back :
+  instance_back :
       (i : Instance) → FieldsFit f i → (s : List ℕ) (at : ℕ) → Standing s at (instance_fields i) →
       instance_from f s at ≡ got (tidy_instance i) (past at (instance_fields i))
   unfolding instance_from
-  instance-back i h s at st =
+  instance_back i h s at st =
       let fs : List ℕ = address_fields i.address in
       let p : ℕ = after at i.procedure in
       let q : ℕ = after p i.number in
       let r : ℕ = after q i.service in
-      let st1 = standing-rest s at i.procedure (i.number ∷ i.service ∷ fs) st in
-      let st2 = standing-rest s p i.number (i.service ∷ fs) st1 in
-      let st3 = standing-rest s q i.service fs st2 in
+      let st1 = standing_rest s at i.procedure (i.number ∷ i.service ∷ fs) st in
+      let st2 = standing_rest s p i.number (i.service ∷ fs) st1 in
+      let st3 = standing_rest s q i.service fs st2 in
       let code : i.service ≤ 42 = service_few i.service h.service in
       let end : past r fs ≡ past at (instance_fields i) =
       past_one q i.service fs
@@ -201,12 +201,12 @@ module _ (f : Form) (short : Short f) where
         end,
       )
 
-  instances-back :
+  instances_back :
       (is : List Instance) → Each (FieldsFit f) is → (s : List ℕ) (at : ℕ) →
       Stands s at (instances_octets is) → at + length (instances_octets is) ≤ length s →
       instances_from f (length is) s at ≡ got (map tidy_instance is) (at + length (instances_octets is))
-  instances-back [] h s at st fit = rw (instances-end f s at, octets_none, add-zero at)
-  instances-back (k ∷ ks) h s at st fit =
+  instances_back [] h s at st fit = rw (instances_end f s at, octets_none, add-zero at)
+  instances_back (k ∷ ks) h s at st fit =
       let fs : List ℕ = all_groups (instance_fields k) in
       let rest : List ℕ = instances_octets ks in
       let long : length (instances_octets (k ∷ ks)) ≡ length fs + length rest = ap length (octets_more k ks) ∙ length-append fs rest in
@@ -215,21 +215,21 @@ module _ (f : Form) (short : Short f) where
       record { stands = stands_left s at fs rest both; fits = omega (arith, fit, long) } in
       let end : past at (instance_fields k) + length rest ≡ at + length (instances_octets (k ∷ ks)) = omega (arith, long) in
       rw (
-        instances-step f s (length ks) at,
-        instance-back k h.0 s at here,
-        instances-back ks h.1 s (past at (instance_fields k)) (stands_right s at fs rest both) (omega (arith, fit, long)),
+        instances_step f s (length ks) at,
+        instance_back k h.0 s at here,
+        instances_back ks h.1 s (past at (instance_fields k)) (stands_right s at fs rest both) (omega (arith, fit, long)),
         end,
       )
 
   -- ---- the sheet
 
   -- a sheet that stands in its octets, and nothing after it, is read as its instances, each with zeros past its digits and octets
-  pub sheet-back :
+  pub sheet_back :
       (last : ℕ) (is : List Instance) (s : List ℕ) → last ≤ f.lastmost → Each (FieldsFit f) is → in_order f is ≡ true →
       Stands s 0 (sheet_octets f last is) → length s ≡ length (sheet_octets f last is) →
       sheet_in f s ≡ got (record { last = last; instances = map tidy_instance is }) (length s)
   unfolding sheet_in
-  sheet-back last is s small each order st whole =
+  sheet_back last is s small each order st whole =
       let code : ℕ = f.code in
       let head : List ℕ = all_groups (code ∷ last ∷ length is ∷ []) in
       let rest : List ℕ = instances_octets is in
@@ -241,8 +241,8 @@ module _ (f : Form) (short : Short f) where
       let a : ℕ = after q (length is) in
       let st0 : Standing s 0 (code ∷ last ∷ length is ∷ []) =
       record { stands = stands_left s 0 head rest both; fits = omega (arith, long) } in
-      let st1 = standing-rest s 0 code (last ∷ length is ∷ []) st0 in
-      let st2 = standing-rest s p last (length is ∷ []) st1 in
+      let st1 = standing_rest s 0 code (last ∷ length is ∷ []) st0 in
+      let st2 = standing_rest s p last (length is ∷ []) st1 in
       let end : a ≡ 0 + length head =
       omega (
         arith,
@@ -256,7 +256,7 @@ module _ (f : Form) (short : Short f) where
         field_back s 0 (eqb code) code _ (omega (arith, short.code)) (eq-eqb code code refl) st0,
         field_back s p (λ n. leb n f.lastmost) last _ (omega (arith, small, short.last)) (le-leb last f.lastmost small) st1,
         field_back s q (λ n. true) (length is) _ (omega (arith, few, short.few)) refl st2,
-        instances-back is each s a there (omega (arith, long, end)),
+        instances_back is each s a there (omega (arith, long, end)),
         eq-eqb (a + length rest) (length s) (omega (arith, long, end)),
         order_tidy f is order,
       )

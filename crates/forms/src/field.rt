@@ -8,7 +8,7 @@ use groups::{Groups, groups_at};
 use numbers::MOST;
 
 // A field, and the place after it; or `ok` is false.
-#[derive(Drop)]
+#[derive(Clone, Copy)]
 pub(crate) struct FieldRead {
     pub(crate) ok: bool,
     pub(crate) value: u32,
@@ -16,7 +16,7 @@ pub(crate) struct FieldRead {
 }
 
 // Fields as octets with zeros after them, and the place after the fields; or `ok` is false.
-#[derive(Drop)]
+#[derive(Clone, Copy)]
 pub(crate) struct FieldsRead {
     pub(crate) ok: bool,
     pub(crate) octets: [u8; MOST],

@@ -2,7 +2,7 @@
 ghost use Rattle.forms.specs.Form.{FormOne};
 
 // What the fields of a sheet may be. A later form is another such record, not another reader.
-#[derive(Drop)]
+#[derive(Clone, Copy)]
 pub struct Form {
     pub code: u8,
     pub lastmost: u16,

@@ -25,7 +25,7 @@ const DIGITSBELOW: u32 = 10;
 const ZERO: u32 = 48;
 
 // A forwarded-to address, and the place after its fields; or `ok` is false.
-#[derive(Drop)]
+#[derive(Clone, Copy)]
 pub(crate) struct ForwardedRead {
     ok: bool,
     address: Address,
@@ -33,7 +33,7 @@ pub(crate) struct ForwardedRead {
 }
 
 // An instance, and the place after its fields; or `ok` is false.
-#[derive(Drop)]
+#[derive(Clone, Copy)]
 pub(crate) struct InstanceRead {
     pub(crate) ok: bool,
     pub(crate) instance: Instance,

@@ -12,7 +12,7 @@ use crate::read::instance_at;
 use instances::{ROOM, Run, fresh_run};
 
 // What stands before the instances, and the place after it; or `ok` is false.
-#[derive(Drop)]
+#[derive(Clone, Copy)]
 pub(crate) struct Opening {
     ok: bool,
     last: u16,
@@ -21,7 +21,7 @@ pub(crate) struct Opening {
 }
 
 // Instances, and the place after them; or `ok` is false.
-#[derive(Drop)]
+#[derive(Clone, Copy)]
 pub(crate) struct InstancesRead {
     ok: bool,
     run: Run,
@@ -29,7 +29,7 @@ pub(crate) struct InstancesRead {
 }
 
 // The last handled identifier and the instances of a sheet; or `ok` is false, and then they say nothing.
-#[derive(Drop)]
+#[derive(Clone, Copy)]
 pub struct FormRead {
     pub ok: bool,
     pub last: u16,

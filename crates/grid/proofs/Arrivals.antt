@@ -29,40 +29,40 @@ use Rattle.grid.specs.Judge.{grid_judge}
 use Rattle.grid.specs.Selection.{cell_places}
 use Rattle.grid.specs.Step.{GridStep, grid_asks, grid_result, grid_step, grid_verdict}
 use Rattle.grid.specs.Table.{GridTable, grid_table_good}
-use Rattle.grid.proofs.Grids.{grid-row}
-use Rattle.grid.proofs.Judges.{judge-errors}
-use Rattle.grid.proofs.Questions.{step-ind}
-use Rattle.grid.proofs.Rows.{entries-few, entries_good, good-few}
-use Rattle.grid.proofs.Tables.{good-grid}
+use Rattle.grid.proofs.Grids.{grid_row}
+use Rattle.grid.proofs.Judges.{judge_errors}
+use Rattle.grid.proofs.Questions.{step_ind}
+use Rattle.grid.proofs.Rows.{entries_few, entries_good, good_few}
+use Rattle.grid.proofs.Tables.{good_grid}
 
 -- ---- the refusals, lowest first
 
 module _ (access : List ℕ) (t : GridTable) (s : List ℕ) (size : ℕ) where
-  pub done-short : size < output_least → grid_done access t s size ≡ grid_refused t ShortOutput
+  pub done_short : size < output_least → grid_done access t s size ≡ grid_refused t ShortOutput
   unfolding grid_done
-  done-short short = rw (lt-ltb size output_least short)
+  done_short short = rw (lt-ltb size output_least short)
 
   module _ (room : output_least ≤ size) where
-    pub done-long : component_most < length s → grid_done access t s size ≡ grid_refused t LongComponent
+    pub done_long : component_most < length s → grid_done access t s size ≡ grid_refused t LongComponent
     unfolding grid_done
-    done-long long = rw (le-ltb size output_least room, lt-ltb component_most (length s) long)
+    done_long long = rw (le-ltb size output_least room, lt-ltb component_most (length s) long)
 
     module _ (fair : length s ≤ component_most) where
-      pub done-profile : (access_read access).ok ≡ false → grid_done access t s size ≡ grid_refused t BadProfile
+      pub done_profile : (access_read access).ok ≡ false → grid_done access t s size ≡ grid_refused t BadProfile
       unfolding grid_done
-      done-profile bad = rw (le-ltb size output_least room, le-ltb component_most (length s) fair, bad)
+      done_profile bad = rw (le-ltb size output_least room, le-ltb component_most (length s) fair, bad)
 
       module _ (ok : (access_read access).ok ≡ true) where
-        pub done-table :
+        pub done_table :
             grid_table_good instances_most (access_read access).profile t ≡ false → grid_done access t s size ≡ grid_refused t BadTable
         unfolding grid_done
-        done-table bad = rw (le-ltb size output_least room, le-ltb component_most (length s) fair, ok, bad)
+        done_table bad = rw (le-ltb size output_least room, le-ltb component_most (length s) fair, ok, bad)
 
-        pub done-answers :
+        pub done_answers :
             grid_table_good instances_most (access_read access).profile t ≡ true →
             grid_done access t s size ≡ grid_answered (grid_step (access_read access).profile t s)
         unfolding grid_done
-        done-answers good = rw (le-ltb size output_least room, le-ltb component_most (length s) fair, ok, good)
+        done_answers good = rw (le-ltb size output_least room, le-ltb component_most (length s) fair, ok, good)
 
 -- ---- the reply fits
 
@@ -78,33 +78,33 @@ module _ (p : Profile) (t : GridTable) (profile : profile_good p ≡ true) (tabl
     unfolding grid_result
     result_fits =
         let row = row_at t.grid r.procedure in
-        let good = grid-row instances_most p t.grid r.procedure code (good-grid instances_most p t table) in
+        let good = grid_row instances_most p t.grid r.procedure code (good_grid instances_most p t table) in
         pick_ind GridStepFits (eqb operation interrogation)
         (λ _. record {
           answer = range;
           good = entries_good instances_most p r.procedure (cell_places p r) row good (good_profile p profile).numbers;
           few =
               omega
-              (arith, entries-few p r.procedure (cell_places p r) row, good-few instances_most p r.procedure row good);
+              (arith, entries_few p r.procedure (cell_places p r) row, good_few instances_most p r.procedure row good);
         })
         (λ _. record { answer = range; good = all_none; few = omega arith })
 
-    verdict-fits :
+    verdict_fits :
         (v : Option ℕ) → grid_judge instances_most p operation r (cell_places p r) (row_at t.grid r.procedure) ≡ v →
         GridStepFits (grid_verdict p t identifier operation r v)
-    verdict-fits none h = result_fits
-    verdict-fits (some e) h = record {
-      answer = (range, judge-errors instances_most p operation r (cell_places p r) (row_at t.grid r.procedure) e h);
+    verdict_fits none h = result_fits
+    verdict_fits (some e) h = record {
+      answer = (range, judge_errors instances_most p operation r (cell_places p r) (row_at t.grid r.procedure) e h);
       good = all_none;
       few = omega arith;
     }
 
-    handled-fits : GridStepFits (grid_asks p t identifier operation r)
+    handled_fits : GridStepFits (grid_asks p t identifier operation r)
     unfolding grid_asks
-    handled-fits = verdict-fits (grid_judge instances_most p operation r (cell_places p r) (row_at t.grid r.procedure)) refl
+    handled_fits = verdict_fits (grid_judge instances_most p operation r (cell_places p r) (row_at t.grid r.procedure)) refl
 
   pub step_fits : (s : List ℕ) → GridStepFits (grid_step p t s)
   step_fits s =
-      step-ind p t s GridStepFits
+      step_ind p t s GridStepFits
       (λ a said. record { answer = said.fits; good = all_none; few = omega arith })
-      (λ identifier operation r asked. handled-fits identifier operation r asked.range asked.procedure)
+      (λ identifier operation r asked. handled_fits identifier operation r asked.range asked.procedure)

@@ -66,23 +66,23 @@ entries_at p procedure w row j = pick (grid_selected w j) (pick (active row j) (
 
 module _ (row : Row) (j : ℕ) where
   -- there is one where one is active, with its address
-  pub instance-ok : (held_at row j).ok ≡ active row j
+  pub instance_ok : (held_at row j).ok ≡ active row j
   unfolding held_at
-  instance-ok = pick_ind (λ (r : Held). r.ok ≡ active row j) (active row j) (λ e. rw e) (λ e. rw e)
+  instance_ok = pick_ind (λ (r : Held). r.ok ≡ active row j) (active row j) (λ e. rw e) (λ e. rw e)
 
-  pub instance-address : active row j ≡ true → (held_at row j).address ≡ (cell_at row j).address
+  pub instance_address : active row j ≡ true → (held_at row j).address ≡ (cell_at row j).address
   unfolding held_at
-  instance-address h = rw h
+  instance_address h = rw h
 
   -- the service of an instance that is active is no 0
-  pub active-some : active row j ≡ true → (cell_at row j).service ≡ 0 → ⊥
+  pub active_some : active row j ≡ true → (cell_at row j).service ≡ 0 → ⊥
   unfolding active
-  active-some h = eqb-false (cell_at row j).service 0 (not_passed (eqb (cell_at row j).service 0) h)
+  active_some h = eqb-false (cell_at row j).service 0 (not_passed (eqb (cell_at row j).service 0) h)
 
   -- the row holds its address, and nothing where none is active
-  pub held-some : active row j ≡ true → held row j ≡ some (tidy_address (cell_at row j).address)
+  pub held_some : active row j ≡ true → held row j ≡ some (tidy_address (cell_at row j).address)
   unfolding held
-  held-some h = rw h
+  held_some h = rw h
 
   pub held_none : active row j ≡ false → held row j ≡ none
   unfolding held
@@ -90,9 +90,9 @@ module _ (row : Row) (j : ℕ) where
 
   -- both go by the cell alone
   module _ (other : Row) (same : cell_at row j ≡ cell_at other j) where
-    pub active-same : active row j ≡ active other j
+    pub active_same : active row j ≡ active other j
     unfolding active
-    active-same = ap (λ (x : Cell). not (eqb x.service 0)) same
+    active_same = ap (λ (x : Cell). not (eqb x.service 0)) same
 
     pub held_same : held row j ≡ held other j
     unfolding held active

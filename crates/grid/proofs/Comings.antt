@@ -26,50 +26,50 @@ module _ (p : Profile) (grid : Grid) (c : Call) where
   row = row_at grid (procedure_of c.event)
 
   -- none where the access is not in use
-  pub applying-unused : p.inuse ≡ 0 → grid_applying p grid c ≡ none
+  pub applying_unused : p.inuse ≡ 0 → grid_applying p grid c ≡ none
   unfolding grid_applying
-  applying-unused h = rw (eq-eqb p.inuse 0 h)
+  applying_unused h = rw (eq-eqb p.inuse 0 h)
 
   module _ (used : p.inuse ≡ 0 → ⊥) where
     -- none where the service is not subscribed
-    pub applying-service : p.servicecount ≤ grid_slot_of p c → grid_applying p grid c ≡ none
+    pub applying_service : p.servicecount ≤ grid_slot_of p c → grid_applying p grid c ≡ none
     unfolding grid_applying
-    applying-service h = rw (ne_eqb p.inuse 0 used, le-leb p.servicecount (grid_slot_of p c) h)
+    applying_service h = rw (ne_eqb p.inuse 0 used, le-leb p.servicecount (grid_slot_of p c) h)
 
     module _ (slot : grid_slot_of p c < p.servicecount) where
       -- what the place holds
-      pub applying-none : active row (grid_place_of_call p c) ≡ false → grid_applying p grid c ≡ none
+      pub applying_none : active row (grid_place_of_call p c) ≡ false → grid_applying p grid c ≡ none
       unfolding grid_applying
-      applying-none h = rw (ne_eqb p.inuse 0 used, lt-leb p.servicecount (grid_slot_of p c) slot, h)
+      applying_none h = rw (ne_eqb p.inuse 0 used, lt-leb p.servicecount (grid_slot_of p c) slot, h)
 
-      pub applying-some :
+      pub applying_some :
           active row (grid_place_of_call p c) ≡ true → grid_applying p grid c ≡ some (cell_at row (grid_place_of_call p c)).address
       unfolding grid_applying
-      applying-some h = rw (ne_eqb p.inuse 0 used, lt-leb p.servicecount (grid_slot_of p c) slot, h)
+      applying_some h = rw (ne_eqb p.inuse 0 used, lt-leb p.servicecount (grid_slot_of p c) slot, h)
 
 -- ---- the refusals, lowest first
 
 module _ (access : List ℕ) (t : GridTable) (s : List ℕ) where
-  pub comes-profile : (access_read access).ok ≡ false → grid_comes access t s ≡ call_refused BadProfile
+  pub comes_profile : (access_read access).ok ≡ false → grid_comes access t s ≡ call_refused BadProfile
   unfolding grid_comes
-  comes-profile bad = rw bad
+  comes_profile bad = rw bad
 
   module _ (ok : (access_read access).ok ≡ true) where
-    pub comes-table :
+    pub comes_table :
         grid_table_good instances_most (access_read access).profile t ≡ false → grid_comes access t s ≡ call_refused BadTable
     unfolding grid_comes
-    comes-table bad = rw (ok, bad)
+    comes_table bad = rw (ok, bad)
 
     module _ (table : grid_table_good instances_most (access_read access).profile t ≡ true) where
-      pub comes-call : call_good (access_read access).profile s ≡ false → grid_comes access t s ≡ call_refused BadCall
+      pub comes_call : call_good (access_read access).profile s ≡ false → grid_comes access t s ≡ call_refused BadCall
       unfolding grid_comes
-      comes-call bad = rw (ok, table, bad)
+      comes_call bad = rw (ok, table, bad)
 
-      pub comes-by :
+      pub comes_by :
           call_good (access_read access).profile s ≡ true →
           grid_comes access t s ≡ grid_by_call (access_read access).profile t (call_from s)
       unfolding grid_comes
-      comes-by good = rw (ok, table, good)
+      comes_by good = rw (ok, table, good)
 
 -- ---- the original number handed on
 
@@ -78,7 +78,7 @@ module _ (access : List ℕ) (t : GridTable) (s : List ℕ) where
   unfolding grid_original
   original_none h = rw h
 
-  pub original-goes :
+  pub original_goes :
       goes_on (grid_comes access t s).told ≡ true → grid_original access t s ≡ handed_on access s (access_read access).profile (call_from s)
   unfolding grid_original
-  original-goes h = rw h
+  original_goes h = rw h

@@ -11,7 +11,7 @@ use Rattle.grid.specs.Equal.{Alike, Component, SameTable, grid_after, run_after}
 use Rattle.grid.specs.Sheets.{grid_read_sheet}
 use Rattle.grid.specs.Table.{GridTable, grid_fresh}
 use Rattle.grid.proofs.SameArrivals.{sequence_same}
-use Rattle.grid.proofs.SameCalls.{comes-same, original-same}
+use Rattle.grid.proofs.SameCalls.{comes_same, original_same}
 use Rattle.grid.proofs.SameSheets.{read_same, wrote_same}
 use Rattle.grid.proofs.SameTables.{fresh_same}
 
@@ -22,8 +22,8 @@ same_alike access g t so =
     λ cs. (sequence_same access cs g t so).1 in
     record {
       replies = λ cs. (sequence_same access cs g t so).0;
-      calls = λ cs call. comes-same access (grid_after access g cs) (run_after access t cs) call (after cs);
-      originals = λ cs call. original-same access (grid_after access g cs) (run_after access t cs) call (after cs);
+      calls = λ cs call. comes_same access (grid_after access g cs) (run_after access t cs) call (after cs);
+      originals = λ cs call. original_same access (grid_after access g cs) (run_after access t cs) call (after cs);
       sheets = λ cs size. wrote_same access (grid_after access g cs) (run_after access t cs) size (after cs);
     }
 

@@ -12,7 +12,7 @@ use borrow.Author.Tests.{ltb-false, ltb-true}
 use Rattle.laws.specs.Pick.{pick}
 use Rattle.laws.specs.Places.{gathered}
 use Rattle.laws.proofs.Picks.{by_bool, pick_ind}
-use Rattle.laws.proofs.Walks.{gathered-ind, gathered-more}
+use Rattle.laws.proofs.Walks.{gathered_ind, gathered_more}
 use Rattle.codes.specs.Codes.{place_of}
 use Rattle.numbers.specs.declared.address.Address.{Address}
 use Rattle.profile.specs.Profile.{subscribed_services}
@@ -20,14 +20,14 @@ use Rattle.profile.specs.declared.profile.Profile.{Profile}
 use Rattle.instances.specs.Instance.{is_at}
 use Rattle.instances.specs.Run.{forwarded_to}
 use Rattle.instances.specs.declared.instance.Instance.{Instance}
-use Rattle.instances.proofs.Choices.{find-here, find_none, find-on}
+use Rattle.instances.proofs.Choices.{find_here, find_none, find_on}
 use Rattle.instances.proofs.Finds.{has_place}
-use Rattle.instances.proofs.Founds.{found_after, found_before, is-at, not_at}
+use Rattle.instances.proofs.Founds.{found_after, found_before, is_at_lem, not_at}
 use Rattle.grid.specs.Grid.{Grid, grid_good, grid_procedures, row_at}
 use Rattle.grid.specs.Holds.{holds, instance_in, place_instances, row_instances}
 use Rattle.grid.specs.Row.{Row, active, cell_at, number_of_place, places, row_good, service_of_place}
-use Rattle.grid.proofs.Grids.{grid-row}
-use Rattle.grid.proofs.ProfilePlaces.{WholeProfile, has-place, place-has, place_at}
+use Rattle.grid.proofs.Grids.{grid_row}
+use Rattle.grid.proofs.ProfilePlaces.{WholeProfile, has_place_lem, place_has, place_at}
 use Rattle.grid.proofs.RowInstances.{row_of, rows_all, slot_is}
 use Rattle.grid.proofs.Rows.{Ruled, active_rules}
 
@@ -45,23 +45,23 @@ module _ (q n s : ℕ) where
 
   -- ---- what is found in what is gathered
 
-  gathered-nowhere : (f : ℕ → List Instance) (m : ℕ) → ((j : ℕ) → j < m → find (f j) ≡ none) → find (gathered f m) ≡ none
-  gathered-nowhere f m h =
-      gathered-ind (λ l. find l ≡ none) (find_none q n s [] refl) (λ xs ys a b. found_after q n s xs ys a ∙ b) f m h
+  gathered_nowhere : (f : ℕ → List Instance) (m : ℕ) → ((j : ℕ) → j < m → find (f j) ≡ none) → find (gathered f m) ≡ none
+  gathered_nowhere f m h =
+      gathered_ind (λ l. find l ≡ none) (find_none q n s [] refl) (λ xs ys a b. found_after q n s xs ys a ∙ b) f m h
 
-  gathered-found :
+  gathered_found :
       (f : ℕ → List Instance) (m k : ℕ) → k < m → ((j : ℕ) → j < m → (j ≡ k → ⊥) → find (f j) ≡ none) →
       find (gathered f m) ≡ find (f k)
-  gathered-found f zero k lt others = absurd (omega arith)
-  gathered-found f (suc m) k lt others =
-      ap find (gathered-more f m)
+  gathered_found f zero k lt others = absurd (omega arith)
+  gathered_found f (suc m) k lt others =
+      ap find (gathered_more f m)
       ∙ ⊎_elim
       (λ (last : k ≡ m).
-      found_after q n s (gathered f m) (f m) (gathered-nowhere f m (λ j less. others j (omega arith) (λ e. omega arith)))
+      found_after q n s (gathered f m) (f m) (gathered_nowhere f m (λ j less. others j (omega arith) (λ e. omega arith)))
       ∙ ap (λ (j : ℕ). find (f j)) (sym last))
       (λ (less : k < m).
       found_before q n s (gathered f m) (f m) (others m (omega arith) (λ e. omega arith))
-      ∙ gathered-found f m k less (λ j h. others j (omega arith)))
+      ∙ gathered_found f m k less (λ j h. others j (omega arith)))
       (eq-or-lt_of_le (omega arith))
 
   -- ---- the instance of a place
@@ -73,19 +73,19 @@ module _ (q n s : ℕ) where
     place_none : (active row j ≡ true → is_at q n s one ≡ false) → find (place_instances k row j) ≡ none
     place_none h =
         pick_ind (λ l. find l ≡ none) (active row j)
-        (λ e. find-on q n s (one ∷ []) one [] refl (h e) ∙ find_none q n s [] refl)
+        (λ e. find_on q n s (one ∷ []) one [] refl (h e) ∙ find_none q n s [] refl)
         (λ _. find_none q n s [] refl)
 
     place_found : (active row j ≡ true → is_at q n s one ≡ true) → find (place_instances k row j) ≡ cell_address row j
     place_found h =
         by_bool (find (place_instances k row j) ≡ cell_address row j) (active row j)
-        (λ e. rw e (find-here q n s (one ∷ []) one [] refl (h e)))
+        (λ e. rw e (find_here q n s (one ∷ []) one [] refl (h e)))
         (λ e. rw e (find_none q n s [] refl))
 
   -- the row of another procedure
-  other-found : (k : ℕ) (row : Row) → (k ≡ q → ⊥) → find (row_instances k row) ≡ none
-  other-found k row other =
-      gathered-nowhere (place_instances k row) places (λ j _.
+  other_found : (k : ℕ) (row : Row) → (k ≡ q → ⊥) → find (row_instances k row) ≡ none
+  other_found k row other =
+      gathered_nowhere (place_instances k row) places (λ j _.
       place_none k row j (λ _. not_at q n s (one k row j) (λ a _ _. other a)))
 
   -- ---- the row of the procedure
@@ -103,39 +103,39 @@ module _ (q n s : ℕ) where
       at_place number service =
           let its : place_of s (subscribed_services p) ≡ service_of_place j = ap (λ (c : ℕ). place_of c (subscribed_services p)) (sym service)
           ∙ slot in
-          (omega (arith, its, number), place-has p whole n s (omega (arith, number, ruled.number)) (omega (arith, its, ruled.slot)))
+          (omega (arith, its, number), place_has p whole n s (omega (arith, number, ruled.number)) (omega (arith, its, ruled.slot)))
 
-    own-found : find (row_instances q row) ≡ pick (has_place p n s) (cell_address row (place_at p n s)) none
-    own-found =
+    own_found : find (row_instances q row) ≡ pick (has_place p n s) (cell_address row (place_at p n s)) none
+    own_found =
         by_bool _ (has_place p n s)
         (λ (e : has_place p n s ≡ true).
-        let place = has-place p whole n s e in
+        let place = has_place_lem p whole n s e in
         rw e
-        (gathered-found (place_instances q row) places (place_at p n s) place.inside (λ j lt other.
+        (gathered_found (place_instances q row) places (place_at p n s) place.inside (λ j lt other.
         place_none q row j (λ there. not_at q n s (one q row j) (λ _ number service. other (at_place j lt there number service).0)))
         ∙ place_found q row (place_at p n s) (λ there.
-        is-at q n s (one q row (place_at p n s)) refl place.numbered
+        is_at_lem q n s (one q row (place_at p n s)) refl place.numbered
         ((ruled (place_at p n s) place.inside there).service ∙ place.service))))
         (λ (e : has_place p n s ≡ false).
         rw e
-        (gathered-nowhere (place_instances q row) places (λ j lt.
+        (gathered_nowhere (place_instances q row) places (λ j lt.
         place_none q row j (λ there.
         not_at q n s (one q row j) (λ _ number service. false≢true (sym e ∙ (at_place j lt there number service).1))))))
 
   -- ---- the grid
 
-  pub found-holds :
+  pub found_holds :
       (most : ℕ) (p : Profile) → WholeProfile p → (grid : Grid) → grid_good most p grid ≡ true →
       forwarded_to q n s (holds grid) ≡ found_in p grid q n s
-  found-holds most p whole grid good =
+  found_holds most p whole grid good =
       ap find (rows_all grid)
       ∙ by_bool _ (ltb q grid_procedures)
       (λ (e : ltb q grid_procedures ≡ true).
       let lt = ltb-true q grid_procedures e in
       rw e
-      (gathered-found (row_of grid) grid_procedures q lt (λ k _ other. other-found k (row_at grid k) other)
-      ∙ own-found most p whole (row_at grid q) (grid-row most p grid q lt good)))
+      (gathered_found (row_of grid) grid_procedures q lt (λ k _ other. other_found k (row_at grid k) other)
+      ∙ own_found most p whole (row_at grid q) (grid_row most p grid q lt good)))
       (λ (e : ltb q grid_procedures ≡ false).
       let past = ltb-false q grid_procedures e in
       rw e
-      (gathered-nowhere (row_of grid) grid_procedures (λ k lt. other-found k (row_at grid k) (λ same. omega (arith, past, lt, same)))))
+      (gathered_nowhere (row_of grid) grid_procedures (λ k lt. other_found k (row_at grid k) (λ same. omega (arith, past, lt, same)))))

@@ -13,8 +13,8 @@ use Rattle.laws.specs.Places.{count_to, gathered}
 use Rattle.laws.specs.Those.{those}
 use Rattle.laws.proofs.Chosen.{gathered_same}
 use Rattle.laws.proofs.Picks.{by_bool, pick_map}
-use Rattle.laws.proofs.Thoses.{those_none, those-skip, those-take}
-use Rattle.laws.proofs.Walks.{count-more, count_none, gathered-ind, gathered-more, gathered_none}
+use Rattle.laws.proofs.Thoses.{those_none, those_skip, those_take}
+use Rattle.laws.proofs.Walks.{count_more, count_none, gathered_ind, gathered_more, gathered_none}
 
 -- ---- how much
 
@@ -24,23 +24,23 @@ pub gathered_count :
 gathered_count f g zero = rw (gathered_none (λ j. pick (f j) (g j ∷ []) []), count_none f)
 gathered_count f g (suc n) =
     rw (
-      gathered-more (λ j. pick (f j) (g j ∷ []) []) n,
+      gathered_more (λ j. pick (f j) (g j ∷ []) []) n,
       length-append (gathered (λ j. pick (f j) (g j ∷ []) []) n) (pick (f n) (g n ∷ []) []),
       gathered_count f g n,
-      count-more f n,
+      count_more f n,
       pick_map length (f n) (g n ∷ []) [],
     )
 
 pub gathered_each : {A : Type 0} (c : ℕ) (f : ℕ → List A) (n : ℕ) → ((k : ℕ) → k < n → length (f k) ≤ c) → length (gathered f n) ≤ c * n
 gathered_each c f zero h = rw (gathered_none f) (omega arith)
 gathered_each c f (suc n) h =
-    rw (gathered-more f n, mul-suc c n)
+    rw (gathered_more f n, mul-suc c n)
     (omega (arith, length-append (gathered f n) (f n), h n (omega arith), gathered_each c f n (λ k lt. h k (omega arith))))
 
 -- ---- where a single place gives something, or none does
 
 pub gathered_nothing : {A : Type 0} (f : ℕ → List A) (n : ℕ) → ((j : ℕ) → j < n → f j ≡ []) → gathered f n ≡ []
-gathered_nothing f n h = gathered-ind (λ xs. xs ≡ []) refl (λ xs ys a b. rw (a, b)) f n h
+gathered_nothing f n h = gathered_ind (λ xs. xs ≡ []) refl (λ xs ys a b. rw (a, b)) f n h
 
 -- where one place gives something and no other does
 pub gathered_one :
@@ -49,10 +49,10 @@ gathered_one f zero k lt others = absurd (omega arith)
 gathered_one f (suc n) k lt others =
     ⊎_elim
     (λ (last : k ≡ n).
-    rw (gathered-more f n, gathered_nothing f n (λ j less. others j (omega arith) (λ e. omega arith)), last))
+    rw (gathered_more f n, gathered_nothing f n (λ j less. others j (omega arith) (λ e. omega arith)), last))
     (λ (less : k < n).
     rw (
-      gathered-more f n,
+      gathered_more f n,
       gathered_one f n k less (λ j h. others j (omega arith)),
       others n (omega arith) (λ e. omega arith),
       append-nil (f k),
@@ -69,21 +69,21 @@ gathered_last f g zero m xs lt same here silent = absurd (omega arith)
 gathered_last f g (suc n) m xs lt same here silent =
     ⊎_elim
     (λ (last : m ≡ n).
-    gathered-more g n
+    gathered_more g n
     ∙ rw (
       gathered_same g f n (λ j less. same j (omega arith) (λ e. omega arith)),
       rw last at here,
-      gathered-more f n,
+      gathered_more f n,
       append_assoc (gathered f n) (f n) xs,
     ))
     (λ (less : m < n).
     let none : f n ≡ [] = silent n less (omega arith) in
-    gathered-more g n
+    gathered_more g n
     ∙ rw (
       gathered_last f g n m xs less (λ j h. same j (omega arith)) here (λ j up h. silent j up (omega arith)),
       same n (omega arith) (λ e. omega arith),
       none,
-      gathered-more f n,
+      gathered_more f n,
       none,
       append-nil (gathered f n ++ xs),
       append-nil (gathered f n),
@@ -93,25 +93,25 @@ gathered_last f g (suc n) m xs lt same here silent =
 -- ---- those of what is gathered
 
 module _ {A : Type 0} (f : A → Bool) where
-  those-append : (xs ys : List A) → those f (xs ++ ys) ≡ those f xs ++ those f ys
-  those-append [] ys = ap (λ (l : List A). l ++ those f ys) (sym (those_none f [] refl))
-  those-append (x ∷ xs) ys =
+  those_append : (xs ys : List A) → those f (xs ++ ys) ≡ those f xs ++ those f ys
+  those_append [] ys = ap (λ (l : List A). l ++ those f ys) (sym (those_none f [] refl))
+  those_append (x ∷ xs) ys =
       by_bool (those f (x ∷ xs ++ ys) ≡ those f (x ∷ xs) ++ those f ys) (f x)
-      (λ e. rw (those-take f (x ∷ xs ++ ys) (xs ++ ys) x refl e, those-take f (x ∷ xs) xs x refl e, those-append xs ys))
-      (λ e. rw (those-skip f (x ∷ xs ++ ys) (xs ++ ys) x refl e, those-skip f (x ∷ xs) xs x refl e, those-append xs ys))
+      (λ e. rw (those_take f (x ∷ xs ++ ys) (xs ++ ys) x refl e, those_take f (x ∷ xs) xs x refl e, those_append xs ys))
+      (λ e. rw (those_skip f (x ∷ xs ++ ys) (xs ++ ys) x refl e, those_skip f (x ∷ xs) xs x refl e, those_append xs ys))
 
-  pub those-gathered : (g : ℕ → List A) (n : ℕ) → those f (gathered g n) ≡ gathered (λ j. those f (g j)) n
-  those-gathered g zero = rw (gathered_none g, gathered_none (λ j. those f (g j))) (those_none f [] refl)
-  those-gathered g (suc n) =
-      rw (gathered-more g n, gathered-more (λ j. those f (g j)) n, those-append (gathered g n) (g n), those-gathered g n)
+  pub those_gathered : (g : ℕ → List A) (n : ℕ) → those f (gathered g n) ≡ gathered (λ j. those f (g j)) n
+  those_gathered g zero = rw (gathered_none g, gathered_none (λ j. those f (g j))) (those_none f [] refl)
+  those_gathered g (suc n) =
+      rw (gathered_more g n, gathered_more (λ j. those f (g j)) n, those_append (gathered g n) (g n), those_gathered g n)
 
-  pub those-one : (x : A) → those f (x ∷ []) ≡ pick (f x) (x ∷ []) []
-  those-one x =
+  pub those_one : (x : A) → those f (x ∷ []) ≡ pick (f x) (x ∷ []) []
+  those_one x =
       by_bool (those f (x ∷ []) ≡ pick (f x) (x ∷ []) []) (f x)
-      (λ e. rw (those-take f (x ∷ []) [] x refl e, those_none f [] refl, e))
-      (λ e. rw (those-skip f (x ∷ []) [] x refl e, those_none f [] refl, e))
+      (λ e. rw (those_take f (x ∷ []) [] x refl e, those_none f [] refl, e))
+      (λ e. rw (those_skip f (x ∷ []) [] x refl e, those_none f [] refl, e))
 
 pub map_gathered : {A B : Type 0} (f : A → B) (g : ℕ → List A) (n : ℕ) → map f (gathered g n) ≡ gathered (λ j. map f (g j)) n
 map_gathered f g zero = rw (gathered_none g, gathered_none (λ j. map f (g j)))
 map_gathered f g (suc n) =
-    rw (gathered-more g n, gathered-more (λ j. map f (g j)) n, map-append f (gathered g n) (g n), map_gathered f g n)
+    rw (gathered_more g n, gathered_more (λ j. map f (g j)) n, map-append f (gathered g n) (g n), map_gathered f g n)

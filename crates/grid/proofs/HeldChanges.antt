@@ -18,7 +18,7 @@ use Rattle.profile.specs.declared.profile.Profile.{Profile}
 use Rattle.instances.specs.Run.{activated, deactivated, forwarded_to}
 use Rattle.instances.specs.declared.instance.Instance.{Instance}
 use Rattle.instances.specs.declared.instance.Selection.{Selection}
-use Rattle.instances.proofs.Finds.{find-cleared, find-put, has_place, names}
+use Rattle.instances.proofs.Finds.{find_cleared, find_put, has_place, names}
 use Rattle.instances.proofs.Founds.{found_same}
 use Rattle.instances.proofs.Goods.{GoodList}
 use Rattle.rules.specs.Selection.{selection_of}
@@ -27,13 +27,13 @@ use Rattle.grid.specs.Holds.{holds}
 use Rattle.grid.specs.Row.{Places, Row, cell_at, clear_in, grid_selected, places, put_in}
 use Rattle.grid.specs.Selection.{cell_places}
 use Rattle.grid.specs.Table.{GridTable, grid_table_good, grid_with_row}
-use Rattle.grid.proofs.FoundCells.{cell_address, found_in, found-holds}
-use Rattle.grid.proofs.HeldGoods.{good_small, held-good}
-use Rattle.grid.proofs.ProfilePlaces.{WholeProfile, has-place, place_at}
-use Rattle.grid.proofs.Rows.{active-clear, active-put, cell-clear, cell-put, pick_same}
-use Rattle.grid.proofs.SameSelections.{concerned, marked-place, unconcerned}
+use Rattle.grid.proofs.FoundCells.{cell_address, found_in, found_holds}
+use Rattle.grid.proofs.HeldGoods.{good_small, held_good}
+use Rattle.grid.proofs.ProfilePlaces.{WholeProfile, has_place_lem, place_at}
+use Rattle.grid.proofs.Rows.{active_clear, active_put, cell_clear, cell_put, pick_same}
+use Rattle.grid.proofs.SameSelections.{concerned, marked_place, unconcerned}
 use Rattle.grid.proofs.Shapes.{row_set}
-use Rattle.grid.proofs.Tables.{good-grid}
+use Rattle.grid.proofs.Tables.{good_grid}
 
 -- ---- changes
 
@@ -45,22 +45,22 @@ module _ (p : Profile) (chosen : Selection) where
       forwarded_to q n s after ≡ pick (names chosen q n s) (pick (has_place p n s) now none) (forwarded_to q n s before)
 
   -- "every selected number and service .. gets the address", "removes every active selected instance"
-  pub activated-becomes : (address : Address) (l : List Instance) → Becomes (some address) l (activated p chosen address l)
-  activated-becomes address l q n s = find-put q n s chosen address p l
+  pub activated_becomes : (address : Address) (l : List Instance) → Becomes (some address) l (activated p chosen address l)
+  activated_becomes address l q n s = find_put q n s chosen address p l
 
-  pub deactivated-becomes : (l : List Instance) → Becomes none l (deactivated chosen l)
-  deactivated-becomes l q n s =
-      find-cleared q n s chosen l
+  pub deactivated_becomes : (l : List Instance) → Becomes none l (deactivated chosen l)
+  deactivated_becomes l q n s =
+      find_cleared q n s chosen l
       ∙ ap (λ (o : Option Address). pick (names chosen q n s) o (forwarded_to q n s l)) (pick_same (has_place p n s) none)
 
   -- a grid and a list that break no rule, whatever the limit, and of which the same becomes, hold the same
-  pub becomes-same :
+  pub becomes_same :
       WholeProfile p → (most : ℕ) (now : Option Address) (before after : List Instance) (g : GridTable) →
       grid_table_good most p g ≡ true → GoodList p most after →
       Becomes now before (holds g.grid) → Becomes now before after →
       holds g.grid ≡ after
-  becomes-same whole most now before after g good so one two =
-      let held = held-good most p whole g good in
+  becomes_same whole most now before after g good so one two =
+      let held = held_good most p whole g good in
       found_same 0 (holds g.grid) after held.ascends so.ascends
       (good_small p whole most (holds g.grid) held) (good_small p whole most after so)
       (λ q n s. one q n s ∙ sym (two q n s))
@@ -69,23 +69,23 @@ module _ (p : Profile) (chosen : Selection) where
 
 module _ (w : Places) (row : Row) (j : ℕ) where
   -- the cells that are selected get the address ..
-  pub found-put :
+  pub found_put :
       (address : Address) → j < length row.cells →
       cell_address (put_in w address row) j ≡ pick (grid_selected w j) (some address) (cell_address row j)
-  found-put address lt =
+  found_put address lt =
       by_bool _ (grid_selected w j)
-      (λ (e : grid_selected w j ≡ true). rw (active-put w address row j lt, cell-put w address row j lt, e))
-      (λ (e : grid_selected w j ≡ false). rw (active-put w address row j lt, cell-put w address row j lt, e))
+      (λ (e : grid_selected w j ≡ true). rw (active_put w address row j lt, cell_put w address row j lt, e))
+      (λ (e : grid_selected w j ≡ false). rw (active_put w address row j lt, cell_put w address row j lt, e))
 
   -- .. or lose it
-  pub address-clear : cell_address (clear_in w row) j ≡ pick (grid_selected w j) none (cell_address row j)
-  address-clear =
+  pub address_clear : cell_address (clear_in w row) j ≡ pick (grid_selected w j) none (cell_address row j)
+  address_clear =
       by_bool _ (grid_selected w j)
-      (λ (e : grid_selected w j ≡ true). rw (active-clear w row j, e))
+      (λ (e : grid_selected w j ≡ true). rw (active_clear w row j, e))
       (λ (e : grid_selected w j ≡ false).
       let kept : cell_at (clear_in w row) j ≡ cell_at row j =
-      ⊎_elim (λ is. is ∙ rw e) (λ is. is.0 ∙ sym is.1) (cell-clear w row j) in
-      rw (active-clear w row j, kept, e))
+      ⊎_elim (λ is. is ∙ rw e) (λ is. is.0 ∙ sym is.1) (cell_clear w row j) in
+      rw (active_clear w row j, kept, e))
 
 -- ---- grids
 
@@ -99,8 +99,8 @@ module _ (p : Profile) (whole : WholeProfile p) (r : Request) (g : GridTable) (s
     abbrev after : Grid
     after = (grid_with_row r.procedure next g).grid
 
-    its-row : (q : ℕ) → row_at after q ≡ pick (eqb q r.procedure) next (row_at g.grid q)
-    its-row q = row_set g.grid.rows r.procedure q next _ (omega (arith, shaped.rows, known))
+    its_row : (q : ℕ) → row_at after q ≡ pick (eqb q r.procedure) next (row_at g.grid q)
+    its_row q = row_set g.grid.rows r.procedure q next _ (omega (arith, shaped.rows, known))
 
     -- a place of the procedure, and one of another
     own_place :
@@ -108,16 +108,16 @@ module _ (p : Profile) (whole : WholeProfile p) (r : Request) (g : GridTable) (s
         cell_address (row_at after q) (place_at p n s) ≡ pick (names (selection_of p r) q n s) now
         (cell_address (row_at g.grid q) (place_at p n s))
     own_place q n s same here =
-        let place = has-place p whole n s here in
-        let there : row_at after q ≡ next = its-row q ∙ rw (eq-eqb q r.procedure same) in
-        rw (there, changes (place_at p n s) place.inside, marked-place p whole r n s here, concerned p whole r q same, same)
+        let place = has_place_lem p whole n s here in
+        let there : row_at after q ≡ next = its_row q ∙ rw (eq-eqb q r.procedure same) in
+        rw (there, changes (place_at p n s) place.inside, marked_place p whole r n s here, concerned p whole r q same, same)
 
     other_place :
         (q n s : ℕ) → (q ≡ r.procedure → ⊥) →
         cell_address (row_at after q) (place_at p n s) ≡ pick (names (selection_of p r) q n s) now
         (cell_address (row_at g.grid q) (place_at p n s))
     other_place q n s other =
-        let there : row_at after q ≡ row_at g.grid q = its-row q ∙ rw (ne_eqb q r.procedure other) in
+        let there : row_at after q ≡ row_at g.grid q = its_row q ∙ rw (ne_eqb q r.procedure other) in
         rw (there, unconcerned p whole r q other)
 
     found_after :
@@ -137,11 +137,11 @@ module _ (p : Profile) (whole : WholeProfile p) (r : Request) (g : GridTable) (s
         let past = ltb-false q grid_procedures e in
         rw (e, unconcerned p whole r q (λ same. omega (arith, past, known, same))))
 
-    pub grid-becomes :
+    pub grid_becomes :
         (most limit : ℕ) → grid_table_good most p g ≡ true → grid_table_good limit p (grid_with_row r.procedure next g) ≡ true →
         Becomes p (selection_of p r) now (holds g.grid) (holds after)
-    grid-becomes most limit good kept q n s =
-        found-holds q n s limit p whole after (good-grid limit p (grid_with_row r.procedure next g) kept)
+    grid_becomes most limit good kept q n s =
+        found_holds q n s limit p whole after (good_grid limit p (grid_with_row r.procedure next g) kept)
         ∙ found_after q n s
         ∙ ap (λ (o : Option Address). pick (names (selection_of p r) q n s) (pick (has_place p n s) now none) o)
-        (sym (found-holds q n s most p whole g.grid (good-grid most p g good)))
+        (sym (found_holds q n s most p whole g.grid (good_grid most p g good)))

@@ -26,13 +26,13 @@ use Rattle.grid.specs.Row.{Row, active, active_of, entry_of_place, grid_entries,
 use Rattle.grid.specs.Selection.{cell_places}
 use Rattle.grid.specs.Table.{GridTable, grid_table_good}
 use Rattle.grid.proofs.Cells.{both_at, entries_at}
-use Rattle.grid.proofs.Gathers.{gathered_count, gathered_nothing, gathered_one, map_gathered, those-gathered, those-one}
-use Rattle.grid.proofs.Listings.{entries-places}
+use Rattle.grid.proofs.Gathers.{gathered_count, gathered_nothing, gathered_one, map_gathered, those_gathered, those_one}
+use Rattle.grid.proofs.Listings.{entries_places}
 use Rattle.grid.proofs.ProfilePlaces.{WholeProfile}
 use Rattle.grid.proofs.RowInstances.{row_of, rows_all}
-use Rattle.grid.proofs.Rows.{active-count, active_rules, pick_same}
-use Rattle.grid.proofs.SameSelections.{concerned, marks-same, unconcerned}
-use Rattle.grid.proofs.Tables.{table-row}
+use Rattle.grid.proofs.Rows.{active_count, active_rules, pick_same}
+use Rattle.grid.proofs.SameSelections.{concerned, marks_same, unconcerned}
+use Rattle.grid.proofs.Tables.{table_row}
 
 -- ---- those that a request selects
 
@@ -47,81 +47,81 @@ module _ (most : ℕ) (p : Profile) (whole : WholeProfile p) (g : GridTable) (go
   abbrev mine : Instance → Bool
   mine = chosen (selection_of p r)
 
-  place-chosen : (j : ℕ) → j < places → active row j ≡ true → mine (one r.procedure j) ≡ grid_selected (cell_places p r) j
-  place-chosen j lt there =
-      let ruled = active_rules most p r.procedure row (table-row most p g good r.procedure known) j lt there in
+  place_chosen : (j : ℕ) → j < places → active row j ≡ true → mine (one r.procedure j) ≡ grid_selected (cell_places p r) j
+  place_chosen j lt there =
+      let ruled = active_rules most p r.procedure row (table_row most p g good r.procedure known) j lt there in
       chosen_of (selection_of p r) (one r.procedure j)
       ∙ rw (concerned p whole r r.procedure refl)
       (ap (selected (selection_of p r) (number_of_place j)) ruled.service
-      ∙ sym (marks-same p whole r j lt ruled.number ruled.slot))
+      ∙ sym (marks_same p whole r j lt ruled.number ruled.slot))
 
-  place-listed :
+  place_listed :
       (j : ℕ) → j < places →
       those mine (place_instances r.procedure row j) ≡ pick (grid_selected (cell_places p r) j) (place_instances r.procedure row j) []
-  place-listed j lt =
+  place_listed j lt =
       by_bool _ (active row j)
       (λ (e : active row j ≡ true).
       rw e
-      (those-one mine (one r.procedure j)
-      ∙ ap (λ b. pick b (one r.procedure j ∷ []) []) (place-chosen j lt e)))
+      (those_one mine (one r.procedure j)
+      ∙ ap (λ b. pick b (one r.procedure j ∷ []) []) (place_chosen j lt e)))
       (λ (e : active row j ≡ false).
       rw e
       (those_none mine [] refl
       ∙ pick_same (grid_selected (cell_places p r) j) []))
 
   -- none of another procedure
-  other-chosen : (k j : ℕ) → (k ≡ r.procedure → ⊥) → mine (one k j) ≡ false
-  other-chosen k j other = chosen_of (selection_of p r) (one k j) ∙ rw (unconcerned p whole r k other)
+  other_chosen : (k j : ℕ) → (k ≡ r.procedure → ⊥) → mine (one k j) ≡ false
+  other_chosen k j other = chosen_of (selection_of p r) (one k j) ∙ rw (unconcerned p whole r k other)
 
-  other-listed : (k : ℕ) → (k ≡ r.procedure → ⊥) → those mine (row_of g.grid k) ≡ []
-  other-listed k other =
-      those-gathered mine (place_instances k (row_at g.grid k)) places
+  other_listed : (k : ℕ) → (k ≡ r.procedure → ⊥) → those mine (row_of g.grid k) ≡ []
+  other_listed k other =
+      those_gathered mine (place_instances k (row_at g.grid k)) places
       ∙ gathered_nothing (λ j. those mine (place_instances k (row_at g.grid k) j)) places (λ j _.
       pick_ind (λ l. those mine l ≡ []) (active (row_at g.grid k) j)
-      (λ _. those-one mine (one k j) ∙ ap (λ b. pick b (one k j ∷ []) []) (other-chosen k j other))
+      (λ _. those_one mine (one k j) ∙ ap (λ b. pick b (one k j ∷ []) []) (other_chosen k j other))
       (λ _. those_none mine [] refl))
 
-  listed-holds :
+  listed_holds :
       listed (selection_of p r) (holds g.grid)
       ≡ gathered (λ j. pick (grid_selected (cell_places p r) j) (place_instances r.procedure row j) []) places
-  listed-holds =
+  listed_holds =
       ap (those mine) (rows_all g.grid)
-      ∙ those-gathered mine (row_of g.grid) grid_procedures
-      ∙ gathered_one (λ k. those mine (row_of g.grid k)) grid_procedures r.procedure known (λ k _. other-listed k)
-      ∙ those-gathered mine (place_instances r.procedure row) places
+      ∙ those_gathered mine (row_of g.grid) grid_procedures
+      ∙ gathered_one (λ k. those mine (row_of g.grid k)) grid_procedures r.procedure known (λ k _. other_listed k)
+      ∙ those_gathered mine (place_instances r.procedure row) places
       ∙ gathered_same (λ j. those mine (place_instances r.procedure row j))
-      (λ j. pick (grid_selected (cell_places p r) j) (place_instances r.procedure row j) []) places place-listed
+      (λ j. pick (grid_selected (cell_places p r) j) (place_instances r.procedure row j) []) places place_listed
 
   -- ---- and their entries
 
-  entry-same : (j : ℕ) → j < places → entry_for p.numbers (one r.procedure j) ≡ entry_of_place p r.procedure row j
+  entry_same : (j : ℕ) → j < places → entry_for p.numbers (one r.procedure j) ≡ entry_of_place p r.procedure row j
   unfolding entry_of_place
-  entry-same j lt = rw (served_own p.numbers (number_of_place j) (omega (arith, lt)))
+  entry_same j lt = rw (served_own p.numbers (number_of_place j) (omega (arith, lt)))
 
-  place-entries :
+  place_entries :
       (j : ℕ) → j < places → (a b : Bool) →
       map (entry_for p.numbers) (pick a (pick b (one r.procedure j ∷ []) []) [])
       ≡ pick a (pick b (entry_of_place p r.procedure row j ∷ []) []) []
-  place-entries j lt true true = ap (λ (e : Entry). e ∷ []) (entry-same j lt)
-  place-entries j lt true false = refl
-  place-entries j lt false b = refl
+  place_entries j lt true true = ap (λ (e : Entry). e ∷ []) (entry_same j lt)
+  place_entries j lt true false = refl
+  place_entries j lt false b = refl
 
   -- "every active selected instance, by profile number, then service code"
-  pub entries-same : map (entry_for p.numbers) (listed (selection_of p r) (holds g.grid)) ≡ grid_entries p r.procedure (cell_places p r) row
+  pub entries_same : map (entry_for p.numbers) (listed (selection_of p r) (holds g.grid)) ≡ grid_entries p r.procedure (cell_places p r) row
   unfolding grid_entries
-  entries-same =
+  entries_same =
       let picked : ℕ → List Instance = λ j. pick (grid_selected (cell_places p r) j) (place_instances r.procedure row j) [] in
-      ap (map (entry_for p.numbers)) listed-holds
+      ap (map (entry_for p.numbers)) listed_holds
       ∙ map_gathered (entry_for p.numbers) picked places
       ∙ gathered_same (λ j. map (entry_for p.numbers) (picked j)) (entries_at p r.procedure (cell_places p r) row) places
-      (λ j lt. place-entries j lt (grid_selected (cell_places p r) j) (active row j))
+      (λ j lt. place_entries j lt (grid_selected (cell_places p r) j) (active row j))
 
   -- as many as are active
-  pub listed-count : length (listed (selection_of p r) (holds g.grid)) ≡ active_of (cell_places p r) row
-  listed-count =
+  pub listed_count : length (listed (selection_of p r) (holds g.grid)) ≡ active_of (cell_places p r) row
+  listed_count =
       let both : ℕ → Bool = both_at (cell_places p r) row in
       sym (length-map (listed (selection_of p r) (holds g.grid)) (entry_for p.numbers))
-      ∙ ap length (entries-same ∙ entries-places (cell_places p r) row p r.procedure)
+      ∙ ap length (entries_same ∙ entries_places (cell_places p r) row p r.procedure)
       ∙ length-map (places_where both places) (entry_of_place p r.procedure row)
       ∙ gathered_count both (λ j. j) places
-      ∙ sym (active-count (cell_places p r) row)
+      ∙ sym (active_count (cell_places p r) row)

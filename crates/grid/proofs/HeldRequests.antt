@@ -16,35 +16,35 @@ use Rattle.lists.specs.Entries.{instances_most}
 use Rattle.instances.specs.Run.{activated, count_of, deactivated}
 use Rattle.instances.specs.declared.instance.Instance.{Instance}
 use Rattle.instances.proofs.Counts.{count_activated}
-use Rattle.instances.proofs.Goods.{activated-good, cleared_good}
+use Rattle.instances.proofs.Goods.{activated_good, cleared_good}
 use Rattle.rules.specs.Selection.{selection_of}
 use Rattle.rules.specs.Judge.{afterwards}
-use Rattle.rules.proofs.Judges.{count-afterwards}
-use Rattle.rules.proofs.Selections.{selection-procedure}
+use Rattle.rules.proofs.Judges.{count_afterwards}
+use Rattle.rules.proofs.Selections.{selection_procedure}
 use Rattle.grid.specs.Grid.{GridShaped, grid_procedures, row_at}
 use Rattle.grid.specs.Holds.{holds}
 use Rattle.grid.specs.Row.{Row, active, clear_in, count_with, places, put_in}
 use Rattle.grid.specs.Selection.{cell_places}
 use Rattle.grid.specs.Table.{GridTable, grid_table_good, grid_with_row}
-use Rattle.grid.proofs.Grids.{grid-rows}
-use Rattle.grid.proofs.HandledRequests.{place-good}
-use Rattle.grid.proofs.HeldChanges.{activated-becomes, address-clear, found-put, becomes-same, deactivated-becomes, grid-becomes}
-use Rattle.grid.proofs.HeldGoods.{held-good}
-use Rattle.grid.proofs.InstanceCounts.{procedure-count}
+use Rattle.grid.proofs.Grids.{grid_rows}
+use Rattle.grid.proofs.HandledRequests.{place_good}
+use Rattle.grid.proofs.HeldChanges.{activated_becomes, address_clear, found_put, becomes_same, deactivated_becomes, grid_becomes}
+use Rattle.grid.proofs.HeldGoods.{held_good}
+use Rattle.grid.proofs.InstanceCounts.{procedure_count}
 use Rattle.grid.proofs.ProfilePlaces.{WholeProfile, rules}
-use Rattle.grid.proofs.Rows.{count-put, good-cells, good-clear, good-few, good-put, good-row}
+use Rattle.grid.proofs.Rows.{count_put, good_cells, good_clear, good_few, good_put, good_row}
 use Rattle.grid.proofs.Shapes.{row_set}
-use Rattle.grid.proofs.Tables.{good-last, good-table, row-replaced, table-row}
+use Rattle.grid.proofs.Tables.{good_last, good_table, row_replaced, table_row}
 
 -- a table that breaks no rule breaks none over a higher limit
 good_higher :
     (most limit : ℕ) (p : Profile) (g : GridTable) → most ≤ limit → grid_table_good most p g ≡ true → grid_table_good limit p g ≡ true
 good_higher most limit p g le good =
-    good-table limit p g (good-last most p g good)
-    (grid-rows limit p g.grid (λ k h.
+    good_table limit p g (good_last most p g good)
+    (grid_rows limit p g.grid (λ k h.
     let row = row_at g.grid k in
-    let right = table-row most p g good k h in
-    good-row limit p k row (good-cells most p k row right) (omega (arith, le, good-few most p k row right))))
+    let right = table_row most p g good k h in
+    good_row limit p k row (good_cells most p k row right) (omega (arith, le, good_few most p k row right))))
 
 module _ (p : Profile) (whole : WholeProfile p) (r : Request) (g : GridTable) (shaped : GridShaped g.grid)
     (known : r.procedure < grid_procedures) where
@@ -71,61 +71,61 @@ module _ (p : Profile) (whole : WholeProfile p) (r : Request) (g : GridTable) (s
     made = activated p (selection_of p r) r.to.address held
 
     counted : count_of (selection_of p r).procedure made ≡ afterwards p r held
-    counted = count-afterwards p r held (selection_of p r) refl _ (count_activated p (selection_of p r) r.to.address held)
+    counted = count_afterwards p r held (selection_of p r) refl _ (count_activated p (selection_of p r) r.to.address held)
 
     -- the instances afterwards, where neither is above the limit
-    put-held :
+    put_held :
         (limit : ℕ) → grid_table_good limit p g ≡ true → count_with (cell_places p r) row ≤ limit →
         count_of (selection_of p r).procedure made ≤ limit →
         holds (with put).grid ≡ made
-    put-held limit good few within =
+    put_held limit good few within =
         let q = r.procedure in
-        let own = selection-procedure p r in
+        let own = selection_procedure p r in
         let kept =
-        row-replaced limit p g q put inside good
-        (good-put limit p q (cell_places p r) r.to.address row (table-row limit p g good q known) (shaped.cells q known)
-        (place-good p r whole.good whole.services flag address) few) in
-        becomes-same p (selection_of p r) whole limit (some r.to.address) held made (with put) kept
-        (activated-good p (rules p whole) (selection_of p r) r.to.address (omega (arith, own, known))
-        (ap (λ (k : ℕ). get_or p.subscribed k 0) own ∙ flag) address limit held (held-good limit p whole g good) within)
-        (grid-becomes p whole r g shaped known (some r.to.address) put
-        (λ j lt. found-put (cell_places p r) row j r.to.address (omega (arith, lt, shaped.cells q known)))
+        row_replaced limit p g q put inside good
+        (good_put limit p q (cell_places p r) r.to.address row (table_row limit p g good q known) (shaped.cells q known)
+        (place_good p r whole.good whole.services flag address) few) in
+        becomes_same p (selection_of p r) whole limit (some r.to.address) held made (with put) kept
+        (activated_good p (rules p whole) (selection_of p r) r.to.address (omega (arith, own, known))
+        (ap (λ (k : ℕ). get_or p.subscribed k 0) own ∙ flag) address limit held (held_good limit p whole g good) within)
+        (grid_becomes p whole r g shaped known (some r.to.address) put
+        (λ j lt. found_put (cell_places p r) row j r.to.address (omega (arith, lt, shaped.cells q known)))
         limit limit good kept)
-        (activated-becomes p (selection_of p r) r.to.address held)
+        (activated_becomes p (selection_of p r) r.to.address held)
 
     -- "instances of the procedure afterwards"
-    pub count-alike : grid_table_good instances_most p g ≡ true → count_with (cell_places p r) row ≡ afterwards p r held
-    count-alike good =
+    pub count_alike : grid_table_good instances_most p g ≡ true → count_with (cell_places p r) row ≡ afterwards p r held
+    count_alike good =
         let q = r.procedure in
         let mine : ℕ = count_with (cell_places p r) row in
         let its : ℕ = count_of (selection_of p r).procedure made in
         let limit : ℕ = instances_most + mine + its in
-        let same = put-held limit (good_higher instances_most limit p g (omega arith) good) (omega arith) (omega arith) in
+        let same = put_held limit (good_higher instances_most limit p g (omega arith) good) (omega arith) (omega arith) in
         let next : row_at (with put).grid q ≡ put = row_set g.grid.rows q q put _ inside ∙ rw (eq-eqb q q refl) in
-        sym (count-put (cell_places p r) r.to.address row (shaped.cells q known))
+        sym (count_put (cell_places p r) r.to.address row (shaped.cells q known))
         ∙ ap (λ (x : Row). count_to (active x) places) (sym next)
-        ∙ sym (procedure-count (with put).grid q known)
+        ∙ sym (procedure_count (with put).grid q known)
         ∙ ap (count_of q) same
-        ∙ ap (λ (k : ℕ). count_of k made) (sym (selection-procedure p r))
+        ∙ ap (λ (k : ℕ). count_of k made) (sym (selection_procedure p r))
         ∙ counted
 
     -- an activation that has room
-    pub activation-held :
+    pub activation_held :
         grid_table_good instances_most p g ≡ true → count_with (cell_places p r) row ≤ instances_most → holds (with put).grid ≡ made
-    activation-held good few =
-        put-held instances_most good few (omega (arith, few, counted, count-alike good))
+    activation_held good few =
+        put_held instances_most good few (omega (arith, few, counted, count_alike good))
 
   -- ---- a deactivation
 
-  pub clear-held :
+  pub clear_held :
       (limit : ℕ) → grid_table_good limit p g ≡ true →
       holds (with (clear_in (cell_places p r) row)).grid ≡ deactivated (selection_of p r) held
-  clear-held limit good =
+  clear_held limit good =
       let q = r.procedure in
       let clear = clear_in (cell_places p r) row in
-      let kept = row-replaced limit p g q clear inside good
-      (good-clear limit p q (cell_places p r) row (table-row limit p g good q known)) in
-      becomes-same p (selection_of p r) whole limit none held (deactivated (selection_of p r) held) (with clear) kept
-      (cleared_good p (selection_of p r) limit held (held-good limit p whole g good))
-      (grid-becomes p whole r g shaped known none clear (λ j lt. address-clear (cell_places p r) row j) limit limit good kept)
-      (deactivated-becomes p (selection_of p r) held)
+      let kept = row_replaced limit p g q clear inside good
+      (good_clear limit p q (cell_places p r) row (table_row limit p g good q known)) in
+      becomes_same p (selection_of p r) whole limit none held (deactivated (selection_of p r) held) (with clear) kept
+      (cleared_good p (selection_of p r) limit held (held_good limit p whole g good))
+      (grid_becomes p whole r g shaped known none clear (λ j lt. address_clear (cell_places p r) row j) limit limit good kept)
+      (deactivated_becomes p (selection_of p r) held)

@@ -11,7 +11,7 @@ use lib.Seq.{get_or-take}
 use Rattle.laws.specs.Places.{gathered}
 use Rattle.laws.proofs.Eaches.{Each, Up, each_append}
 use Rattle.laws.proofs.Picks.{pick_ind}
-use Rattle.laws.proofs.Walks.{gathered-ind, gathered-more, gathered_none}
+use Rattle.laws.proofs.Walks.{gathered_ind, gathered_more, gathered_none}
 use Rattle.profile.specs.Profile.{profile_good, services_most, subscribed_services}
 use Rattle.profile.specs.declared.profile.Profile.{Profile}
 use Rattle.profile.proofs.Profiles.{good_profile}
@@ -23,10 +23,10 @@ use Rattle.grid.specs.Grid.{grid_procedures, row_at}
 use Rattle.grid.specs.Row.{Row, active, cell_at, number_of_place, places, service_of_place}
 use Rattle.grid.specs.Holds.{holds, place_instances, row_instances}
 use Rattle.grid.specs.Table.{GridTable, grid_table_good}
-use Rattle.grid.proofs.Cells.{active-some}
+use Rattle.grid.proofs.Cells.{active_some}
 use Rattle.grid.proofs.RowInstances.{row_of, rows_all, service_small}
 use Rattle.grid.proofs.Rows.{active_rules}
-use Rattle.grid.proofs.Tables.{table-row}
+use Rattle.grid.proofs.Tables.{table_row}
 
 -- ---- lists that ascend
 
@@ -79,41 +79,41 @@ ascending_gathered :
 unfolding Ascending AllAhead
 ascending_gathered f zero each across = rw (gathered_none f) tt
 ascending_gathered f (suc n) each across =
-    rw (gathered-more f n)
+    rw (gathered_more f n)
     (ascending_both (gathered f n) (f n)
     (ascending_gathered f n (λ j lt. each j (omega arith)) (λ i j less lt. across i j less (omega arith)))
     (each n (omega arith))
-    (gathered-ind (λ is. AllAhead is (f n)) tt (λ is js. all_ahead_both is js (f n)) f n (λ i lt. across i n lt (omega arith))))
+    (gathered_ind (λ is. AllAhead is (f n)) tt (λ is js. all_ahead_both is js (f n)) f n (λ i lt. across i n lt (omega arith))))
 
 -- ---- instances that stand before others
 
 -- those of a procedure stand before those of a later one
 module _ (k m : ℕ) (row later : Row) (less : k < m)
     (small : (j : ℕ) → j < places → active row j ≡ true → (cell_at row j).service < 256) where
-  place-ahead : (j : ℕ) → j < places → AllAhead (place_instances k row j) (row_instances m later)
+  place_ahead : (j : ℕ) → j < places → AllAhead (place_instances k row j) (row_instances m later)
   unfolding AllAhead Ahead
-  place-ahead j h =
+  place_ahead j h =
       pick_ind (λ is. AllAhead is (row_instances m later)) (active row j)
       (λ there. (
-        gathered-ind (Ahead _) tt (ahead_both _) (place_instances m later) places (λ l lt.
+        gathered_ind (Ahead _) tt (ahead_both _) (place_instances m later) places (λ l lt.
             pick_ind (Ahead _) (active later l) (λ _. (key_procedure _ _ _ _ _ _ (omega arith) (small j h there) less, tt)) (λ _. tt)),
         tt,
       ))
       (λ _. tt)
 
-  row-ahead : AllAhead (row_instances k row) (row_instances m later)
+  row_ahead : AllAhead (row_instances k row) (row_instances m later)
   unfolding AllAhead
-  row-ahead =
-      gathered-ind (λ is. AllAhead is (row_instances m later)) tt (λ is js. all_ahead_both is js (row_instances m later))
-      (place_instances k row) places place-ahead
+  row_ahead =
+      gathered_ind (λ is. AllAhead is (row_instances m later)) tt (λ is js. all_ahead_both is js (row_instances m later))
+      (place_instances k row) places place_ahead
 
 -- ---- a table that breaks no rule, over any limit
 
 module _ (most : ℕ) (p : Profile) (t : GridTable) (good : grid_table_good most p t ≡ true) (profile : profile_good p ≡ true)
     (long : length p.services ≡ services_most) where
   -- a later service of the profile has a higher code
-  later-service : (a b : ℕ) → a < b → b < p.servicecount → get_or p.services a 0 < get_or p.services b 0
-  later-service a b less lt =
+  later_service : (a b : ℕ) → a < b → b < p.servicecount → get_or p.services a 0 < get_or p.services b 0
+  later_service a b less lt =
       let so = good_profile p profile in
       let inside : b < length (subscribed_services p) = omega (arith, so.services_few, length-take p.servicecount p.services) in
       omega (
@@ -127,15 +127,15 @@ module _ (most : ℕ) (p : Profile) (t : GridTable) (good : grid_table_good most
     abbrev row : Row
     row = row_at t.grid k
 
-    its-small : (j : ℕ) → j < places → active row j ≡ true → (cell_at row j).service < 256
-    its-small j lt there =
-        let rules = active_rules most p k row (table-row most p t good k h) j lt there in
+    its_small : (j : ℕ) → j < places → active row j ≡ true → (cell_at row j).service < 256
+    its_small j lt there =
+        let rules = active_rules most p k row (table_row most p t good k h) j lt there in
         omega (arith, service_small p profile long k j (cell_at row j) rules)
 
-    places-ahead : (i j : ℕ) → i < j → j < places → AllAhead (place_instances k row i) (place_instances k row j)
+    places_ahead : (i j : ℕ) → i < j → j < places → AllAhead (place_instances k row i) (place_instances k row j)
     unfolding AllAhead Ahead
-    places-ahead i j less lt =
-        let rules = active_rules most p k row (table-row most p t good k h) in
+    places_ahead i j less lt =
+        let rules = active_rules most p k row (table_row most p t good k h) in
         pick_ind (λ is. AllAhead is (place_instances k row j)) (active row i)
         (λ here. (
           pick_ind (Ahead _) (active row j)
@@ -144,9 +144,9 @@ module _ (most : ℕ) (p : Profile) (t : GridTable) (good : grid_table_good most
                     (λ (same : number_of_place i ≡ number_of_place j).
                     let a = rules i (omega arith) here in
                     let b = rules j lt there in
-                    let codes = later-service (service_of_place i) (service_of_place j) (omega arith) b.slot in
+                    let codes = later_service (service_of_place i) (service_of_place j) (omega arith) b.slot in
                     rw same (key_more _ _ _ _ (omega (arith, codes, a.service, b.service))))
-                    (λ (lower : number_of_place i < number_of_place j). key_number _ _ _ _ _ (its-small i (omega arith) here) lower)
+                    (λ (lower : number_of_place i < number_of_place j). key_number _ _ _ _ _ (its_small i (omega arith) here) lower)
                     (eq-or-lt_of_le (omega arith)),
                 tt,
               ))
@@ -155,31 +155,31 @@ module _ (most : ℕ) (p : Profile) (t : GridTable) (good : grid_table_good most
         ))
         (λ _. tt)
 
-    place-ascending : (j : ℕ) → Ascending (place_instances k row j)
+    place_ascending : (j : ℕ) → Ascending (place_instances k row j)
     unfolding Ascending Ahead
-    place-ascending j = pick_ind Ascending (active row j) (λ _. (tt, tt)) (λ _. tt)
+    place_ascending j = pick_ind Ascending (active row j) (λ _. (tt, tt)) (λ _. tt)
 
-    row-ascending : Ascending (row_instances k row)
-    row-ascending = ascending_gathered (place_instances k row) places (λ j lt. place-ascending j) places-ahead
+    row_ascending : Ascending (row_instances k row)
+    row_ascending = ascending_gathered (place_instances k row) places (λ j lt. place_ascending j) places_ahead
 
-  pub instances-ascend : Ascending (holds t.grid)
-  instances-ascend =
+  pub instances_ascend : Ascending (holds t.grid)
+  instances_ascend =
       rw (rows_all t.grid)
-      (ascending_gathered (row_of t.grid) grid_procedures row-ascending
-      (λ k m less lt. row-ahead k m (row_at t.grid k) (row_at t.grid m) less (its-small k (omega arith))))
+      (ascending_gathered (row_of t.grid) grid_procedures row_ascending
+      (λ k m less lt. row_ahead k m (row_at t.grid k) (row_at t.grid m) less (its_small k (omega arith))))
 
   -- every key is above 0
-  keys-some : Each (λ i. 0 < key_of i) (holds t.grid)
-  keys-some =
+  keys_some : Each (λ i. 0 < key_of i) (holds t.grid)
+  keys_some =
       let Some : List Instance → Type 0 = Each (λ i. 0 < key_of i) in
       let both = each_append (λ i. 0 < key_of i) in
       rw (rows_all t.grid)
-      (gathered-ind Some tt both (row_of t.grid) grid_procedures (λ k _.
-      gathered-ind Some tt both (place_instances k (row_at t.grid k)) places (λ j _.
+      (gathered_ind Some tt both (row_of t.grid) grid_procedures (λ k _.
+      gathered_ind Some tt both (place_instances k (row_at t.grid k)) places (λ j _.
       pick_ind Some (active (row_at t.grid k) j)
-      (λ there. (key_some _ _ _ (active-some (row_at t.grid k) j there), tt))
+      (λ there. (key_some _ _ _ (active_some (row_at t.grid k) j there), tt))
       (λ _. tt))))
 
   -- so they ascend as a run of instances does
-  pub instances-up : Up key_of 0 (holds t.grid)
-  instances-up = ascending_up 0 (holds t.grid) keys-some instances-ascend
+  pub instances_up : Up key_of 0 (holds t.grid)
+  instances_up = ascending_up 0 (holds t.grid) keys_some instances_ascend

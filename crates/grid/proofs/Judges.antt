@@ -18,7 +18,7 @@ use Rattle.profile.specs.Profile.{barred, same, served_numbers}
 use Rattle.profile.specs.declared.profile.Profile.{Profile}
 use Rattle.rules.specs.Judge.{every_tests, first_error, fits, is_subscribed, not_in_use, not_provided, other_kind, served_invalid, user_specified}
 use Rattle.rules.specs.Prefix.{begins_any}
-use Rattle.rules.proofs.Judges.{fits-few}
+use Rattle.rules.proofs.Judges.{fits_few}
 use Rattle.grid.specs.Judge.{grid_activation_tests, grid_applied, grid_deactivation_tests, grid_judge, grid_no_room, grid_selected_same, grid_tests_of}
 use Rattle.grid.specs.Row.{Places, Row, active_of, clear_in, count_with, put_in}
 use Rattle.grid.specs.Selection.{grid_number_chosen}
@@ -92,13 +92,13 @@ not_not true h = refl
 not_not false h = absurd (false≢true (sym h))
 
 module _ (most : ℕ) (p : Profile) (w : Places) (row : Row) where
-  pub room-is : grid_no_room most p w row ≡ not (fits most p (count_with w row))
+  pub room_is : grid_no_room most p w row ≡ not (fits most p (count_with w row))
   unfolding grid_no_room
-  room-is = refl
+  room_is = refl
 
-  room-few : grid_no_room most p w row ≡ false → count_with w row ≤ most
+  room_few : grid_no_room most p w row ≡ false → count_with w row ≤ most
   unfolding grid_no_room
-  room-few h = fits-few most p (count_with w row) (not_not (fits most p (count_with w row)) h)
+  room_few h = fits_few most p (count_with w row) (not_not (fits most p (count_with w row)) h)
 
 -- ---- the verdict, and what it tells
 
@@ -108,40 +108,40 @@ pub record GridPasses (p : Profile) (r : Request) : Type 0 where
   pub served : served_invalid p r ≡ false
 
 module _ (most : ℕ) (p : Profile) (operation : ℕ) (r : Request) (w : Places) (row : Row) where
-  pub judge-is : grid_judge most p operation r w row ≡ first_error (every_tests p r ++ grid_tests_of most p operation r w row)
+  pub judge_is : grid_judge most p operation r w row ≡ first_error (every_tests p r ++ grid_tests_of most p operation r w row)
   unfolding grid_judge
-  judge-is = refl
+  judge_is = refl
 
-  both-tests : grid_judge most p operation r w row ≡ else_error (first_error (every_tests p r)) (first_error (grid_tests_of most p operation r w row))
+  both_tests : grid_judge most p operation r w row ≡ else_error (first_error (every_tests p r)) (first_error (grid_tests_of most p operation r w row))
   unfolding grid_judge
-  both-tests = first_append (every_tests p r) (grid_tests_of most p operation r w row)
+  both_tests = first_append (every_tests p r) (grid_tests_of most p operation r w row)
 
   -- an error of every request is the verdict
-  pub judge-fails : (e : ℕ) → first_error (every_tests p r) ≡ some e → grid_judge most p operation r w row ≡ some e
-  judge-fails e h = rw (both-tests, h)
+  pub judge_fails : (e : ℕ) → first_error (every_tests p r) ≡ some e → grid_judge most p operation r w row ≡ some e
+  judge_fails e h = rw (both_tests, h)
 
   -- where there is none, the tests of the operation decide
-  pub judge-rest :
+  pub judge_rest :
       first_error (every_tests p r) ≡ none → grid_judge most p operation r w row ≡ first_error (grid_tests_of most p operation r w row)
-  judge-rest h = rw (both-tests, h)
+  judge_rest h = rw (both_tests, h)
 
   -- an operation with no tests of its own
-  pub judge-interrogation :
+  pub judge_interrogation :
       (operation ≡ activation → ⊥) → (operation ≡ deactivation → ⊥) →
       grid_judge most p operation r w row ≡ first_error (every_tests p r)
   unfolding grid_judge
-  judge-interrogation activates deactivates = rw (ne_eqb _ _ activates, ne_eqb _ _ deactivates)
+  judge_interrogation activates deactivates = rw (ne_eqb _ _ activates, ne_eqb _ _ deactivates)
 
-  pub judge-subscribed : grid_judge most p operation r w row ≡ none → GridPasses p r
+  pub judge_subscribed : grid_judge most p operation r w row ≡ none → GridPasses p r
   unfolding grid_judge
-  judge-subscribed h =
+  judge_subscribed h =
       let t = none_holds (every_tests p r ++ grid_tests_of most p operation r w row) h in
       record { used = t.0; subscribed = not_not (is_subscribed p r.procedure) t.1.0; served = t.1.1.0 }
 
   -- each error fits an octet
-  pub judge-errors : (e : ℕ) → grid_judge most p operation r w row ≡ some e → e < 256
+  pub judge_errors : (e : ℕ) → grid_judge most p operation r w row ≡ some e → e < 256
   unfolding grid_judge
-  judge-errors e h =
+  judge_errors e h =
       subst OctetIf h
       (first_small (every_tests p r ++ grid_tests_of most p operation r w row)
       (pick_ind (λ ts. octet_errors ts ≡ true) (eqb operation activation)
@@ -157,9 +157,9 @@ module _ (most : ℕ) (p : Profile) (r : Request) (w : Places) (row : Row) where
     pub own : grid_selected_same p r 0 (served_numbers p) ≡ false
     pub room : count_with w row ≤ most
 
-  pub judge-activation : grid_judge most p activation r w row ≡ none → GridActivates
+  pub judge_activation : grid_judge most p activation r w row ≡ none → GridActivates
   unfolding grid_judge
-  judge-activation h =
+  judge_activation h =
       let t = (none_holds (every_tests p r ++ grid_activation_tests most p r w row) h).1.1.1 in
       record {
         provided = t.0;
@@ -167,51 +167,51 @@ module _ (most : ℕ) (p : Profile) (r : Request) (w : Places) (row : Row) where
         kind = t.1.1.0;
         prefix = t.1.1.1.0;
         own = t.1.1.1.1.0;
-        room = room-few most p w row t.1.1.1.1.1.0;
+        room = room_few most p w row t.1.1.1.1.1.0;
       }
 
-  pub judge-deactivation : grid_judge most p deactivation r w row ≡ none → 0 < active_of w row
+  pub judge_deactivation : grid_judge most p deactivation r w row ≡ none → 0 < active_of w row
   unfolding grid_judge
-  judge-deactivation h =
+  judge_deactivation h =
       let t = (none_holds (every_tests p r ++ grid_deactivation_tests w row) h).1.1.1 in
       let some : active_of w row ≡ 0 → ⊥ = eqb-false (active_of w row) 0 t.0 in
       omega arith
 
   -- "error 46 exactly if there's none"
-  pub none-fails : first_error (every_tests p r) ≡ none → active_of w row ≡ 0 → grid_judge most p deactivation r w row ≡ some 46
-  none-fails every nothing = rw (judge-rest most p deactivation r w row every, eq-eqb _ _ nothing)
+  pub none_fails : first_error (every_tests p r) ≡ none → active_of w row ≡ 0 → grid_judge most p deactivation r w row ≡ some 46
+  none_fails every nothing = rw (judge_rest most p deactivation r w row every, eq-eqb _ _ nothing)
 
-  pub fails-none : first_error (every_tests p r) ≡ none → grid_judge most p deactivation r w row ≡ some 46 → active_of w row ≡ 0
-  fails-none every h =
+  pub fails_none : first_error (every_tests p r) ≡ none → grid_judge most p deactivation r w row ≡ some 46 → active_of w row ≡ 0
+  fails_none every h =
       let b : Bool = eqb (active_of w row) 0 in
-      let e : pick {A = Option ℕ} b (some 46) none ≡ some 46 = sym (judge-rest most p deactivation r w row every) ∙ h in
+      let e : pick {A = Option ℕ} b (some 46) none ≡ some 46 = sym (judge_rest most p deactivation r w row every) ∙ h in
       eqb-true (active_of w row) 0 (pick_first {A = Option ℕ} b (some 46) none (λ q. apart 46 (sym q ∙ e)))
 
 -- ---- what the row becomes
 
 module _ (r : Request) (w : Places) (row : Row) where
-  pub applied-activation : grid_applied activation r w row ≡ put_in w r.to.address row
+  pub applied_activation : grid_applied activation r w row ≡ put_in w r.to.address row
   unfolding grid_applied
-  applied-activation = refl
+  applied_activation = refl
 
-  pub applied-deactivation : grid_applied deactivation r w row ≡ clear_in w row
+  pub applied_deactivation : grid_applied deactivation r w row ≡ clear_in w row
   unfolding grid_applied
-  applied-deactivation = refl
+  applied_deactivation = refl
 
-  pub applied-other :
+  pub applied_other :
       (operation : ℕ) → (operation ≡ activation → ⊥) → (operation ≡ deactivation → ⊥) →
       grid_applied operation r w row ≡ row
   unfolding grid_applied
-  applied-other operation activates deactivates = rw (ne_eqb _ _ activates, ne_eqb _ _ deactivates)
+  applied_other operation activates deactivates = rw (ne_eqb _ _ activates, ne_eqb _ _ deactivates)
 
   -- what holds of the row that is put, of the row that is cleared and of the row as it was holds of what the row becomes
-  pub applied-ind :
+  pub applied_ind :
       (P : Row → Type 0) (operation : ℕ) →
       (operation ≡ activation → P (put_in w r.to.address row)) →
       (operation ≡ deactivation → P (clear_in w row)) →
       P row →
       P (grid_applied operation r w row)
   unfolding grid_applied
-  applied-ind P operation puts clears stays =
+  applied_ind P operation puts clears stays =
       pick_ind P (eqb operation activation) (λ e. puts (eqb-true operation activation e)) (λ _.
       pick_ind P (eqb operation deactivation) (λ e. clears (eqb-true operation deactivation e)) (λ _. stays))

@@ -17,23 +17,23 @@ pick_both false b x = refl
 
 module _ (w : Places) (row : Row) where
   -- one entry for each place that is selected and active, in order
-  pub entries-places :
+  pub entries_places :
       (p : Profile) (procedure : ℕ) →
       grid_entries p procedure w row ≡ map (entry_of_place p procedure row) (places_where (both_at w row) places)
   unfolding grid_entries
-  entries-places p procedure =
+  entries_places p procedure =
       gathered_same (entries_at p procedure w row) (λ j. pick (both_at w row j) (entry_of_place p procedure row j ∷ []) []) places
       (λ j _. pick_both (grid_selected w j) (active row j) (entry_of_place p procedure row j ∷ []))
       ∙ gathered_places (both_at w row) (entry_of_place p procedure row) places
 
   -- none is counted exactly if no selected instance is active
-  pub none-active : active_of w row ≡ 0 → (j : ℕ) → j < places → grid_selected w j ≡ true → active row j ≡ false
+  pub none_active : active_of w row ≡ 0 → (j : ℕ) → j < places → grid_selected w j ≡ true → active row j ≡ false
   unfolding active_of
-  none-active none j h chosen = rw chosen at (nothing_counted (both_at w row) places none j h)
+  none_active none j h chosen = rw chosen at (nothing_counted (both_at w row) places none j h)
 
-  pub active-none :
+  pub active_none :
       ((j : ℕ) → j < places → grid_selected w j ≡ true → active row j ≡ false) → active_of w row ≡ 0
   unfolding active_of
-  active-none silent =
+  active_none silent =
       count_nothing (both_at w row) places (λ j h.
       pick_ind (λ t. t ≡ false) (grid_selected w j) (λ chosen. silent j h chosen) (λ _. refl))

@@ -46,9 +46,9 @@ module _ (p : Profile) (i : Instance) where
         slot = ltb-true (place_of i.service (subscribed_services p)) p.servicecount (sym (pick_last slot) ∙ b.1);
       }
 
-  pub fitting-in : Fitting p i → grid_in_profile p i ≡ true
+  pub fitting_in : Fitting p i → grid_in_profile p i ≡ true
   unfolding grid_in_profile
-  fitting-in fits =
+  fitting_in fits =
       rw (eq-eqb _ _ fits.subscribed, lt-ltb _ _ fits.number, pick_last _) (lt-ltb _ _ fits.slot)
 
 pub all_parts :
@@ -65,21 +65,21 @@ pub record Holdable (i : Instance) : Type 0 where
 
 -- a good profile has few numbers and services
 module _ (p : Profile) (profile : profile_good p ≡ true) (i : Instance) (fits : Fitting p i) where
-  pub few-services : place_of i.service (subscribed_services p) < services_most
-  few-services = omega (arith, fits.slot, (good_profile p profile).services_few)
+  pub few_services : place_of i.service (subscribed_services p) < services_most
+  few_services = omega (arith, fits.slot, (good_profile p profile).services_few)
 
-  pub few-numbers : i.number < 4
-  few-numbers = omega (arith, fits.number, (good_profile p profile).few)
+  pub few_numbers : i.number < 4
+  few_numbers = omega (arith, fits.number, (good_profile p profile).few)
 
   -- the number and the service of its place are its own
   pub place_inside : place_of_instance p i < places
-  place_inside = omega (arith, few-services, few-numbers)
+  place_inside = omega (arith, few_services, few_numbers)
 
-  pub place-number : number_of_place (place_of_instance p i) ≡ i.number
-  place-number = omega (arith, few-services)
+  pub place_number : number_of_place (place_of_instance p i) ≡ i.number
+  place_number = omega (arith, few_services)
 
-  pub place-slot : service_of_place (place_of_instance p i) ≡ place_of i.service (subscribed_services p)
-  place-slot = omega (arith, few-services)
+  pub place_slot : service_of_place (place_of_instance p i) ≡ place_of i.service (subscribed_services p)
+  place_slot = omega (arith, few_services)
 
 -- ---- grids
 
@@ -96,21 +96,21 @@ module _ (p : Profile) (grid : Grid) (shaped : GridShaped grid) (i : Instance) (
   abbrev row : Row
   row = row_at grid i.procedure
 
-  abbrev gridChanged : Row
-  gridChanged = record { cells = set row.cells (place_of_instance p i) (cell_of i.service i.address) }
+  abbrev grid_changed : Row
+  grid_changed = record { cells = set row.cells (place_of_instance p i) (cell_of i.service i.address) }
 
-  row_here : row_at (grid_placed p grid i) i.procedure ≡ gridChanged
+  row_here : row_at (grid_placed p grid i) i.procedure ≡ grid_changed
   unfolding grid_placed
-  row_here = get_or-set_same grid.rows i.procedure gridChanged (record { cells = [] }) (omega (arith, inside, shaped.rows))
+  row_here = get_or-set_same grid.rows i.procedure grid_changed (record { cells = [] }) (omega (arith, inside, shaped.rows))
 
-  row-else : (k : ℕ) → (k ≡ i.procedure → ⊥) → row_at (grid_placed p grid i) k ≡ row_at grid k
+  row_else : (k : ℕ) → (k ≡ i.procedure → ⊥) → row_at (grid_placed p grid i) k ≡ row_at grid k
   unfolding grid_placed
-  row-else k other = get_or-set_other grid.rows i.procedure k gridChanged (record { cells = [] }) other
+  row_else k other = get_or-set_other grid.rows i.procedure k grid_changed (record { cells = [] }) other
 
-  pub placed-shaped : GridShaped (grid_placed p grid i)
+  pub placed_shaped : GridShaped (grid_placed p grid i)
   unfolding grid_placed
-  placed-shaped = record {
-    rows = length-set grid.rows i.procedure gridChanged ∙ shaped.rows;
+  placed_shaped = record {
+    rows = length-set grid.rows i.procedure grid_changed ∙ shaped.rows;
     cells = λ k h. by_bool _ (eqb k i.procedure)
         (λ e.
         let here = eqb-true k i.procedure e in
@@ -118,19 +118,19 @@ module _ (p : Profile) (grid : Grid) (shaped : GridShaped grid) (i : Instance) (
         ∙ ap (λ (r : Row). length r.cells) row_here
         ∙ length-set row.cells (place_of_instance p i) (cell_of i.service i.address)
         ∙ shaped.cells i.procedure inside)
-        (λ e. ap (λ (r : Row). length r.cells) (row-else k (eqb-false k i.procedure e)) ∙ shaped.cells k h);
+        (λ e. ap (λ (r : Row). length r.cells) (row_else k (eqb-false k i.procedure e)) ∙ shaped.cells k h);
   }
 
   -- its cell, and the others
-  pub cell-here : cell_at (row_at (grid_placed p grid i) i.procedure) (place_of_instance p i) ≡ cell_of i.service i.address
-  cell-here =
+  pub cell_here : cell_at (row_at (grid_placed p grid i) i.procedure) (place_of_instance p i) ≡ cell_of i.service i.address
+  cell_here =
       ap (λ (r : Row). cell_at r (place_of_instance p i)) row_here
       ∙ get_or-set_same row.cells (place_of_instance p i) (cell_of i.service i.address) outside
       (omega (arith, room, shaped.cells i.procedure inside))
 
-  pub cell-else :
+  pub cell_else :
       (k j : ℕ) → (k ≡ i.procedure → j ≡ place_of_instance p i → ⊥) → cell_at (row_at (grid_placed p grid i) k) j ≡ cell_at (row_at grid k) j
-  cell-else k j other =
+  cell_else k j other =
       by_bool _ (eqb k i.procedure)
       (λ e.
       let here = eqb-true k i.procedure e in
@@ -138,4 +138,4 @@ module _ (p : Profile) (grid : Grid) (shaped : GridShaped grid) (i : Instance) (
       ∙ ap (λ (r : Row). cell_at r j) row_here
       ∙ get_or-set_other row.cells (place_of_instance p i) j (cell_of i.service i.address) outside (other here)
       ∙ ap (λ (n : ℕ). cell_at (row_at grid n) j) (sym here))
-      (λ e. ap (λ (r : Row). cell_at r j) (row-else k (eqb-false k i.procedure e)))
+      (λ e. ap (λ (r : Row). cell_at r j) (row_else k (eqb-false k i.procedure e)))

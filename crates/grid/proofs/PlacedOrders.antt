@@ -22,10 +22,10 @@ use Rattle.grid.specs.Grid.{Grid, GridShaped, grid_procedures, no_grid, row_at}
 use Rattle.grid.specs.Row.{active, number_of_place, places}
 use Rattle.grid.specs.Holds.{holds, place_instances}
 use Rattle.grid.specs.Sheets.{all_placed, grid_all_in, place_of_instance, grid_placed}
-use Rattle.grid.proofs.Cells.{active-same}
+use Rattle.grid.proofs.Cells.{active_same}
 use Rattle.grid.proofs.Gathers.{gathered_last, gathered_nothing}
-use Rattle.grid.proofs.PlacedCells.{Fitting, Holdable, all_parts, cell-else, cell-here, few-numbers}
-use Rattle.grid.proofs.PlacedCells.{few-services, fitting, none_there, place_inside, place-number, placed-shaped}
+use Rattle.grid.proofs.PlacedCells.{Fitting, Holdable, all_parts, cell_else, cell_here, few_numbers}
+use Rattle.grid.proofs.PlacedCells.{few_services, fitting, none_there, place_inside, place_number, placed_shaped}
 use Rattle.grid.proofs.RowInstances.{cell_instances, place_same, row_of, rows_all}
 use Rattle.grid.proofs.Shapes.{shaped_none}
 
@@ -75,30 +75,30 @@ module _ (p : Profile) (profile : profile_good p ≡ true) (grid : Grid) (shaped
   inside : k < grid_procedures
   inside = fits.procedure
 
-  its-room : m < places
-  its-room = place_inside p profile i fits
+  its_room : m < places
+  its_room = place_inside p profile i fits
 
   same_place :
       (l j : ℕ) → (l ≡ k → j ≡ m → ⊥) → place_instances l (row_at more l) j ≡ place_instances l (row_at grid l) j
   same_place l j other =
       place_same l (row_at more l) j
-      ∙ ap (cell_instances l (number_of_place j)) (cell-else p grid shaped i inside its-room l j other)
+      ∙ ap (cell_instances l (number_of_place j)) (cell_else p grid shaped i inside its_room l j other)
       ∙ sym (place_same l (row_at grid l) j)
 
   abbrev numbered : ℕ → Instance
   numbered n = record { procedure = i.procedure; number = n; service = i.service; address = i.address }
 
-  its-place : place_instances k (row_at more k) m ≡ i ∷ []
-  its-place =
+  its_place : place_instances k (row_at more k) m ≡ i ∷ []
+  its_place =
       place_same k (row_at more k) m
-      ∙ ap (cell_instances k (number_of_place m)) (cell-here p grid shaped i inside its-room)
-      ∙ rw (ne_eqb i.service 0 service) (ap (λ (n : ℕ). numbered n ∷ []) (place-number p profile i fits))
+      ∙ ap (cell_instances k (number_of_place m)) (cell_here p grid shaped i inside its_room)
+      ∙ rw (ne_eqb i.service 0 service) (ap (λ (n : ℕ). numbered n ∷ []) (place_number p profile i fits))
 
-  its-row : row_of more k ≡ row_of grid k ++ (i ∷ [])
-  its-row =
-      gathered_last (place_instances k (row_at grid k)) (place_instances k (row_at more k)) places m (i ∷ []) its-room
+  its_row : row_of more k ≡ row_of grid k ++ (i ∷ [])
+  its_row =
+      gathered_last (place_instances k (row_at grid k)) (place_instances k (row_at more k)) places m (i ∷ []) its_room
       (λ j _ other. same_place k j (λ _. other))
-      (rw (silent grid (rank p i) k m behind inside its-room (omega arith)) its-place)
+      (rw (silent grid (rank p i) k m behind inside its_room (omega arith)) its_place)
       (λ j up lt. silent grid (rank p i) k j behind inside lt (omega (arith, up)))
 
   other_row : (l : ℕ) → (l ≡ k → ⊥) → row_of more l ≡ row_of grid l
@@ -110,10 +110,10 @@ module _ (p : Profile) (profile : profile_good p ≡ true) (grid : Grid) (shaped
   one_more : holds more ≡ holds grid ++ (i ∷ [])
   one_more =
       rows_all more
-      ∙ gathered_last (row_of grid) (row_of more) grid_procedures k (i ∷ []) inside (λ l _. other_row l) its-row
+      ∙ gathered_last (row_of grid) (row_of more) grid_procedures k (i ∷ []) inside (λ l _. other_row l) its_row
       (λ l up h.
       gathered_nothing (place_instances l (row_at grid l)) places (λ j lt.
-      silent grid (rank p i) l j behind h lt (omega (arith, up, its-room))))
+      silent grid (rank p i) l j behind h lt (omega (arith, up, its_room))))
       ∙ ap (λ (is : List Instance). is ++ (i ∷ [])) (sym (rows_all grid))
 
   behind_more : Behind more (suc (rank p i))
@@ -122,7 +122,7 @@ module _ (p : Profile) (profile : profile_good p ≡ true) (grid : Grid) (shaped
       (λ e. omega (arith, eqb-true (places * l + j) (rank p i) e))
       (λ e.
       let other : l ≡ k → j ≡ m → ⊥ = λ a b. eqb-false (places * l + j) (rank p i) e (rw (a, b)) in
-      let before = sym (active-same (row_at more l) j (row_at grid l) (cell-else p grid shaped i inside its-room l j other)) ∙ there in
+      let before = sym (active_same (row_at more l) j (row_at grid l) (cell_else p grid shaped i inside its_room l j other)) ∙ there in
       omega (arith, behind l j h lt before))
 
 -- ---- all of them
@@ -134,37 +134,37 @@ module _ (p : Profile) (profile : profile_good p ≡ true) where
   Lined n (i ∷ is) = Fitting p i × (i.service ≡ 0 → ⊥) × (n ≤ rank p i) × Lined (suc (rank p i)) is
 
   -- the grid of fitting instances is whole
-  lined-shaped : (grid : Grid) (n : ℕ) (is : List Instance) → GridShaped grid → Lined n is → GridShaped (all_placed p grid is)
+  lined_shaped : (grid : Grid) (n : ℕ) (is : List Instance) → GridShaped grid → Lined n is → GridShaped (all_placed p grid is)
   unfolding all_placed
-  lined-shaped grid n [] shaped lined = shaped
-  lined-shaped grid n (i ∷ is) shaped lined =
-      lined-shaped (grid_placed p grid i) (suc (rank p i)) is
-      (placed-shaped p grid shaped i lined.0.procedure (place_inside p profile i lined.0)) lined.3
+  lined_shaped grid n [] shaped lined = shaped
+  lined_shaped grid n (i ∷ is) shaped lined =
+      lined_shaped (grid_placed p grid i) (suc (rank p i)) is
+      (placed_shaped p grid shaped i lined.0.procedure (place_inside p profile i lined.0)) lined.3
 
-  lined-placed :
+  lined_placed :
       (grid : Grid) (n : ℕ) (is : List Instance) → GridShaped grid → Behind grid n → Lined n is →
       holds (all_placed p grid is) ≡ holds grid ++ is
   unfolding all_placed
-  lined-placed grid n [] shaped behind lined = sym (append-nil (holds grid))
-  lined-placed grid n (i ∷ is) shaped behind lined =
+  lined_placed grid n [] shaped behind lined = sym (append-nil (holds grid))
+  lined_placed grid n (i ∷ is) shaped behind lined =
       let fits = lined.0 in
-      let its-room = place_inside p profile i fits in
+      let its_room = place_inside p profile i fits in
       let up : Behind grid (rank p i) = λ k j h lt there. omega (arith, behind k j h lt there, lined.2) in
-      lined-placed (grid_placed p grid i) (suc (rank p i)) is (placed-shaped p grid shaped i fits.procedure its-room)
+      lined_placed (grid_placed p grid i) (suc (rank p i)) is (placed_shaped p grid shaped i fits.procedure its_room)
       (behind_more p profile grid shaped i fits lined.1 up) lined.3
       ∙ ap (λ (l : List Instance). l ++ is) (one_more p profile grid shaped i fits lined.1 up)
       ∙ append_assoc (holds grid) (i ∷ []) is
 
   module _ (long : length p.services ≡ services_most) where
     -- of two of the profile, the one with the lower key has the earlier place
-    rank-order : (i k : Instance) → Fitting p i → Fitting p k → k.service < 256 → key_of i < key_of k → rank p i < rank p k
-    rank-order i k a b code first =
+    rank_order : (i k : Instance) → Fitting p i → Fitting p k → k.service < 256 → key_of i < key_of k → rank p i < rank p k
+    rank_order i k a b code first =
         let so = good_profile p profile in
         let count : length (subscribed_services p) ≡ p.servicecount =
         omega (arith, long, so.services_few, length-take p.servicecount p.services) in
-        let one = few-services p profile i a in
-        let two = few-services p profile k b in
-        let low = few-numbers p profile i a in
+        let one = few_services p profile i a in
+        let two = few_services p profile k b in
+        let low = few_numbers p profile i a in
         ⊎_elim
         (λ (lt : i.procedure < k.procedure). omega (arith, one, low, lt))
         (λ same.
@@ -177,30 +177,30 @@ module _ (p : Profile) (profile : profile_good p ≡ true) where
         omega (arith, same.0, rest.0, slots))
         same.1)
         (key_earlier i.procedure i.number i.service k.procedure k.number k.service
-        (omega (arith, few-numbers p profile k b)) (omega (arith, code)) first)
+        (omega (arith, few_numbers p profile k b)) (omega (arith, code)) first)
 
-    lined-after :
+    lined_after :
         (i : Instance) (is : List Instance) → Fitting p i → Up key_of (key_of i) is → Each Holdable is → grid_all_in p is ≡ true →
         Lined (suc (rank p i)) is
-    lined-after i [] fits asc each all = tt
-    lined-after i (k ∷ ks) fits asc each all =
+    lined_after i [] fits asc each all = tt
+    lined_after i (k ∷ ks) fits asc each all =
         let parts = all_parts p k ks all in
         let next = fitting p k each.0.procedure parts.0 in
-        (next, each.0.some, rank-order i k fits next each.0.small asc.0, lined-after k ks next asc.1 each.1 parts.1)
+        (next, each.0.some, rank_order i k fits next each.0.small asc.0, lined_after k ks next asc.1 each.1 parts.1)
 
     lined : (is : List Instance) → Up key_of 0 is → Each Holdable is → grid_all_in p is ≡ true → Lined 0 is
     lined [] asc each all = tt
     lined (i ∷ is) asc each all =
         let parts = all_parts p i is all in
         let first = fitting p i each.0.procedure parts.0 in
-        (first, each.0.some, omega arith, lined-after i is first asc.1 each.1 parts.1)
+        (first, each.0.some, omega arith, lined_after i is first asc.1 each.1 parts.1)
 
     -- instances that ascend and are in the profile are those of the grid on which they are placed
-    pub placed-instances :
+    pub placed_instances :
         (is : List Instance) → Up key_of 0 is → Each Holdable is → grid_all_in p is ≡ true → holds (all_placed p no_grid is) ≡ is
-    placed-instances is asc each all =
-        lined-placed no_grid 0 is shaped_none none_behind (lined is asc each all) ∙ ap (λ (l : List Instance). l ++ is) fresh_none
+    placed_instances is asc each all =
+        lined_placed no_grid 0 is shaped_none none_behind (lined is asc each all) ∙ ap (λ (l : List Instance). l ++ is) fresh_none
 
-    pub all-shaped :
+    pub all_shaped :
         (is : List Instance) → Up key_of 0 is → Each Holdable is → grid_all_in p is ≡ true → GridShaped (all_placed p no_grid is)
-    all-shaped is asc each all = lined-shaped no_grid 0 is shaped_none (lined is asc each all)
+    all_shaped is asc each all = lined_shaped no_grid 0 is shaped_none (lined is asc each all)

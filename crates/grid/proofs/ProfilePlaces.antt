@@ -54,11 +54,11 @@ module _ (p : Profile) (whole : WholeProfile p) where
   pub rules : GoodProfile p
   rules = good_profile p whole.good
 
-  pub numbers-many : length (served_numbers p) ≡ p.numbercount
-  numbers-many = omega (arith, length-take p.numbercount p.numbers, rules.few, whole.numbers)
+  pub numbers_many : length (served_numbers p) ≡ p.numbercount
+  numbers_many = omega (arith, length-take p.numbercount p.numbers, rules.few, whole.numbers)
 
-  pub services-many : length (subscribed_services p) ≡ p.servicecount
-  services-many = omega (arith, length-take p.servicecount p.services, rules.services_few, whole.services)
+  pub services_many : length (subscribed_services p) ≡ p.servicecount
+  services_many = omega (arith, length-take p.servicecount p.services, rules.services_few, whole.services)
 
   module _ (n s : ℕ) where
     -- a number and a service of the profile have a place, whose number and service they are
@@ -70,13 +70,13 @@ module _ (p : Profile) (whole : WholeProfile p) where
       pub slotted : service_of_place (place_at p n s) ≡ place_of s (subscribed_services p)
       pub service : get_or p.services (service_of_place (place_at p n s)) 0 ≡ s
 
-    pub has-place : has_place p n s ≡ true → Place
-    has-place h =
+    pub has_place_lem : has_place p n s ≡ true → Place
+    has_place_lem h =
         let both = pick_then (ltb n (length (served_numbers p))) (among s (subscribed_services p)) h in
         let slot : ℕ = place_of s (subscribed_services p) in
-        let low : n < p.numbercount = omega (arith, numbers-many, ltb-true n (length (served_numbers p)) both.0) in
+        let low : n < p.numbercount = omega (arith, numbers_many, ltb-true n (length (served_numbers p)) both.0) in
         let first = among_place s (subscribed_services p) both.1 in
-        let counted : slot < p.servicecount = omega (arith, services-many, first) in
+        let counted : slot < p.servicecount = omega (arith, services_many, first) in
         let slotted : service_of_place (place_at p n s) ≡ slot = omega (arith, counted, rules.services_few) in
         record {
           number = low;
@@ -89,9 +89,9 @@ module _ (p : Profile) (whole : WholeProfile p) where
               ∙ place_stands s (subscribed_services p) first;
         }
 
-    pub place-has : n < p.numbercount → place_of s (subscribed_services p) < p.servicecount → has_place p n s ≡ true
-    place-has low slot =
+    pub place_has : n < p.numbercount → place_of s (subscribed_services p) < p.servicecount → has_place p n s ≡ true
+    place_has low slot =
         rw (
-          lt-ltb n (length (served_numbers p)) (omega (arith, low, numbers-many)),
-          place_among s (subscribed_services p) (omega (arith, slot, services-many)),
+          lt-ltb n (length (served_numbers p)) (omega (arith, low, numbers_many)),
+          place_among s (subscribed_services p) (omega (arith, slot, services_many)),
         )

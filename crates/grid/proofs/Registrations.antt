@@ -33,13 +33,13 @@ use Rattle.grid.specs.Selection.{cell_places, grid_concerns, grid_selects}
 use Rattle.grid.specs.Step.{GridStep, grid_asks, grid_result, grid_verdict}
 use Rattle.grid.specs.Table.{GridTable, grid_with_row}
 use Rattle.grid.proofs.Cells.{both_at}
-use Rattle.grid.proofs.HandledRequests.{gridChanged}
-use Rattle.grid.proofs.Judges.{applied-activation, applied-deactivation, fails-none, none-fails}
-use Rattle.grid.proofs.Listings.{active-none, entries-places, none-active}
-use Rattle.grid.proofs.Rows.{held-clear, held-put}
-use Rattle.grid.proofs.Selections.{selected-selects}
+use Rattle.grid.proofs.HandledRequests.{grid_changed}
+use Rattle.grid.proofs.Judges.{applied_activation, applied_deactivation, fails_none, none_fails}
+use Rattle.grid.proofs.Listings.{active_none, entries_places, none_active}
+use Rattle.grid.proofs.Rows.{held_clear, held_put}
+use Rattle.grid.proofs.Selections.{selected_selects}
 use Rattle.grid.proofs.Shapes.{row_set}
-use Rattle.grid.proofs.Tables.{moved-grid}
+use Rattle.grid.proofs.Tables.{moved_grid}
 
 pick_each :
     (j : ℕ) (b : Bool) (x y : Row) {u v : Option Address} → (b ≡ true → held x j ≡ u) → (b ≡ false → held y j ≡ v) →
@@ -64,11 +64,11 @@ module _ (p : Profile) (t : GridTable) (identifier : ℤ) (r : Request) where
     nothing : (e : ℕ) → x.answer ≡ Error identifier e → x.next.grid ≡ t.grid → GridAllOrNothing now x
 
   -- the answer tells the verdict
-  verdict-46 :
+  verdict_46 :
       (v : Option ℕ) → (grid_verdict p t identifier deactivation r v).answer ≡ Error identifier 46 → v ≡ some 46
   unfolding grid_result
-  verdict-46 none h = absurd (omega (arith, ap answer_no h))
-  verdict-46 (some e) h = ap some (ap (λ (a : Answer). get_or (answer_values a) 0 0) h)
+  verdict_46 none h = absurd (omega (arith, ap answer_no h))
+  verdict_46 (some e) h = ap some (ap (λ (a : Answer). get_or (answer_values a) 0 0) h)
 
   module _ (profile : profile_good p ≡ true) (long : length p.services ≡ services_most) (so : GridShaped t.grid)
       (known : r.procedure < grid_procedures) where
@@ -81,38 +81,38 @@ module _ (p : Profile) (t : GridTable) (identifier : ℤ) (r : Request) where
         rw (row_set t.grid.rows r.procedure k next _ (omega (arith, so.rows)))
         (pick_each j (eqb k r.procedure) next (row_at t.grid k)
         (λ e.
-        rw (eqb-true k r.procedure e, ← selected-selects p r (good_profile p profile).rises long j hj) (is j hj))
+        rw (eqb-true k r.procedure e, ← selected_selects p r (good_profile p profile).rises long j hj) (is j hj))
         (λ _. refl))
 
-    verdict-all :
+    verdict_all :
         (operation : ℕ) (now : Option Address) → (operation ≡ interrogation → ⊥) →
         ((j : ℕ) → j < places → held (grid_applied operation r (cell_places p r) row) j ≡ pick (grid_selected (cell_places p r) j) now
         (held row j)) →
         (v : Option ℕ) → GridAllOrNothing now (grid_verdict p t identifier operation r v)
     unfolding grid_result
-    verdict-all operation now asks is none =
+    verdict_all operation now asks is none =
         rw (ne_eqb _ _ asks)
         (all refl
-        (rw (moved-grid p identifier (gridChanged p t identifier operation r))
+        (rw (moved_grid p identifier (grid_changed p t identifier operation r))
         (everywhere now (grid_applied operation r (cell_places p r) row) is)))
-    verdict-all operation now asks is (some e) = nothing e refl (moved-grid p identifier t)
+    verdict_all operation now asks is (some e) = nothing e refl (moved_grid p identifier t)
 
     -- "every selected number and service .. gets the address, replacing an older one, all together"
-    pub activation-all : GridAllOrNothing (some (tidy_address r.to.address)) (grid_asks p t identifier activation r)
+    pub activation_all : GridAllOrNothing (some (tidy_address r.to.address)) (grid_asks p t identifier activation r)
     unfolding grid_asks
-    activation-all =
-        verdict-all activation (some (tidy_address r.to.address)) (λ e. omega arith)
+    activation_all =
+        verdict_all activation (some (tidy_address r.to.address)) (λ e. omega arith)
         (λ j h.
-        rw (applied-activation r (cell_places p r) row)
-        (held-put (cell_places p r) r.to.address row j (omega (arith, so.cells r.procedure known))))
+        rw (applied_activation r (cell_places p r) row)
+        (held_put (cell_places p r) r.to.address row j (omega (arith, so.cells r.procedure known))))
         (grid_judge instances_most p activation r (cell_places p r) row)
 
     -- "removes every active selected instance"
-    pub deactivation-all : GridAllOrNothing none (grid_asks p t identifier deactivation r)
+    pub deactivation_all : GridAllOrNothing none (grid_asks p t identifier deactivation r)
     unfolding grid_asks
-    deactivation-all =
-        verdict-all deactivation none (λ e. omega arith)
-        (λ j h. rw (applied-deactivation r (cell_places p r) row) (held-clear (cell_places p r) row j))
+    deactivation_all =
+        verdict_all deactivation none (λ e. omega arith)
+        (λ j h. rw (applied_deactivation r (cell_places p r) row) (held_clear (cell_places p r) row j))
         (grid_judge instances_most p deactivation r (cell_places p r) row)
 
     -- "error 46 exactly if there's none": no selected instance was active
@@ -120,21 +120,21 @@ module _ (p : Profile) (t : GridTable) (identifier : ℤ) (r : Request) where
     CellsSilent = (j : ℕ) → j < places → grid_selects p r j ≡ true → active row j ≡ false
 
     marked : (j : ℕ) → j < places → grid_selected (cell_places p r) j ≡ grid_selects p r j
-    marked = selected-selects p r (good_profile p profile).rises long
+    marked = selected_selects p r (good_profile p profile).rises long
 
     module _ (every : first_error (every_tests p r) ≡ none) where
-      pub none-46 : CellsSilent → (grid_asks p t identifier deactivation r).answer ≡ Error identifier 46
+      pub none_46 : CellsSilent → (grid_asks p t identifier deactivation r).answer ≡ Error identifier 46
       unfolding grid_asks
-      none-46 silent =
-          rw (none-fails instances_most p r (cell_places p r) row every
-          (active-none (cell_places p r) row (λ j h chosen. silent j h (sym (marked j h) ∙ chosen))))
+      none_46 silent =
+          rw (none_fails instances_most p r (cell_places p r) row every
+          (active_none (cell_places p r) row (λ j h chosen. silent j h (sym (marked j h) ∙ chosen))))
 
-      pub only-46 : (grid_asks p t identifier deactivation r).answer ≡ Error identifier 46 → CellsSilent
+      pub only_46 : (grid_asks p t identifier deactivation r).answer ≡ Error identifier 46 → CellsSilent
       unfolding grid_asks
-      only-46 failed j h chosen =
-          none-active (cell_places p r) row
-          (fails-none instances_most p r (cell_places p r) row every
-          (verdict-46 (grid_judge instances_most p deactivation r (cell_places p r) row) failed))
+      only_46 failed j h chosen =
+          none_active (cell_places p r) row
+          (fails_none instances_most p r (cell_places p r) row every
+          (verdict_46 (grid_judge instances_most p deactivation r (cell_places p r) row) failed))
           j h (marked j h ∙ chosen)
 
     -- "every active selected instance, by profile number, then service code. Each carries the profile's own number."
@@ -144,14 +144,14 @@ module _ (p : Profile) (t : GridTable) (identifier : ℤ) (r : Request) where
           x.entries
           ≡ map (entry_of_place p r.procedure row) (places_where (λ j. pick (grid_selects p r j) (active row j) false) places)
 
-    pub interrogation-lists :
+    pub interrogation_lists :
         grid_judge instances_most p interrogation r (cell_places p r) row ≡ none → Lists (grid_asks p t identifier interrogation r)
     unfolding grid_asks grid_result
-    interrogation-lists passes =
+    interrogation_lists passes =
         rw passes (record {
           answer = refl;
           entries =
-              entries-places (cell_places p r) row p r.procedure
+              entries_places (cell_places p r) row p r.procedure
               ∙ ap (map (entry_of_place p r.procedure row))
               (places_same (both_at (cell_places p r) row) (λ j. pick (grid_selects p r j) (active row j) false) places (λ j h.
               ap (λ b. pick b (active row j) false) (marked j h)));

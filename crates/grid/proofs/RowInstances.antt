@@ -27,8 +27,8 @@ use Rattle.grid.specs.Holds.{holds, place_instances, row_instances}
 use Rattle.grid.specs.Table.{GridTable, grid_table_good}
 use Rattle.grid.proofs.Cells.{is_active, not_active}
 use Rattle.grid.proofs.Gathers.{gathered_count, gathered_each}
-use Rattle.grid.proofs.Rows.{Ruled, good-few}
-use Rattle.grid.proofs.Tables.{table-row}
+use Rattle.grid.proofs.Rows.{Ruled, good_few}
+use Rattle.grid.proofs.Tables.{table_row}
 
 -- ---- the cell of a place
 
@@ -81,8 +81,8 @@ row_places k row = gathered_places (active row) _ places
 
 module _ (p : Profile) (profile : profile_good p ≡ true) (long : length p.services ≡ services_most) where
   module _ (k j : ℕ) (x : Cell) (ruled : Ruled p k j x) where
-    pub slot-inside : service_of_place j < length (subscribed_services p)
-    slot-inside = omega (arith, long, ruled.slot, (good_profile p profile).services_few, length-take p.servicecount p.services)
+    pub slot_inside : service_of_place j < length (subscribed_services p)
+    slot_inside = omega (arith, long, ruled.slot, (good_profile p profile).services_few, length-take p.servicecount p.services)
 
     -- it stands among those subscribed at the slot of its place ..
     pub code_is : get_or (subscribed_services p) (service_of_place j) 0 ≡ x.service
@@ -92,14 +92,14 @@ module _ (p : Profile) (profile : profile_good p ≡ true) (long : length p.serv
     pub slot_is : place_of x.service (subscribed_services p) ≡ service_of_place j
     slot_is =
         ap (λ (c : ℕ). place_of c (subscribed_services p)) (sym code_is)
-        ∙ rising_place 0 (subscribed_services p) (service_of_place j) (good_profile p profile).rises slot-inside
+        ∙ rising_place 0 (subscribed_services p) (service_of_place j) (good_profile p profile).rises slot_inside
 
     -- it is one of the sixteen
-    pub service-known : service_code x.service ≡ true
-    service-known = rw code_is at (rising_code 0 (subscribed_services p) (service_of_place j) (good_profile p profile).rises slot-inside)
+    pub service_known : service_code x.service ≡ true
+    service_known = rw code_is at (rising_code 0 (subscribed_services p) (service_of_place j) (good_profile p profile).rises slot_inside)
 
     pub service_small : x.service < 128
-    service_small = omega (arith, service_most x.service service-known)
+    service_small = omega (arith, service_most x.service service_known)
 
 -- ---- a table that breaks no rule
 
@@ -109,13 +109,13 @@ SubOctets t = (k j i : ℕ) → get_or (cell_at (row_at t.grid k) j).address.sub
 
 module _ (p : Profile) (t : GridTable) (good : grid_table_good instances_most p t ≡ true) where
   -- "at most 8 for each procedure": at most 24
-  pub instances-few : length (holds t.grid) ≤ instances_most * grid_procedures
-  instances-few =
+  pub instances_few : length (holds t.grid) ≤ instances_most * grid_procedures
+  instances_few =
       rw (rows_all t.grid)
       (gathered_each instances_most (row_of t.grid) grid_procedures (λ k h.
       omega (
         arith,
         row_count k (row_at t.grid k),
-        good-few instances_most p k (row_at t.grid k)
-            (table-row instances_most p t good k h),
+        good_few instances_most p k (row_at t.grid k)
+            (table_row instances_most p t good k h),
       )))

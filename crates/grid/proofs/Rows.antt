@@ -17,7 +17,7 @@ use Rattle.laws.specs.Tests.{all}
 use Rattle.laws.proofs.Chosen.{nothing_counted}
 use Rattle.laws.proofs.Picks.{not_passed, pick_else, pick_ind, pick_last}
 use Rattle.laws.proofs.Tests.{all_at}
-use Rattle.laws.proofs.Walks.{changed-at, changed-past, count_fewer, count_same, every-all, every-at, gathered-few, gathered-ind, length-changed}
+use Rattle.laws.proofs.Walks.{changed_at, changed_past, count_fewer, count_same, every_all, every_at, gathered_few, gathered_ind, length_changed}
 use Rattle.numbers.specs.Address.{address_good, tidy_address}
 use Rattle.numbers.specs.Number.{number_good}
 use Rattle.numbers.specs.declared.address.Address.{Address}
@@ -38,16 +38,16 @@ abbrev held_in : Cell → Option Address
 held_in x = pick (used x) (some (tidy_address x.address)) none
 
 module _ (code : ℕ) (address : Address) (x : Cell) where
-  used-put :
+  used_put :
       (b : Bool) → (b ≡ true → code ≡ 0 → ⊥) → used (pick b (cell_of code address) x) ≡ pick b true (used x)
-  used-put true h = rw (ne_eqb code 0 (h refl))
-  used-put false h = refl
+  used_put true h = rw (ne_eqb code 0 (h refl))
+  used_put false h = refl
 
-  held-in-put :
+  held_in_put :
       (b : Bool) → (b ≡ true → code ≡ 0 → ⊥) →
       held_in (pick b (cell_of code address) x) ≡ pick b (some (tidy_address address)) (held_in x)
-  held-in-put true h = rw (ne_eqb code 0 (h refl))
-  held-in-put false h = refl
+  held_in_put true h = rw (ne_eqb code 0 (h refl))
+  held_in_put false h = refl
 
 used_clear : (x : Cell) (b : Bool) → used (pick b no_cell x) ≡ pick b false (used x)
 used_clear x true = refl
@@ -72,44 +72,44 @@ pick_or false false = refl
 
 module _ (w : Places) (row : Row) where
   -- with one at every selected place, and of the selected ones
-  pub with-count : count_with w row ≡ count_to (with_at w row) places
+  pub with_count : count_with w row ≡ count_to (with_at w row) places
   unfolding count_with
-  with-count = refl
+  with_count = refl
 
-  pub active-count : active_of w row ≡ count_to (both_at w row) places
+  pub active_count : active_of w row ≡ count_to (both_at w row) places
   unfolding active_of
-  active-count = refl
+  active_count = refl
 
 -- ---- a row that is put
 
 module _ (w : Places) (address : Address) (row : Row) where
-  pub cells-put : length (put_in w address row).cells ≡ length row.cells
+  pub cells_put : length (put_in w address row).cells ≡ length row.cells
   unfolding put_in
-  cells-put = length-changed (put_at w address) 0 row.cells
+  cells_put = length_changed (put_at w address) 0 row.cells
 
-  pub cell-put : (j : ℕ) → j < length row.cells → cell_at (put_in w address row) j ≡ put_at w address j (cell_at row j)
+  pub cell_put : (j : ℕ) → j < length row.cells → cell_at (put_in w address row) j ≡ put_at w address j (cell_at row j)
   unfolding put_in
-  cell-put j h = changed-at (put_at w address) outside row.cells j h
+  cell_put j h = changed_at (put_at w address) outside row.cells j h
 
-  pub active-put :
+  pub active_put :
       (j : ℕ) → j < length row.cells → active (put_in w address row) j ≡ pick (grid_selected w j) true (active row j)
   unfolding active
-  active-put j h =
-      ap used (cell-put j h) ∙ used-put (code_of_place w j) address (cell_at row j) (grid_selected w j) (selected_code w j)
+  active_put j h =
+      ap used (cell_put j h) ∙ used_put (code_of_place w j) address (cell_at row j) (grid_selected w j) (selected_code w j)
 
-  pub held-put :
+  pub held_put :
       (j : ℕ) → j < length row.cells →
       held (put_in w address row) j ≡ pick (grid_selected w j) (some (tidy_address address)) (held row j)
   unfolding held active
-  held-put j h =
-      ap held_in (cell-put j h) ∙ held-in-put (code_of_place w j) address (cell_at row j) (grid_selected w j) (selected_code w j)
+  held_put j h =
+      ap held_in (cell_put j h) ∙ held_in_put (code_of_place w j) address (cell_at row j) (grid_selected w j) (selected_code w j)
 
-  pub count-put :
+  pub count_put :
       length row.cells ≡ places → count_to (active (put_in w address row)) places ≡ count_with w row
   unfolding count_with
-  count-put long =
+  count_put long =
       count_same (active (put_in w address row)) (with_at w row) places (λ j h.
-      active-put j (omega arith) ∙ pick_or (grid_selected w j) (active row j))
+      active_put j (omega arith) ∙ pick_or (grid_selected w j) (active row j))
 
 -- ---- a row that is cleared
 
@@ -124,37 +124,37 @@ here_or_past j n =
     (λ e. inr (ltb-false j n e))
 
 module _ (w : Places) (row : Row) where
-  pub cells-clear : length (clear_in w row).cells ≡ length row.cells
+  pub cells_clear : length (clear_in w row).cells ≡ length row.cells
   unfolding clear_in
-  cells-clear = length-changed (clear_at w) 0 row.cells
+  cells_clear = length_changed (clear_at w) 0 row.cells
 
   -- the cell of a place is cleared where that is selected; past the array there is nothing to clear
-  pub cell-clear :
+  pub cell_clear :
       (j : ℕ) →
       (cell_at (clear_in w row) j ≡ clear_at w j (cell_at row j)) ⊎
       ((cell_at (clear_in w row) j ≡ outside) × (cell_at row j ≡ outside))
   unfolding clear_in
-  cell-clear j =
+  cell_clear j =
       ⊎_elim
-      (λ here. inl (changed-at (clear_at w) outside row.cells j here))
-      (λ past. inr (changed-past (clear_at w) outside row.cells j past, get_or-eq_default row.cells outside past))
+      (λ here. inl (changed_at (clear_at w) outside row.cells j here))
+      (λ past. inr (changed_past (clear_at w) outside row.cells j past, get_or-eq_default row.cells outside past))
       (here_or_past j (length row.cells))
 
-  pub active-clear : (j : ℕ) → active (clear_in w row) j ≡ pick (grid_selected w j) false (active row j)
+  pub active_clear : (j : ℕ) → active (clear_in w row) j ≡ pick (grid_selected w j) false (active row j)
   unfolding active
-  active-clear j =
+  active_clear j =
       ⊎_elim
       (λ e. ap used e ∙ used_clear (cell_at row j) (grid_selected w j))
       (λ e. rw (e.0, e.1) (pick_same (grid_selected w j) false))
-      (cell-clear j)
+      (cell_clear j)
 
-  pub held-clear : (j : ℕ) → held (clear_in w row) j ≡ pick (grid_selected w j) none (held row j)
+  pub held_clear : (j : ℕ) → held (clear_in w row) j ≡ pick (grid_selected w j) none (held row j)
   unfolding held active
-  held-clear j =
+  held_clear j =
       ⊎_elim
       (λ e. ap held_in e ∙ held_in_clear (cell_at row j) (grid_selected w j))
       (λ e. rw (e.0, e.1) (pick_same (grid_selected w j) none))
-      (cell-clear j)
+      (cell_clear j)
 
 -- ---- rows that break no rule
 
@@ -172,68 +172,68 @@ cell_good_lem p procedure j code address subscribed number slot service good =
     rw (eq-eqb _ _ subscribed, lt-ltb _ _ number, lt-ltb _ _ slot, eq-eqb _ _ service, good))
 
 module _ (limit : ℕ) (p : Profile) (procedure : ℕ) where
-  pub good-cells : (row : Row) → row_good limit p procedure row ≡ true → (j : ℕ) → j < places → cell_good p procedure j (cell_at row j) ≡ true
+  pub good_cells : (row : Row) → row_good limit p procedure row ≡ true → (j : ℕ) → j < places → cell_good p procedure j (cell_at row j) ≡ true
   unfolding row_good
-  good-cells row good j h =
-      every-at (good_at p procedure row) places j h
+  good_cells row good j h =
+      every_at (good_at p procedure row) places j h
       (all_at (every_to (good_at p procedure row) places ∷ leb (count_to (active row) places) limit ∷ []) 0 good)
 
-  pub good-few : (row : Row) → row_good limit p procedure row ≡ true → count_to (active row) places ≤ limit
+  pub good_few : (row : Row) → row_good limit p procedure row ≡ true → count_to (active row) places ≤ limit
   unfolding row_good
-  good-few row good =
+  good_few row good =
       leb-true (count_to (active row) places) limit
       (all_at (every_to (good_at p procedure row) places ∷ leb (count_to (active row) places) limit ∷ []) 1 good)
 
-  pub good-row :
+  pub good_row :
       (row : Row) → ((j : ℕ) → j < places → cell_good p procedure j (cell_at row j) ≡ true) → count_to (active row) places ≤ limit →
       row_good limit p procedure row ≡ true
   unfolding row_good
-  good-row row cells few =
-      rw (every-all (good_at p procedure row) places cells, le-leb (count_to (active row) places) limit few)
+  good_row row cells few =
+      rw (every_all (good_at p procedure row) places cells, le-leb (count_to (active row) places) limit few)
 
   -- by how many instances there are: a row without one breaks no rule
-  pub row-none : (row : Row) → count_to (active row) places ≡ 0 → row_good limit p procedure row ≡ true
-  row-none row empty =
-      good-row row (λ j h. good_none p procedure row j (nothing_counted (active row) places empty j h)) (omega (arith, empty))
+  pub row_none : (row : Row) → count_to (active row) places ≡ 0 → row_good limit p procedure row ≡ true
+  row_none row empty =
+      good_row row (λ j h. good_none p procedure row j (nothing_counted (active row) places empty j h)) (omega (arith, empty))
 
-  pub row-many : (row : Row) → limit < count_to (active row) places → row_good limit p procedure row ≡ false
+  pub row_many : (row : Row) → limit < count_to (active row) places → row_good limit p procedure row ≡ false
   unfolding row_good
-  row-many row many =
+  row_many row many =
       rw (lt-leb (count_to (active row) places) limit many)
       (pick_ind (λ t. t ≡ false) (every_to (good_at p procedure row) places) (λ _. refl) (λ _. refl))
 
-  pub row-few :
+  pub row_few :
       (row : Row) → count_to (active row) places ≤ limit → row_good limit p procedure row ≡ every_to (good_at p procedure row) places
   unfolding row_good
-  row-few row few =
+  row_few row few =
       rw (le-leb (count_to (active row) places) limit few) (pick_last (every_to (good_at p procedure row) places))
 
-  pub good-put :
+  pub good_put :
       (w : Places) (address : Address) (row : Row) → row_good limit p procedure row ≡ true → length row.cells ≡ places →
       ((j : ℕ) → j < places → grid_selected w j ≡ true → cell_good p procedure j (cell_of (code_of_place w j) address) ≡ true) →
       count_with w row ≤ limit →
       row_good limit p procedure (put_in w address row) ≡ true
-  good-put w address row good long right few =
-      good-row (put_in w address row)
+  good_put w address row good long right few =
+      good_row (put_in w address row)
       (λ j h.
-      rw (cell-put w address row j (omega arith))
-      (pick_ind (λ x. cell_good p procedure j x ≡ true) (grid_selected w j) (right j h) (λ _. good-cells row good j h)))
-      (omega (arith, count-put w address row long))
+      rw (cell_put w address row j (omega arith))
+      (pick_ind (λ x. cell_good p procedure j x ≡ true) (grid_selected w j) (right j h) (λ _. good_cells row good j h)))
+      (omega (arith, count_put w address row long))
 
-  pub good-clear : (w : Places) (row : Row) → row_good limit p procedure row ≡ true → row_good limit p procedure (clear_in w row) ≡ true
+  pub good_clear : (w : Places) (row : Row) → row_good limit p procedure row ≡ true → row_good limit p procedure (clear_in w row) ≡ true
   unfolding cell_good
-  good-clear w row good =
-      good-row (clear_in w row)
+  good_clear w row good =
+      good_row (clear_in w row)
       (λ j h.
       ⊎_elim
-      (λ e. rw e (pick_ind (λ x. cell_good p procedure j x ≡ true) (grid_selected w j) (λ _. refl) (λ _. good-cells row good j h)))
+      (λ e. rw e (pick_ind (λ x. cell_good p procedure j x ≡ true) (grid_selected w j) (λ _. refl) (λ _. good_cells row good j h)))
       (λ e. rw e.0)
-      (cell-clear w row j))
+      (cell_clear w row j))
       (omega (
         arith,
-        good-few row good,
+        good_few row good,
         count_fewer (active (clear_in w row)) (active row) places (λ j h e.
-            (pick_else (grid_selected w j) (active row j) (sym (active-clear w row j) ∙ e)).1),
+            (pick_else (grid_selected w j) (active row j) (sym (active_clear w row j) ∙ e)).1),
       ))
 
 -- ---- the entries of a row
@@ -245,18 +245,18 @@ at_most_one false b e = omega arith
 
 module _ (p : Profile) (procedure : ℕ) (w : Places) (row : Row) where
   -- no more than there are instances
-  pub entries-few : length (grid_entries p procedure w row) ≤ count_to (active row) places
+  pub entries_few : length (grid_entries p procedure w row) ≤ count_to (active row) places
   unfolding grid_entries
-  entries-few =
-      gathered-few (entries_at p procedure w row) (active row) places (λ j h.
+  entries_few =
+      gathered_few (entries_at p procedure w row) (active row) places (λ j h.
       at_most_one (grid_selected w j) (active row j) (entry_of_place p procedure row j))
 
   -- so a row that breaks no rule has room for all of them in a list
-  pub entries-all :
+  pub entries_all :
       (limit : ℕ) → row_good limit p procedure row ≡ true →
       take limit (grid_entries p procedure w row) ≡ grid_entries p procedure w row
-  entries-all limit good =
-      take_all limit (grid_entries p procedure w row) (omega (arith, entries-few, good-few limit p procedure row good))
+  entries_all limit good =
+      take_all limit (grid_entries p procedure w row) (omega (arith, entries_few, good_few limit p procedure row good))
 
 -- what the rules say of an instance in the cell of a place
 pub record Ruled (p : Profile) (procedure j : ℕ) (x : Cell) : Type 0 where
@@ -292,7 +292,7 @@ pub active_rules :
     Ruled p procedure j (cell_at row j)
 unfolding active
 active_rules limit p procedure row good j h there =
-    cell_rules p procedure j (cell_at row j) (good-cells limit p procedure row good j h) there
+    cell_rules p procedure j (cell_at row j) (good_cells limit p procedure row good j h) there
 
 -- the entries of a row that breaks no rule read back, where the profile's numbers do
 pub entries_good :
@@ -301,7 +301,7 @@ pub entries_good :
     all_good (grid_entries p procedure w row) ≡ true
 unfolding grid_entries entry_of_place
 entries_good limit p procedure w row good numbers =
-    gathered-ind (λ es. all_good es ≡ true) all_none all_both (entries_at p procedure w row) places (λ j h.
+    gathered_ind (λ es. all_good es ≡ true) all_none all_both (entries_at p procedure w row) places (λ j h.
     pick_ind (λ es. all_good es ≡ true) (grid_selected w j)
     (λ _.
     pick_ind (λ es. all_good es ≡ true) (active row j)

@@ -21,15 +21,15 @@ use Rattle.exchange.specs.Step.{step}
 use Rattle.exchange.specs.Table.{table_good}
 use Rattle.exchange.specs.declared.table.Table.{Table}
 use Rattle.exchange.proofs.Arrivals as run
-use Rattle.exchange.proofs.Nexts.{next-good}
+use Rattle.exchange.proofs.Nexts.{next_good}
 use Rattle.grid.specs.Arrive.{GridDone, grid_done, grid_refused}
 use Rattle.grid.specs.Equal.{BothBreak, Component, DoneSame, HoldSame, SameTable, grid_after, grid_replies, run_after, run_replies}
 use Rattle.grid.specs.Step.{grid_step}
 use Rattle.grid.specs.Table.{GridTable}
-use Rattle.grid.proofs.Arrivals.{done-answers, done-long, done-profile, done-short, done-table}
-use Rattle.grid.proofs.Nexts.{step-good, step-shaped}
+use Rattle.grid.proofs.Arrivals.{done_answers, done_long, done_profile, done_short, done_table}
+use Rattle.grid.proofs.Nexts.{step_good, step_shaped}
 use Rattle.grid.proofs.ProfilePlaces.{access_whole}
-use Rattle.grid.proofs.SameSteps.{steps-same}
+use Rattle.grid.proofs.SameSteps.{steps_same}
 
 -- ---- one component
 
@@ -47,64 +47,64 @@ module _ (access : List ℕ) (g : GridTable) (t : Table) (s : List ℕ) (size : 
       by_bool Course (ltb size output_least)
       (λ e.
       let short = ltb-true size output_least e in
-      refuse ShortOutput (done-short access g s size short) (run.done-short access t s size short))
+      refuse ShortOutput (done_short access g s size short) (run.done_short access t s size short))
       (λ e.
       let room = ltb-false size output_least e in
       by_bool Course (ltb component_most (length s))
       (λ f.
       let long = ltb-true component_most (length s) f in
-      refuse LongComponent (done-long access g s size room long) (run.done-long access t s size room long))
+      refuse LongComponent (done_long access g s size room long) (run.done_long access t s size room long))
       (λ f.
       let fair = ltb-false component_most (length s) f in
       by_bool Course (access_read access).ok (heed room fair) (λ bad.
-      refuse BadProfile (done-profile access g s size room fair bad) (run.done-profile access t s size room fair bad))))
+      refuse BadProfile (done_profile access g s size room fair bad) (run.done_profile access t s size room fair bad))))
 
   -- a refusal of both hands both tables back
-  both-refuse :
+  both_refuse :
       SameTable p g t → (refusal : Refusal) → grid_done access g s size ≡ grid_refused g refusal → done access t s size ≡ refused t refusal →
       DoneSame p (grid_done access g s size) (done access t s size)
-  both-refuse so refusal a b = rw (a, b) (record { told = refl; octets = refl; tables = so })
+  both_refuse so refusal a b = rw (a, b) (record { told = refl; octets = refl; tables = so })
 
   module _ (room : output_least ≤ size) (fair : length s ≤ component_most) (ok : (access_read access).ok ≡ true) (so : HoldSame p g t) where
     is : done access t s size ≡ answered (step p t s)
-    is = run.done-answers access t s size room fair ok so.run_good_lem
+    is = run.done_answers access t s size room fair ok so.run_good_lem
 
     right : table_good instances_most p (step p t s).next ≡ true
     right =
         ap (λ (d : Done). table_good instances_most p d.table) (sym is)
-        ∙ next-good access t s size (answered_by (step p t s).answer) (ap (λ (d : Done). d.told) is)
+        ∙ next_good access t s size (answered_by (step p t s).answer) (ap (λ (d : Done). d.told) is)
 
-    both-answer : DoneSame p (grid_done access g s size) (done access t s size)
-    both-answer =
+    both_answer : DoneSame p (grid_done access g s size) (done access t s size)
+    both_answer =
         let whole = access_whole access ok in
-        let same = steps-same p whole g t so s in
-        rw (done-answers access g s size room fair ok so.grid_good_lem, is)
+        let same = steps_same p whole g t so s in
+        rw (done_answers access g s size room fair ok so.grid_good_lem, is)
         (record {
           told = ap (λ a. tells (answered_by a)) same.answer;
           octets =
               ap (λ a. answer_octets a (grid_step p g s).entries) same.answer
               ∙ ap (answer_octets (step p t s).answer) same.entries;
           tables = inl (record {
-            shaped = step-shaped p g s so.shaped;
-            grid_good_lem = step-good p g s whole.good whole.services so.shaped so.grid_good_lem;
+            shaped = step_shaped p g s so.shaped;
+            grid_good_lem = step_good p g s whole.good whole.services so.shaped so.grid_good_lem;
             run_good_lem = right;
             last = same.last;
             held = same.held;
           });
         })
 
-  by-course : SameTable p g t → Course → DoneSame p (grid_done access g s size) (done access t s size)
-  by-course so (refuse refusal a b) = both-refuse so refusal a b
-  by-course so (heed room fair ok) =
-      ⊎_elim (both-answer room fair ok)
+  by_course : SameTable p g t → Course → DoneSame p (grid_done access g s size) (done access t s size)
+  by_course so (refuse refusal a b) = both_refuse so refusal a b
+  by_course so (heed room fair ok) =
+      ⊎_elim (both_answer room fair ok)
       (λ (broken : BothBreak p g t).
-      both-refuse so BadTable (done-table access g s size room fair ok broken.grid_bad)
-      (run.done-table access t s size room fair ok broken.run_bad))
+      both_refuse so BadTable (done_table access g s size room fair ok broken.grid_bad)
+      (run.done_table access t s size room fair ok broken.run_bad))
       so
 
   -- the same reply or refusal, the same octets, and the same table
-  pub done-same : SameTable p g t → DoneSame p (grid_done access g s size) (done access t s size)
-  done-same so = by-course so course
+  pub done_same : SameTable p g t → DoneSame p (grid_done access g s size) (done access t s size)
+  done_same so = by_course so course
 
   -- where the profile breaks a rule any two tables are refused alike, and handed back
   pub record Unheeded : Type 0 where
@@ -122,8 +122,8 @@ module _ (access : List ℕ) (g : GridTable) (t : Table) (s : List ℕ) (size : 
   }
   unheeded bad (heed room fair ok) = absurd (false≢true (sym bad ∙ ok))
 
-  pub profile-refused : (access_read access).ok ≡ false → Unheeded
-  profile-refused bad = unheeded bad course
+  pub profile_refused : (access_read access).ok ≡ false → Unheeded
+  profile_refused bad = unheeded bad course
 
 -- ---- any sequence
 
@@ -135,7 +135,7 @@ pub sequence_same :
 unfolding grid_replies run_replies grid_after run_after
 sequence_same access [] g t so = (refl, so)
 sequence_same access (c ∷ cs) g t so =
-    let one = done-same access g t c.octets c.size so in
+    let one = done_same access g t c.octets c.size so in
     let rest = sequence_same access cs (grid_done access g c.octets c.size).table (done access t c.octets c.size).table
     one.tables in
     (rw (one.told, one.octets, rest.0), rest.1)

@@ -20,7 +20,7 @@ use Rattle.calls.specs.Original.{goes_on, original_in}
 use Rattle.calls.specs.declared.call.Call.{Call}
 use Rattle.calls.proofs.Comings as run
 use Rattle.calls.proofs.HandedOns as handed
-use Rattle.calls.proofs.Instances.{applying-used}
+use Rattle.calls.proofs.Instances.{applying_used}
 use Rattle.calls.proofs.Instances as instances
 use Rattle.calls.proofs.Records.{good_call}
 use Rattle.calls.proofs.Reasons.{procedure_below}
@@ -30,11 +30,11 @@ use Rattle.grid.specs.Grid.{Grid, grid_good, row_at}
 use Rattle.grid.specs.Holds.{holds}
 use Rattle.grid.specs.Row.{Row, active}
 use Rattle.grid.specs.Table.{GridTable}
-use Rattle.grid.proofs.Comings.{applying-none, applying-service, applying-some, applying-unused, comes-by, comes-call, comes-profile}
-use Rattle.grid.proofs.Comings.{comes-table, original-goes, original_none}
-use Rattle.grid.proofs.FoundCells.{found_in, found-holds}
-use Rattle.grid.proofs.ProfilePlaces.{WholeProfile, access_whole, has-place, place-has}
-use Rattle.grid.proofs.Tables.{good-grid}
+use Rattle.grid.proofs.Comings.{applying_none, applying_service, applying_some, applying_unused, comes_by, comes_call, comes_profile}
+use Rattle.grid.proofs.Comings.{comes_table, original_goes, original_none}
+use Rattle.grid.proofs.FoundCells.{found_in, found_holds}
+use Rattle.grid.proofs.ProfilePlaces.{WholeProfile, access_whole, has_place_lem, place_has}
+use Rattle.grid.proofs.Tables.{good_grid}
 
 -- ---- the instance that applies
 
@@ -47,35 +47,35 @@ module _ (p : Profile) (whole : WholeProfile p) (grid : Grid) (good : grid_good 
   row = row_at grid q
 
   -- the one in the cell of the call's number and service
-  cell-applies : (p.inuse ≡ 0 → ⊥) → grid_applying p grid c ≡ found_in p grid q c.number c.service
-  cell-applies used =
+  cell_applies : (p.inuse ≡ 0 → ⊥) → grid_applying p grid c ≡ found_in p grid q c.number c.service
+  cell_applies used =
       rw (lt-ltb q 3 (procedure_below c.event))
       (by_bool _ (ltb (grid_slot_of p c) p.servicecount)
       (λ (e : ltb (grid_slot_of p c) p.servicecount ≡ true).
       let slot = ltb-true (grid_slot_of p c) p.servicecount e in
-      rw (place-has p whole c.number c.service number slot)
+      rw (place_has p whole c.number c.service number slot)
       (by_bool _ (active row (grid_place_of_call p c))
-      (λ (there : active row (grid_place_of_call p c) ≡ true). applying-some p grid c used slot there ∙ rw there)
-      (λ (empty : active row (grid_place_of_call p c) ≡ false). applying-none p grid c used slot empty ∙ rw empty)))
+      (λ (there : active row (grid_place_of_call p c) ≡ true). applying_some p grid c used slot there ∙ rw there)
+      (λ (empty : active row (grid_place_of_call p c) ≡ false). applying_none p grid c used slot empty ∙ rw empty)))
       (λ (e : ltb (grid_slot_of p c) p.servicecount ≡ false).
       let past = ltb-false (grid_slot_of p c) p.servicecount e in
       let nowhere : has_place p c.number c.service ≡ false =
       by_bool (has_place p c.number c.service ≡ false) (has_place p c.number c.service)
-      (λ h. absurd (omega (arith, past, (has-place p whole c.number c.service h).slot)))
+      (λ h. absurd (omega (arith, past, (has_place_lem p whole c.number c.service h).slot)))
       (λ h. h) in
-      rw nowhere (applying-service p grid c used past)))
+      rw nowhere (applying_service p grid c used past)))
 
-  applies-same : grid_applying p grid c ≡ applying p (holds grid) c
-  applies-same =
+  applies_same : grid_applying p grid c ≡ applying p (holds grid) c
+  applies_same =
       by_bool (grid_applying p grid c ≡ applying p (holds grid) c) (eqb p.inuse 0)
       (λ e.
       let unused = eqb-true p.inuse 0 e in
-      applying-unused p grid c unused ∙ sym (instances.applying-unused p (holds grid) c unused))
+      applying_unused p grid c unused ∙ sym (instances.applying_unused p (holds grid) c unused))
       (λ e.
       let used = eqb-false p.inuse 0 e in
-      cell-applies used
-      ∙ sym (found-holds q c.number c.service instances_most p whole grid good)
-      ∙ sym (applying-used p (holds grid) c used))
+      cell_applies used
+      ∙ sym (found_holds q c.number c.service instances_most p whole grid good)
+      ∙ sym (applying_used p (holds grid) c used))
 
 -- ---- the call
 
@@ -83,33 +83,33 @@ module _ (access : List ℕ) (g : GridTable) (t : Table) (s : List ℕ) (so : Sa
   abbrev p : Profile
   p = (access_read access).profile
 
-  held-comes : (access_read access).ok ≡ true → HoldSame p g t → grid_comes access g s ≡ comes access t s
-  held-comes ok same =
+  held_comes : (access_read access).ok ≡ true → HoldSame p g t → grid_comes access g s ≡ comes access t s
+  held_comes ok same =
       by_bool (grid_comes access g s ≡ comes access t s) (call_good p s)
       (λ good.
-      comes-by access g s ok same.grid_good_lem good
+      comes_by access g s ok same.grid_good_lem good
       ∙ ap (by_instance p (call_from s))
-      (applies-same p (access_whole access ok) g.grid (good-grid instances_most p g same.grid_good_lem) (call_from s)
+      (applies_same p (access_whole access ok) g.grid (good_grid instances_most p g same.grid_good_lem) (call_from s)
       (good_call p s good).number
       ∙ ap (λ is. applying p is (call_from s)) same.held)
-      ∙ sym (run.comes-by access t s ok same.run_good_lem good))
-      (λ bad. comes-call access g s ok same.grid_good_lem bad ∙ sym (run.comes-call access t s ok same.run_good_lem bad))
+      ∙ sym (run.comes_by access t s ok same.run_good_lem good))
+      (λ bad. comes_call access g s ok same.grid_good_lem bad ∙ sym (run.comes_call access t s ok same.run_good_lem bad))
 
   -- diverted alike, not diverted, or refused alike
-  pub comes-same : grid_comes access g s ≡ comes access t s
-  comes-same =
+  pub comes_same : grid_comes access g s ≡ comes access t s
+  comes_same =
       by_bool (grid_comes access g s ≡ comes access t s) (access_read access).ok
       (λ ok.
-      ⊎_elim (held-comes ok)
+      ⊎_elim (held_comes ok)
       (λ (broken : BothBreak p g t).
-      comes-table access g s ok broken.grid_bad ∙ sym (run.comes-table access t s ok broken.run_bad))
+      comes_table access g s ok broken.grid_bad ∙ sym (run.comes_table access t s ok broken.run_bad))
       so)
-      (λ bad. comes-profile access g s bad ∙ sym (run.comes-profile access t s bad))
+      (λ bad. comes_profile access g s bad ∙ sym (run.comes_profile access t s bad))
 
   -- with the same original number
-  pub original-same : grid_original access g s ≡ original_in access t s
-  original-same =
-      let same : goes_on (grid_comes access g s).told ≡ goes_on (comes access t s).told = ap (λ (x : Comes). goes_on x.told) comes-same in
+  pub original_same : grid_original access g s ≡ original_in access t s
+  original_same =
+      let same : goes_on (grid_comes access g s).told ≡ goes_on (comes access t s).told = ap (λ (x : Comes). goes_on x.told) comes_same in
       by_bool (grid_original access g s ≡ original_in access t s) (goes_on (comes access t s).told)
-      (λ goes. original-goes access g s (same ∙ goes) ∙ sym (handed.original_on access t s goes))
+      (λ goes. original_goes access g s (same ∙ goes) ∙ sym (handed.original_on access t s goes))
       (λ stays. original_none access g s (same ∙ stays) ∙ sym (run.original_none access t s stays))

@@ -24,7 +24,7 @@ use Rattle.rules.specs.Judge.{afterwards, deactivation_tests, every_tests, first
 use Rattle.rules.specs.Judge.{tests_of, user_specified}
 use Rattle.rules.specs.Prefix.{begins_any}
 use Rattle.rules.specs.Selection.{number_asked}
-use Rattle.rules.proofs.Judges.{kind_known, subscribed-flag}
+use Rattle.rules.proofs.Judges.{kind_known, subscribed_flag}
 use Rattle.rules.proofs.Judges as rules
 use Rattle.rules.proofs.SelectedSames as run
 use Rattle.grid.specs.Grid.{GridShaped, grid_procedures, row_at}
@@ -33,9 +33,9 @@ use Rattle.grid.specs.Judge.{grid_judge, grid_no_room, grid_selected_same, grid_
 use Rattle.grid.specs.Row.{Row}
 use Rattle.grid.specs.Selection.{cell_places}
 use Rattle.grid.specs.Table.{GridTable, grid_table_good}
-use Rattle.grid.proofs.HeldListings.{listed-count}
-use Rattle.grid.proofs.HeldRequests.{count-alike}
-use Rattle.grid.proofs.Judges.{NoneHolds, judge-fails, judge-rest, none_holds, room-is, same_more, same_none}
+use Rattle.grid.proofs.HeldListings.{listed_count}
+use Rattle.grid.proofs.HeldRequests.{count_alike}
+use Rattle.grid.proofs.Judges.{NoneHolds, judge_fails, judge_rest, none_holds, room_is, same_more, same_none}
 use Rattle.grid.proofs.ProfilePlaces.{WholeProfile}
 use Rattle.grid.proofs.ProfilePlaces as profile
 use Rattle.grid.proofs.SameSelections.{number_same}
@@ -55,20 +55,20 @@ module _ (p : Profile) (whole : WholeProfile p) (r : Request) where
   own_same :
       (from : ℕ) (ns : List Number) →
       grid_selected_same p r from ns ≡ selected_same p (number_asked p r.served) r.to.address.number from ns
-  own_same from [] = same_none p r from ∙ sym (run.selected-none p (number_asked p r.served) r.to.address.number from)
+  own_same from [] = same_none p r from ∙ sym (run.selected_none p (number_asked p r.served) r.to.address.number from)
   own_same from (n ∷ ns) =
       rw (
         same_more p r from n ns,
-        run.selected-more p (number_asked p r.served) r.to.address.number from n ns,
+        run.selected_more p (number_asked p r.served) r.to.address.number from n ns,
         number_same p whole r from,
         own_same (1 + from) ns,
       )
 
   -- a request that no test of every request stops is of a subscribed procedure
-  every-subscribed :
+  every_subscribed :
       r.procedure < grid_procedures → first_error (every_tests p r) ≡ none → get_or p.subscribed r.procedure 0 ≡ 1
-  every-subscribed known every =
-      let flag = subscribed-flag p r.procedure (not-false (is_subscribed p r.procedure) (none_holds (every_tests p r) every).1.0) in
+  every_subscribed known every =
+      let flag = subscribed_flag p r.procedure (not-false (is_subscribed p r.procedure) (none_holds (every_tests p r) every).1.0) in
       omega (arith, (profile.rules p whole).flags r.procedure known, flag)
 
 module _ (p : Profile) (whole : WholeProfile p) (g : GridTable) (shaped : GridShaped g.grid) (good : grid_table_good instances_most p g ≡ true)
@@ -91,14 +91,14 @@ module _ (p : Profile) (whole : WholeProfile p) (g : GridTable) (shaped : GridSh
 
   module _ (every : first_error (every_tests p r) ≡ none) where
     -- where there is room in one there is in the other
-    room-same :
+    room_same :
         (own : Bool) → operation ≡ activation → NoneHolds (five own) →
         grid_no_room instances_most p (cell_places p r) row ≡ not (fits instances_most p (afterwards p r held))
-    room-same own activates quiet =
+    room_same own activates quiet =
         let address : address_good r.to.address ≡ true = to activates (kind_known r.to.address.number quiet.1.1.0) in
-        room-is instances_most p (cell_places p r) row
+        room_is instances_most p (cell_places p r) row
         ∙ ap (λ (n : ℕ). not (fits instances_most p n))
-        (count-alike p whole r g shaped known (every-subscribed p whole r known every) address good)
+        (count_alike p whole r g shaped known (every_subscribed p whole r known every) address good)
 
     tests_same :
         first_error (grid_tests_of instances_most p operation r (cell_places p r) row) ≡ first_error (tests_of instances_most p operation r held)
@@ -108,24 +108,24 @@ module _ (p : Profile) (whole : WholeProfile p) (g : GridTable) (shaped : GridSh
         let own : Bool = selected_same p (number_asked p r.served) r.to.address.number 0 (served_numbers p) in
         rw (e, own_same p whole r 0 (served_numbers p))
         (last_test (five own) 11 (grid_no_room instances_most p (cell_places p r) row) (not (fits instances_most p (afterwards p r held)))
-        (room-same own (eqb-true operation activation e))))
+        (room_same own (eqb-true operation activation e))))
         (λ (e : eqb operation activation ≡ false).
         by_bool _ (eqb operation deactivation)
         (λ (f : eqb operation deactivation ≡ true).
         rw (e, f)
-        (ap (λ (n : ℕ). first_error (deactivation_tests n)) (sym (listed-count instances_most p whole g good r known))))
+        (ap (λ (n : ℕ). first_error (deactivation_tests n)) (sym (listed_count instances_most p whole g good r known))))
         (λ (f : eqb operation deactivation ≡ false). rw (e, f)))
 
   judged_by :
       (v : Option ℕ) → first_error (every_tests p r) ≡ v →
       grid_judge instances_most p operation r (cell_places p r) row ≡ judge instances_most p operation r held
   judged_by none every =
-      judge-rest instances_most p operation r (cell_places p r) row every
+      judge_rest instances_most p operation r (cell_places p r) row every
       ∙ tests_same every
-      ∙ sym (rules.judge-rest instances_most p operation r held every)
+      ∙ sym (rules.judge_rest instances_most p operation r held every)
   judged_by (some e) fails =
-      judge-fails instances_most p operation r (cell_places p r) row e fails
-      ∙ sym (rules.judge-fails instances_most p operation r held e fails)
+      judge_fails instances_most p operation r (cell_places p r) row e fails
+      ∙ sym (rules.judge_fails instances_most p operation r held e fails)
 
-  pub judge-same : grid_judge instances_most p operation r (cell_places p r) row ≡ judge instances_most p operation r held
-  judge-same = judged_by (first_error (every_tests p r)) refl
+  pub judge_same : grid_judge instances_most p operation r (cell_places p r) row ≡ judge instances_most p operation r held
+  judge_same = judged_by (first_error (every_tests p r)) refl

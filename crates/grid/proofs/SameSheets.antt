@@ -7,7 +7,7 @@ use mathlib.Core.Logic.{⊎_elim}
 use mathlib.Core.Path.{◌∙◌, ◌≡◌, ap, refl, subst, sym}
 use lib.Dec.{ltb}
 use borrow.Author.Tests.{ltb-false, ltb-true}
-use Rattle.laws.proofs.Eaches.{each-so}
+use Rattle.laws.proofs.Eaches.{each_so}
 use Rattle.laws.proofs.Picks.{by_bool}
 use Rattle.refusals.specs.Handling.{made}
 use Rattle.refusals.specs.Refusal.{tells}
@@ -31,7 +31,7 @@ use Rattle.forms.proofs.Sheets.{FormFound, form_found, form_none}
 use Rattle.sheets.specs.Sheets.{ReadsSheet, read_sheet, wrote_sheet}
 use Rattle.sheets.specs.inner.Refused.{sheet_refused}
 use Rattle.sheets.proofs.ReadTables as run
-use Rattle.sheets.proofs.Tables.{reads-form, reads-outside, reads-profile, reads-table}
+use Rattle.sheets.proofs.Tables.{reads_form, reads_outside, reads_profile, reads_table}
 use Rattle.sheets.proofs.WrittenSheets as written
 use Rattle.grid.specs.Equal.{BothBreak, HoldSame, ReadSame, SameTable}
 use Rattle.grid.specs.Grid.{no_grid}
@@ -39,11 +39,11 @@ use Rattle.grid.specs.Holds.{holds}
 use Rattle.grid.specs.Sheets.{GridTableRead, all_placed, grid_all_in, grid_not_read, grid_read_sheet, grid_wrote_sheet}
 use Rattle.grid.specs.Table.{GridTable, grid_fresh}
 use Rattle.grid.proofs.PlacedCells.{Holdable}
-use Rattle.grid.proofs.PlacedGoods.{good-in, in-good, placed-holds, placed-whole}
+use Rattle.grid.proofs.PlacedGoods.{good_in, in_good, placed_holds, placed_whole}
 use Rattle.grid.proofs.ProfilePlaces.{access_whole}
-use Rattle.grid.proofs.ReadTables.{fields_holdable, read-from, read_good, read-profile}
+use Rattle.grid.proofs.ReadTables.{fields_holdable, read_from, read_good, read_profile}
 use Rattle.grid.proofs.SameTables.{fresh_same}
-use Rattle.grid.proofs.WrittenSheets.{writes-profile, writes_sheet, writes_short, writes-table}
+use Rattle.grid.proofs.WrittenSheets.{writes_profile, writes_sheet, writes_short, writes_table}
 
 -- ---- written
 
@@ -68,9 +68,9 @@ wrote_same access g t size so =
     ∙ ap (λ (is : List Instance). made (sheet_octets form1 t.last is)) same.held
     ∙ sym (written.writes_sheet access t size room ok same.run_good_lem))
     (λ (broken : BothBreak p g t).
-    writes-table access g size room ok broken.grid_bad ∙ sym (written.writes-table access t size room ok broken.run_bad))
+    writes_table access g size room ok broken.grid_bad ∙ sym (written.writes_table access t size room ok broken.run_bad))
     so)
-    (λ bad. writes-profile access g size room bad ∙ sym (written.writes-profile access t size room bad)))
+    (λ bad. writes_profile access g size room bad ∙ sym (written.writes_profile access t size room bad)))
 
 -- ---- read
 
@@ -82,8 +82,8 @@ module _ (access s : List ℕ) where
   Alike x = ReadSame p x (read_sheet access s)
 
   -- both refuse, and the tables are those of a new access
-  both-refuse : (refusal : Refusal) → ReadsSheet access s (sheet_refused refusal) → Alike (grid_not_read refusal)
-  both-refuse refusal reads = record {
+  both_refuse : (refusal : Refusal) → ReadsSheet access s (sheet_refused refusal) → Alike (grid_not_read refusal)
+  both_refuse refusal reads = record {
     told = reads.told;
     tables = subst (HoldSame p grid_fresh) reads.table (fresh_same p);
   }
@@ -100,32 +100,32 @@ module _ (access s : List ℕ) where
       is = was.sheet.instances
 
       -- the run of the sheet breaks no rule exactly if its instances are in the profile
-      held-good : run_good instances_most p form.run ≡ true → GoodList p instances_most is
-      held-good good = subst (GoodList p instances_most) was.instances (run_good_lem p instances_most form.run good)
+      held_good : run_good instances_most p form.run ≡ true → GoodList p instances_most is
+      held_good good = subst (GoodList p instances_most) was.instances (run_good_lem p instances_most form.run good)
 
-      run-held : grid_all_in p is ≡ true → run_good instances_most p form.run ≡ true
-      run-held all =
+      run_held : grid_all_in p is ≡ true → run_good instances_most p form.run ≡ true
+      run_held all =
           let order = order_of form1 is was.allowed.order in
-          let holdable = each-so (FieldsFit form1) Holdable fields_holdable is was.allowed.each in
+          let holdable = each_so (FieldsFit form1) Holdable fields_holdable is was.allowed.each in
           ap (run_good instances_most p) was.run
           ∙ good_run p is (record {
             ascends = up_of 0 is order.0;
-            each = in-good p (access_whole access ok) is holdable all;
+            each = in_good p (access_whole access ok) is holdable all;
             few = few_of instances_most is order.1;
           })
 
       both_read : run_good instances_most p form.run ≡ true → Alike (grid_read_sheet access s)
       both_read good =
           let whole = access_whole access ok in
-          let so = held-good good in
+          let so = held_good good in
           let read : grid_read_sheet access
           s ≡ record { told = tells tt; table = record { last = was.sheet.last; grid = all_placed p no_grid is } } =
-          read-from access s ok ∙ rw (was.is, good-in p whole is so.each) in
-          let reads = reads-table access s (access_read access) refl ok form refl formed good in
+          read_from access s ok ∙ rw (was.is, good_in p whole is so.each) in
+          let reads = reads_table access s (access_read access) refl ok form refl formed good in
           record {
             told = ap (λ (x : GridTableRead). x.told) read ∙ reads.told;
             tables = record {
-              shaped = rw read (placed-whole p whole instances_most is so);
+              shaped = rw read (placed_whole p whole instances_most is so);
               grid_good_lem = read_good access s (ap (λ (x : GridTableRead). x.told) read);
               run_good_lem = run.read_good access s (sym reads.told);
               last =
@@ -134,7 +134,7 @@ module _ (access s : List ℕ) where
                   ∙ ap (λ (t : Table). t.last) reads.table;
               held =
                   ap (λ (x : GridTableRead). holds x.table.grid) read
-                  ∙ placed-holds p whole instances_most is so
+                  ∙ placed_holds p whole instances_most is so
                   ∙ sym was.instances
                   ∙ ap (λ (t : Table). instances_of t.run) reads.table;
             };
@@ -143,9 +143,9 @@ module _ (access s : List ℕ) where
       none_read : run_good instances_most p form.run ≡ false → Alike (grid_read_sheet access s)
       none_read bad =
           let outside : grid_all_in p is ≡ false =
-          by_bool (grid_all_in p is ≡ false) (grid_all_in p is) (λ all. absurd (false≢true (sym bad ∙ run-held all))) (λ e. e) in
-          let read : grid_read_sheet access s ≡ grid_not_read BadSheet = read-from access s ok ∙ rw (was.is, outside) in
-          rw read (both-refuse BadSheet (reads-outside access s (access_read access) refl ok form refl formed bad
+          by_bool (grid_all_in p is ≡ false) (grid_all_in p is) (λ all. absurd (false≢true (sym bad ∙ run_held all))) (λ e. e) in
+          let read : grid_read_sheet access s ≡ grid_not_read BadSheet = read_from access s ok ∙ rw (was.is, outside) in
+          rw read (both_refuse BadSheet (reads_outside access s (access_read access) refl ok form refl formed bad
           (sheet_refused BadSheet) refl))
 
   -- any octets are refused alike, or read as tables that hold the same
@@ -157,9 +157,9 @@ module _ (access s : List ℕ) where
       (λ formed.
       by_bool (Alike (grid_read_sheet access s)) (run_good instances_most p (form ok).run) (both_read ok formed) (none_read ok formed))
       (λ unformed.
-      let read : grid_read_sheet access s ≡ grid_not_read BadSheet = read-from access s ok ∙ rw (form_none s (form ok) refl unformed) in
-      rw read (both-refuse BadSheet (reads-form access s (access_read access) refl ok (form ok) refl unformed
+      let read : grid_read_sheet access s ≡ grid_not_read BadSheet = read_from access s ok ∙ rw (form_none s (form ok) refl unformed) in
+      rw read (both_refuse BadSheet (reads_form access s (access_read access) refl ok (form ok) refl unformed
       (sheet_refused BadSheet) refl))))
       (λ bad.
-      rw (read-profile access s bad)
-      (both-refuse BadProfile (reads-profile access s (access_read access) refl bad (sheet_refused BadProfile) refl)))
+      rw (read_profile access s bad)
+      (both_refuse BadProfile (reads_profile access s (access_read access) refl bad (sheet_refused BadProfile) refl)))

@@ -17,8 +17,8 @@ use Rattle.grid.specs.Judge.{grid_applied}
 use Rattle.grid.specs.Row.{Places, Row, places}
 use Rattle.grid.specs.Step.{grid_moved}
 use Rattle.grid.specs.Table.{GridTable, grid_with_row}
-use Rattle.grid.proofs.Judges.{applied-ind}
-use Rattle.grid.proofs.Rows.{cells-clear, cells-put}
+use Rattle.grid.proofs.Judges.{applied_ind}
+use Rattle.grid.proofs.Rows.{cells_clear, cells_put}
 
 -- a grid that holds nothing
 pub none_row : (k : ℕ) → k < grid_procedures → row_at no_grid k ≡ no_row
@@ -56,7 +56,7 @@ shaped_moved p identifier t so =
 pub cells_applied :
     (operation : ℕ) (r : Request) (w : Places) (row : Row) → length (grid_applied operation r w row).cells ≡ length row.cells
 cells_applied operation r w row =
-    applied-ind r w row (λ x. length x.cells ≡ length row.cells) operation
-    (λ _. cells-put w r.to.address row)
-    (λ _. cells-clear w row)
+    applied_ind r w row (λ x. length x.cells ≡ length row.cells) operation
+    (λ _. cells_put w r.to.address row)
+    (λ _. cells_clear w row)
     refl

@@ -14,7 +14,7 @@ use Rattle.laws.specs.Pick.{pick}
 use Rattle.laws.specs.Places.{gathered}
 use Rattle.laws.proofs.Picks.{by_bool, pick_ind}
 use Rattle.laws.proofs.Stands.{stands_whole}
-use Rattle.laws.proofs.Walks.{gathered-more, gathered_none}
+use Rattle.laws.proofs.Walks.{gathered_more, gathered_none}
 use Rattle.refusals.specs.Refusal.{tells}
 use Rattle.numbers.specs.Address.{tidy_address}
 use Rattle.profile.specs.Access.{access_read}
@@ -26,17 +26,17 @@ use Rattle.instances.specs.declared.instance.Instance.{Instance}
 use Rattle.forms.specs.Form.{form1}
 use Rattle.forms.specs.Sheet.{sheet_octets}
 use Rattle.forms.proofs.Fits.{form1_short, tidy_twice, tidy_instance}
-use Rattle.forms.proofs.Trips.{sheet-back}
+use Rattle.forms.proofs.Trips.{sheet_back}
 use Rattle.grid.specs.Grid.{Grid, GridShaped, grid_procedures, no_grid, row_at}
 use Rattle.grid.specs.Row.{Cell, Row, active, cell_at, held, places}
 use Rattle.grid.specs.Holds.{grid_instance, holds, place_instances}
 use Rattle.grid.specs.Sheets.{GridTableRead, all_placed, grid_read_sheet, place_of_instance, grid_placed}
 use Rattle.grid.specs.Table.{GridTable, grid_table_good}
-use Rattle.grid.proofs.Cells.{active-some, held_none, held_same, held-some, is_active}
-use Rattle.grid.proofs.PlacedCells.{cell-else, cell-here, none_there, placed-shaped}
+use Rattle.grid.proofs.Cells.{active_some, held_none, held_same, held_some, is_active}
+use Rattle.grid.proofs.PlacedCells.{cell_else, cell_here, none_there, placed_shaped}
 use Rattle.grid.proofs.RowInstances.{row_of, rows_all}
 use Rattle.grid.proofs.Shapes.{shaped_none}
-use Rattle.grid.proofs.WrittenInstances.{GridArrays, one_place, table-all, table-sheeted}
+use Rattle.grid.proofs.WrittenInstances.{GridArrays, one_place, table_all, table_sheeted}
 
 -- ---- places in the order of procedures
 
@@ -48,26 +48,26 @@ below_next x n other =
     (λ e. rw (e, le-ltb x (suc n) (omega (arith, ltb-false x n e, other))))
 
 module _ (p : Profile) where
-  placed-both : (grid : Grid) (xs ys : List Instance) → all_placed p grid (xs ++ ys) ≡ all_placed p (all_placed p grid xs) ys
+  placed_both : (grid : Grid) (xs ys : List Instance) → all_placed p grid (xs ++ ys) ≡ all_placed p (all_placed p grid xs) ys
   unfolding all_placed
-  placed-both grid [] ys = refl
-  placed-both grid (x ∷ xs) ys = placed-both (grid_placed p grid x) xs ys
+  placed_both grid [] ys = refl
+  placed_both grid (x ∷ xs) ys = placed_both (grid_placed p grid x) xs ys
 
   -- a walk over what places give, place by place
-  placed-gathered :
+  placed_gathered :
       (P : ℕ → Grid → Type 0) (f : ℕ → List Instance) (n : ℕ) (grid : Grid) → P 0 grid →
       ((j : ℕ) (g : Grid) → j < n → P j g → P (suc j) (all_placed p g (map tidy_instance (f j)))) →
       P n (all_placed p grid (map tidy_instance (gathered f n)))
   unfolding all_placed
-  placed-gathered P f zero grid first step = rw (gathered_none f) first
-  placed-gathered P f (suc n) grid first step =
+  placed_gathered P f zero grid first step = rw (gathered_none f) first
+  placed_gathered P f (suc n) grid first step =
       rw (
-        gathered-more f n,
+        gathered_more f n,
         map-append tidy_instance (gathered f n) (f n),
-        placed-both grid (map tidy_instance (gathered f n)) (map tidy_instance (f n)),
+        placed_both grid (map tidy_instance (gathered f n)) (map tidy_instance (f n)),
       )
       (step n (all_placed p grid (map tidy_instance (gathered f n))) (omega arith)
-      (placed-gathered P f n grid first (λ j g lt. step j g (omega arith))))
+      (placed_gathered P f n grid first (λ j g lt. step j g (omega arith))))
 
 -- ---- a grid on which instances of a table were placed
 
@@ -121,57 +121,57 @@ module _ (p : Profile) (t : GridTable) (good : grid_table_good instances_most p 
       its : place_of_instance p one ≡ j
       its = one_place p t good profile long k j h lt there
 
-      its-room : place_of_instance p one < places
-      its-room = omega (arith, its, lt)
+      its_room : place_of_instance p one < places
+      its_room = omega (arith, its, lt)
 
-      its-cell : cell_at (row_at more k) j ≡ record { service = one.service; address = one.address }
-      its-cell = ap (λ (m : ℕ). cell_at (row_at more k) m) (sym its) ∙ cell-here p grid so.shaped one h its-room
+      its_cell : cell_at (row_at more k) j ≡ record { service = one.service; address = one.address }
+      its_cell = ap (λ (m : ℕ). cell_at (row_at more k) m) (sym its) ∙ cell_here p grid so.shaped one h its_room
 
       its_held : held (row_at more k) j ≡ held row j
       its_held =
           let used : active (row_at more k) j ≡ true =
-          is_active (row_at more k) j (λ e. active-some row j there (sym (ap (λ (x : Cell). x.service) its-cell) ∙ e)) in
-          held-some (row_at more k) j used
-          ∙ ap (λ (x : Cell). some (tidy_address x.address)) its-cell
+          is_active (row_at more k) j (λ e. active_some row j there (sym (ap (λ (x : Cell). x.service) its_cell) ∙ e)) in
+          held_some (row_at more k) j used
+          ∙ ap (λ (x : Cell). some (tidy_address x.address)) its_cell
           ∙ ap (λ (i : Instance). some i.address) (tidy_twice (grid_instance t.grid k j))
-          ∙ sym (held-some row j there)
+          ∙ sym (held_some row j there)
 
       copied_next : Copied t (suc (places * k + j)) more
       copied_next =
-          copied_step t k j h lt grid more so (placed-shaped p grid so.shaped one h its-room) its_held (λ l m other.
-          held_same (row_at more l) m (row_at grid l) (cell-else p grid so.shaped one h its-room l m (λ a b. other a (b ∙ its))))
+          copied_step t k j h lt grid more so (placed_shaped p grid so.shaped one h its_room) its_held (λ l m other.
+          held_same (row_at more l) m (row_at grid l) (cell_else p grid so.shaped one h its_room l m (λ a b. other a (b ∙ its))))
 
     -- where there is none, nothing is placed
-    copied-skip : active row j ≡ false → Copied t (suc (places * k + j)) grid
-    copied-skip empty =
+    copied_skip : active row j ≡ false → Copied t (suc (places * k + j)) grid
+    copied_skip empty =
         copied_step t k j h lt grid grid so so.shaped
         (so.holds k j h lt
         ∙ rw (le-ltb (places * k + j) (places * k + j) (omega arith)) (sym (held_none row j empty)))
         (λ l m _. refl)
 
-    copied-place : Copied t (places * k + suc j) (all_placed p grid (map tidy_instance (place_instances k row j)))
+    copied_place : Copied t (places * k + suc j) (all_placed p grid (map tidy_instance (place_instances k row j)))
     unfolding all_placed
-    copied-place =
+    copied_place =
         let next : places * k + suc j ≡ suc (places * k + j) = omega arith in
         rw next
         (pick_ind (λ is. Copied t (suc (places * k + j)) (all_placed p grid (map tidy_instance is))) (active row j)
         copied_next
-        copied-skip)
+        copied_skip)
 
-  copied-row :
+  copied_row :
       (k : ℕ) (grid : Grid) → k < grid_procedures → Copied t (places * k) grid →
       Copied t (places * suc k) (all_placed p grid (map tidy_instance (row_of t.grid k)))
-  copied-row k grid h so =
+  copied_row k grid h so =
       let next : places * suc k ≡ places * k + places = omega arith in
       rw next
-      (placed-gathered p (λ j g. Copied t (places * k + j) g) (place_instances k (row_at t.grid k)) places grid
+      (placed_gathered p (λ j g. Copied t (places * k + j) g) (place_instances k (row_at t.grid k)) places grid
       (rw (add-zero (places * k)) so)
-      (λ j g lt now. copied-place k j h lt g now))
+      (λ j g lt now. copied_place k j h lt g now))
 
   copied_all : Copied t (places * grid_procedures) (all_placed p no_grid (map tidy_instance (holds t.grid)))
   copied_all =
       rw (rows_all t.grid)
-      (placed-gathered p (λ k g. Copied t (places * k) g) (row_of t.grid) grid_procedures no_grid (copied_none t) copied-row)
+      (placed_gathered p (λ k g. Copied t (places * k) g) (row_of t.grid) grid_procedures no_grid (copied_none t) copied_row)
 
   all_held :
       (k j : ℕ) → k < grid_procedures → j < places →
@@ -202,11 +202,11 @@ table_back access t ok good arrays =
     let profile = access_good access ok in
     let long = access_services access in
     let s : List ℕ = sheet_octets form1 t.last (holds t.grid) in
-    let so = table-sheeted p t good profile long arrays in
+    let so = table_sheeted p t good profile long arrays in
     let found =
-    sheet-back form1 form1_short t.last (holds t.grid) s so.last so.each so.order (stands_whole s) refl in
+    sheet_back form1 form1_short t.last (holds t.grid) s so.last so.each so.order (stands_whole s) refl in
     let again : GridTable = record { last = t.last; grid = all_placed p no_grid (map tidy_instance (holds t.grid)) } in
-    let is : grid_read_sheet access s ≡ record { told = tells tt; table = again } = rw (ok, found, table-all p t good profile long) in
+    let is : grid_read_sheet access s ≡ record { told = tells tt; table = again } = rw (ok, found, table_all p t good profile long) in
     record {
       accepted = ap (λ (r : GridTableRead). r.told) is;
       alike = record {

@@ -154,61 +154,61 @@ groups_ends (suc j) (suc k) s at end last e f l lt some =
 
 -- ---- the ways out of `groups_at`
 module _ (s : List ℕ) (at end : ℕ) (in-s : end ≤ length s) where
-  groups-at-told : {x : Found} → groups_in (end - at) s at ≡ x → groups_at s at end ≡ groups_told x
+  groups_at_told : {x : Found} → groups_in (end - at) s at ≡ x → groups_at s at end ≡ groups_told x
   unfolding groups_at
-  groups-at-told e = rw (le-ltb (length s) end in-s, e)
+  groups_at_told e = rw (le-ltb (length s) end in-s, e)
 
   -- no octet left
-  pub groups-at-empty : end ≤ at → groups_at s at end ≡ Bad
+  pub groups_at_empty : end ≤ at → groups_at s at end ≡ Bad
   unfolding groups_in
-  groups-at-empty h = let none : end - at ≡ 0 = omega arith in groups-at-told {x = nothing} (rw none)
+  groups_at_empty h = let none : end - at ≡ 0 = omega arith in groups_at_told {x = nothing} (rw none)
 
   -- one group
-  pub groups-at-first : at < end → get_or s at 0 < 128 → groups_at s at end ≡ Is (get_or s at 0) (at + 1)
-  groups-at-first lt small =
+  pub groups_at_first : at < end → get_or s at 0 < 128 → groups_at s at end ≡ Is (get_or s at 0) (at + 1)
+  groups_at_first lt small =
       let some : end - at ≡ suc (end - at - 1) = omega arith in
-      groups-at-told {x = found (get_or s at 0) (at + 1)} (rw some (groups_last (end - at - 1) s at small))
+      groups_at_told {x = found (get_or s at 0) (at + 1)} (rw some (groups_last (end - at - 1) s at small))
       ∙ rw (lt-ltb (get_or s at 0) (2 ^ 32) (omega arith))
 
   module _ (last : ℕ) (lt : at < end) (big : 128 ≤ get_or s at 0) (l : LastAt s (at + 1) end last) where
     -- the last group is missing
-    pub groups-at-open : end ≤ last → groups_at s at end ≡ Bad
-    groups-at-open h =
+    pub groups_at_open : end ≤ last → groups_at s at end ≡ Bad
+    groups_at_open h =
         let same : last ≡ end = omega (arith, l.within) in
         let l' : LastAt s at end end = rw same at (last_wider s at end last big l) in
-        groups-at-told (groups_none (end - at) s at end (omega arith) l')
+        groups_at_told (groups_none (end - at) s at end (omega arith) l')
 
     -- the last group is 0
-    pub groups-at-zero : last < end → get_or s last 0 ≡ 0 → groups_at s at end ≡ Bad
-    groups-at-zero h z =
+    pub groups_at_zero : last < end → get_or s last 0 ≡ 0 → groups_at s at end ≡ Bad
+    groups_at_zero h z =
         let l' : LastAt s at end last = last_wider s at end last big l in
-        groups-at-told (groups_zero (last - at - 1) (end - at) s at end last (omega (arith, l.from)) (omega arith) l' h z)
+        groups_at_told (groups_zero (last - at - 1) (end - at) s at end last (omega (arith, l.from)) (omega arith) l' h z)
 
-    groups-at-found :
+    groups_at_found :
         last < end → (get_or s last 0 ≡ 0 → ⊥) →
         groups_in (end - at) s at ≡ found (groups_value (last + 1 - at) s at) (last + 1)
-    groups-at-found h some =
+    groups_at_found h some =
         let l' : LastAt s at end last = last_wider s at end last big l in
         let count : last + 1 - at ≡ suc (last - at) = omega (arith, l.from) in
         rw count (groups_ends (last - at) (end - at) s at end last (omega (arith, l.from)) (omega arith) l' h some)
 
     -- any other number
-    pub groups-at-ends :
+    pub groups_at_ends :
         last < end → (get_or s last 0 ≡ 0 → ⊥) →
         groups_at s at end ≡ groups_told (found (groups_value (last + 1 - at) s at) (last + 1))
-    groups-at-ends h some = groups-at-told (groups-at-found h some)
+    groups_at_ends h some = groups_at_told (groups_at_found h some)
 
     -- more groups than a number below 2 ^ 32 has
-    pub groups-at-large :
+    pub groups_at_large :
         last < end → (get_or s last 0 ≡ 0 → ⊥) → groups_most < last + 1 - at →
         groups_at s at end ≡ Large (last + 1)
-    groups-at-large h some many =
+    groups_at_large h some many =
         let v : ℕ = groups_value (last + 1 - at) s at in
         let least : 128 ^ (last - at) ≤ v =
-        groups_shortest (end - at) s at v (last + 1) (last - at) (groups-at-found h some) (omega arith) (omega arith) in
+        groups_shortest (end - at) s at v (last + 1) (last - at) (groups_at_found h some) (omega arith) (omega arith) in
         let most : groups_most ≤ last - at = omega arith in
         let power : 128 ^ groups_most ≤ 128 ^ (last - at) = pow-le-pow_right (omega arith) most in
-        groups-at-ends h some ∙ rw (le-ltb v (2 ^ 32) (omega arith))
+        groups_at_ends h some ∙ rw (le-ltb v (2 ^ 32) (omega arith))
 
 -- ---- the turns of `put_groups`
 

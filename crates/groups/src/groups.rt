@@ -5,7 +5,7 @@ ghost use Rattle.groups.specs.Groups.{GroupsAt, PutGroups, groups};
 ghost use Rattle.groups.specs.inner.Groups.{LastAt, groups_most, groups_value};
 
 // A number and the place after it; a number that 32 bits do not hold is only said to be one.
-#[derive(Drop)]
+#[derive(Clone, Copy)]
 pub enum Groups {
     Is { value: u32, next: usize },
     Large { next: usize },

@@ -66,13 +66,13 @@ gone_test b h = rw h
 -- ---- a code among others
 
 module _ (code : ℕ) (l : List ℕ) where
-  pub among-here : (x : ℕ) (m : List ℕ) → l ≡ x ∷ m → x ≡ code → among code l ≡ true
+  pub among_here : (x : ℕ) (m : List ℕ) → l ≡ x ∷ m → x ≡ code → among code l ≡ true
   unfolding among
-  among-here x m e h = rw (e, eq-eqb x code h)
+  among_here x m e h = rw (e, eq-eqb x code h)
 
-  pub among-on : (x : ℕ) (m : List ℕ) → l ≡ x ∷ m → (x ≡ code → ⊥) → among code l ≡ among code m
+  pub among_on : (x : ℕ) (m : List ℕ) → l ≡ x ∷ m → (x ≡ code → ⊥) → among code l ≡ among code m
   unfolding among
-  among-on x m e h = rw (e, ne_eqb x code h, pick_last (among code m))
+  among_on x m e h = rw (e, ne_eqb x code h, pick_last (among code m))
 
   pub among_none : l ≡ [] → among code l ≡ false
   unfolding among
@@ -81,11 +81,11 @@ module _ (code : ℕ) (l : List ℕ) where
 -- what stands at a place is among them
 stands_among : (code : ℕ) (codes : List ℕ) (k : ℕ) → k < length codes → get_or codes k 0 ≡ code → among code codes ≡ true
 stands_among code [] k h e = absurd (omega arith)
-stands_among code (x ∷ codes) zero h e = among-here code (x ∷ codes) x codes refl e
+stands_among code (x ∷ codes) zero h e = among_here code (x ∷ codes) x codes refl e
 stands_among code (x ∷ codes) (suc k) h e =
     by_bool (among code (x ∷ codes) ≡ true) (eqb x code)
-    (λ t. among-here code (x ∷ codes) x codes refl (eqb-true x code t))
-    (λ t. among-on code (x ∷ codes) x codes refl (eqb-false x code t) ∙ stands_among code codes k (omega arith) e)
+    (λ t. among_here code (x ∷ codes) x codes refl (eqb-true x code t))
+    (λ t. among_on code (x ∷ codes) x codes refl (eqb-false x code t) ∙ stands_among code codes k (omega arith) e)
 
 -- one that has a place is among them
 pub place_among : (code : ℕ) (codes : List ℕ) → place_of code codes < length codes → among code codes ≡ true
@@ -98,23 +98,23 @@ among_place code (x ∷ codes) h =
     by_bool (place_of code (x ∷ codes) < length (x ∷ codes)) (eqb x code)
     (λ t. omega (arith, place_first code (x ∷ codes) 0 (omega arith) (eqb-true x code t)))
     (λ t.
-    let later = among_place code codes (sym (among-on code (x ∷ codes) x codes refl (eqb-false x code t)) ∙ h) in
+    let later = among_place code codes (sym (among_on code (x ∷ codes) x codes refl (eqb-false x code t)) ∙ h) in
     omega (arith, later, place_first code (x ∷ codes) (suc (place_of code codes)) (omega arith) (place_stands code codes later)))
 
 -- ---- the instance of a procedure, number and service
 
 module _ (procedure number service : ℕ) (l : List Instance) where
-  pub find-here :
+  pub find_here :
       (x : Instance) (m : List Instance) → l ≡ x ∷ m → is_at procedure number service x ≡ true →
       forwarded_to procedure number service l ≡ some x.address
   unfolding forwarded_to
-  find-here x m e h = rw (e, h)
+  find_here x m e h = rw (e, h)
 
-  pub find-on :
+  pub find_on :
       (x : Instance) (m : List Instance) → l ≡ x ∷ m → is_at procedure number service x ≡ false →
       forwarded_to procedure number service l ≡ forwarded_to procedure number service m
   unfolding forwarded_to
-  find-on x m e h = rw (e, h)
+  find_on x m e h = rw (e, h)
 
   pub find_none : l ≡ [] → forwarded_to procedure number service l ≡ none
   unfolding forwarded_to
@@ -123,24 +123,24 @@ module _ (procedure number service : ℕ) (l : List Instance) where
 -- ---- what was asked for
 
 module _ (every asked is : ℕ) where
-  pub named-every : asked ≡ every → named every asked is ≡ true
+  pub named_every : asked ≡ every → named every asked is ≡ true
   unfolding named
-  named-every h = rw (eq-eqb asked every h)
+  named_every h = rw (eq-eqb asked every h)
 
-  pub named-one : (asked ≡ every → ⊥) → named every asked is ≡ eqb asked is
+  pub named_one : (asked ≡ every → ⊥) → named every asked is ≡ eqb asked is
   unfolding named
-  named-one h = rw (ne_eqb asked every h, pick_last (eqb asked is))
+  named_one h = rw (ne_eqb asked every h, pick_last (eqb asked is))
 
 -- ---- every instance of a procedure
 
 module _ (sel : Selection) (numbers : sel.number ≡ every_number) (services : sel.service ≡ every_service) where
   -- a selection of all numbers and all services chooses by the procedure
-  pub chosen-every : (x : Instance) → chosen sel x ≡ is_of sel.procedure x
+  pub chosen_every : (x : Instance) → chosen sel x ≡ is_of sel.procedure x
   unfolding chosen concerns selected
-  chosen-every x =
-      rw (named-every every_number sel.number x.number numbers, named-every every_service sel.service x.service services)
+  chosen_every x =
+      rw (named_every every_number sel.number x.number numbers, named_every every_service sel.service x.service services)
       (pick_last (is_of sel.procedure x))
 
   -- and spares those of other procedures alone
   pub spared_other : (x : Instance) → spared sel x ≡ true → is_of sel.procedure x ≡ false
-  spared_other x h = not_passed (is_of sel.procedure x) (ap not (sym (chosen-every x)) ∙ h)
+  spared_other x h = not_passed (is_of sel.procedure x) (ap not (sym (chosen_every x)) ∙ h)

@@ -10,7 +10,7 @@ use borrow.Author.Tests.{eq-eqb, ne_eqb}
 use Rattle.laws.specs.Pick.{pick}
 use Rattle.laws.specs.Tests.{all}
 use Rattle.laws.proofs.Picks.{pick_ind, by_bool}
-use Rattle.laws.proofs.Thoses.{those-take, those-skip, those_none}
+use Rattle.laws.proofs.Thoses.{those_take, those_skip, those_none}
 use Rattle.laws.proofs.Eaches.{Each}
 use Rattle.numbers.specs.declared.address.Address.{Address}
 use Rattle.profile.specs.declared.profile.Profile.{Profile}
@@ -25,11 +25,11 @@ use Rattle.instances.proofs.Choices.{kept_test, gone_test}
 -- ---- one more, of this procedure or of another
 
 module _ (q : ℕ) (l m : List Instance) (x : Instance) (e : l ≡ x ∷ m) where
-  pub count-this : x.procedure ≡ q → count_of q l ≡ suc (count_of q m)
-  count-this h = ap length (those-take (is_of q) l m x e (eq-eqb x.procedure q h))
+  pub count_this : x.procedure ≡ q → count_of q l ≡ suc (count_of q m)
+  count_this h = ap length (those_take (is_of q) l m x e (eq-eqb x.procedure q h))
 
-  pub count-other : (x.procedure ≡ q → ⊥) → count_of q l ≡ count_of q m
-  count-other h = ap length (those-skip (is_of q) l m x e (ne_eqb x.procedure q h))
+  pub count_other : (x.procedure ≡ q → ⊥) → count_of q l ≡ count_of q m
+  count_other h = ap length (those_skip (is_of q) l m x e (ne_eqb x.procedure q h))
 
 -- ---- counted one by one: what is still to come, and what was counted of each procedure
 
@@ -40,38 +40,38 @@ pub record Tallied (whole left : List Instance) (a b c : ℕ) : Type 0 where
 
 module _ (whole l m : List Instance) (x : Instance) (a b c : ℕ) (e : l ≡ x ∷ m) (so : Tallied whole l a b c) where
   at0 : (x.procedure ≡ 0 → ⊥) → count_of 0 l ≡ count_of 0 m
-  at0 = count-other 0 l m x e
+  at0 = count_other 0 l m x e
 
   at1 : (x.procedure ≡ 1 → ⊥) → count_of 1 l ≡ count_of 1 m
-  at1 = count-other 1 l m x e
+  at1 = count_other 1 l m x e
 
   at2 : (x.procedure ≡ 2 → ⊥) → count_of 2 l ≡ count_of 2 m
-  at2 = count-other 2 l m x e
+  at2 = count_other 2 l m x e
 
-  pub tally-first : x.procedure ≡ 0 → Tallied whole m (a + 1) b c
-  tally-first h = record {
-    cfu = omega (arith, so.cfu, count-this 0 l m x e h);
+  pub tally_first : x.procedure ≡ 0 → Tallied whole m (a + 1) b c
+  tally_first h = record {
+    cfu = omega (arith, so.cfu, count_this 0 l m x e h);
     cfb = omega (arith, so.cfb, at1 (λ q. omega arith));
     cfnr = omega (arith, so.cfnr, at2 (λ q. omega arith));
   }
 
-  pub tally-second : x.procedure ≡ 1 → Tallied whole m a (b + 1) c
-  tally-second h = record {
+  pub tally_second : x.procedure ≡ 1 → Tallied whole m a (b + 1) c
+  tally_second h = record {
     cfu = omega (arith, so.cfu, at0 (λ q. omega arith));
-    cfb = omega (arith, so.cfb, count-this 1 l m x e h);
+    cfb = omega (arith, so.cfb, count_this 1 l m x e h);
     cfnr = omega (arith, so.cfnr, at2 (λ q. omega arith));
   }
 
-  pub tally-third : x.procedure ≡ 2 → Tallied whole m a b (c + 1)
-  tally-third h = record {
+  pub tally_third : x.procedure ≡ 2 → Tallied whole m a b (c + 1)
+  tally_third h = record {
     cfu = omega (arith, so.cfu, at0 (λ q. omega arith));
     cfb = omega (arith, so.cfb, at1 (λ q. omega arith));
-    cfnr = omega (arith, so.cfnr, count-this 2 l m x e h);
+    cfnr = omega (arith, so.cfnr, count_this 2 l m x e h);
   }
 
   -- of no procedure
-  pub tally-none : (x.procedure ≡ 0 → ⊥) → (x.procedure ≡ 1 → ⊥) → (x.procedure ≡ 2 → ⊥) → Tallied whole m a b c
-  tally-none f g h = record {
+  pub tally_none : (x.procedure ≡ 0 → ⊥) → (x.procedure ≡ 1 → ⊥) → (x.procedure ≡ 2 → ⊥) → Tallied whole m a b c
+  tally_none f g h = record {
     cfu = omega (arith, so.cfu, at0 f);
     cfb = omega (arith, so.cfb, at1 g);
     cfnr = omega (arith, so.cfnr, at2 h);
@@ -92,21 +92,21 @@ tallied whole left a b c most e so =
 -- ---- of a deactivation, met one by one
 
 module _ (sel : Selection) (is js : List Instance) (x : Instance) (e : is ≡ x ∷ js) where
-  pub after-chosen : (q : ℕ) → chosen sel x ≡ true → count_of q (deactivated sel is) ≡ count_of q (deactivated sel js)
-  after-chosen q h = ap (count_of q) (those-skip (spared sel) is js x e (gone_test _ h))
+  pub after_chosen : (q : ℕ) → chosen sel x ≡ true → count_of q (deactivated sel is) ≡ count_of q (deactivated sel js)
+  after_chosen q h = ap (count_of q) (those_skip (spared sel) is js x e (gone_test _ h))
 
   pub after_one :
       (q : ℕ) → x.procedure ≡ q → chosen sel x ≡ false →
       count_of q (deactivated sel is) ≡ suc (count_of q (deactivated sel js))
   after_one q same h =
-      count-this q (deactivated sel is) (deactivated sel js) x (those-take (spared sel) is js x e (kept_test _ h)) same
+      count_this q (deactivated sel is) (deactivated sel js) x (those_take (spared sel) is js x e (kept_test _ h)) same
 
-  pub after-other :
+  pub after_other :
       (q : ℕ) → (x.procedure ≡ q → ⊥) → count_of q (deactivated sel is) ≡ count_of q (deactivated sel js)
-  after-other q other =
+  after_other q other =
       by_bool (count_of q (deactivated sel is) ≡ count_of q (deactivated sel js)) (chosen sel x)
-      (after-chosen q)
-      (λ h. count-other q (deactivated sel is) (deactivated sel js) x (those-take (spared sel) is js x e (kept_test _ h)) other)
+      (after_chosen q)
+      (λ h. count_other q (deactivated sel is) (deactivated sel js) x (those_take (spared sel) is js x e (kept_test _ h)) other)
 
 -- ---- of two lists as one
 
@@ -117,8 +117,8 @@ one q x = pick (is_of q x) 1 0
 pub count_cons : (q : ℕ) (x : Instance) (xs : List Instance) → count_of q (x ∷ xs) ≡ one q x + count_of q xs
 count_cons q x xs =
     by_bool (count_of q (x ∷ xs) ≡ one q x + count_of q xs) (is_of q x)
-    (λ h. rw h (omega (arith, ap length (those-take (is_of q) (x ∷ xs) xs x refl h))))
-    (λ h. rw h (omega (arith, ap length (those-skip (is_of q) (x ∷ xs) xs x refl h))))
+    (λ h. rw h (omega (arith, ap length (those_take (is_of q) (x ∷ xs) xs x refl h))))
+    (λ h. rw h (omega (arith, ap length (those_skip (is_of q) (x ∷ xs) xs x refl h))))
 
 pub count_merged : (q : ℕ) (xs ys : List Instance) → count_of q (merged xs ys) ≡ count_of q xs + count_of q ys
 unfolding merged
@@ -137,7 +137,7 @@ pub count_made :
     (q : ℕ) (address : Address) (ws : List Place) → count_of q (map (instance_at q address) ws) ≡ length ws
 count_made q address [] = ap length (those_none (is_of q) [] refl)
 count_made q address (w ∷ ws) =
-    count-this q _ (map (instance_at q address) ws) (instance_at q address w) refl refl ∙ ap suc (count_made q address ws)
+    count_this q _ (map (instance_at q address) ws) (instance_at q address w) refl refl ∙ ap suc (count_made q address ws)
 
 -- ---- after an activation: the places that are selected, and the instances that are not, whatever the address is
 pub count_activated :

@@ -10,7 +10,7 @@ use borrow.Author.Tests.{eq-eqb, lt-ltb, ltb-true, eqb-true}
 use Rattle.laws.specs.Tests.{all}
 use Rattle.laws.proofs.Picks.{pick_ind, pick_last, by_bool}
 use Rattle.laws.proofs.Tests.{all_at, both_hold}
-use Rattle.laws.proofs.Eaches.{Each, each-so}
+use Rattle.laws.proofs.Eaches.{Each, each_so}
 use Rattle.codes.specs.Codes.{service_code}
 use Rattle.codes.proofs.Tables.{service_most}
 use Rattle.numbers.specs.Address.{address_good}
@@ -33,7 +33,7 @@ among_later code x codes h = rw h (pick_ind (λ t. t ≡ true) (eqb x code) {x =
 pub among_all : (codes : List ℕ) → Each (λ code. among code codes ≡ true) codes
 among_all [] = tt
 among_all (x ∷ codes) =
-    (among_first x codes, each-so (λ code. among code codes ≡ true) _ (λ code h. among_later code x codes h) codes (among_all codes))
+    (among_first x codes, each_so (λ code. among code codes ≡ true) _ (λ code h. among_later code x codes h) codes (among_all codes))
 
 -- the services of a profile are known ones, above what comes before them
 pub among_known :
@@ -73,9 +73,9 @@ pub record Fits (subscribed : List ℕ) (numbers : ℕ) (services : List ℕ) (x
   pub address : address_good x.address ≡ true
 
 module _ (subscribed : List ℕ) (numbers : ℕ) (services : List ℕ) (x : Instance) where
-  pub fits-of : instance_fits subscribed numbers services x ≡ true → Fits subscribed numbers services x
+  pub fits_of : instance_fits subscribed numbers services x ≡ true → Fits subscribed numbers services x
   unfolding instance_fits
-  fits-of h =
+  fits_of h =
       let tests = ltb x.procedure procedures
       ∷ eqb (get_or subscribed x.procedure 0) 1
       ∷ ltb x.number numbers
@@ -90,9 +90,9 @@ module _ (subscribed : List ℕ) (numbers : ℕ) (services : List ℕ) (x : Inst
         address = all_at tests 4 h;
       }
 
-  pub fits-is : Fits subscribed numbers services x → instance_fits subscribed numbers services x ≡ true
+  pub fits_is : Fits subscribed numbers services x → instance_fits subscribed numbers services x ≡ true
   unfolding instance_fits
-  fits-is h = rw (
+  fits_is h = rw (
     lt-ltb x.procedure procedures h.procedure,
     eq-eqb (get_or subscribed x.procedure 0) 1 h.subscribes,
     lt-ltb x.number numbers h.number,
@@ -101,17 +101,17 @@ module _ (subscribed : List ℕ) (numbers : ℕ) (services : List ℕ) (x : Inst
   )
 
   -- what fits has a place
-  pub fits-place : Fits subscribed numbers services x → all (ltb x.number numbers ∷ among x.service services ∷ []) ≡ true
-  fits-place h = rw (lt-ltb x.number numbers h.number, h.service)
+  pub fits_place : Fits subscribed numbers services x → all (ltb x.number numbers ∷ among x.service services ∷ []) ≡ true
+  fits_place h = rw (lt-ltb x.number numbers h.number, h.service)
 
   -- what has a place fits, by its procedure and address
-  pub fits-made :
+  pub fits_made :
       x.procedure < 3 → get_or subscribed x.procedure 0 ≡ 1 →
       all (ltb x.number numbers ∷ among x.service services ∷ []) ≡ true → address_good x.address ≡ true →
       instance_fits subscribed numbers services x ≡ true
-  fits-made three subscribes place address =
+  fits_made three subscribes place address =
       let t = both_hold (ltb x.number numbers) (among x.service services) place in
-      fits-is record {
+      fits_is record {
         procedure = three;
         subscribes = subscribes;
         number = ltb-true x.number numbers t.0;
@@ -120,7 +120,7 @@ module _ (subscribed : List ℕ) (numbers : ℕ) (services : List ℕ) (x : Inst
       }
 
   -- what breaks a rule does not fit
-  pub not-fits : (Fits subscribed numbers services x → ⊥) → instance_fits subscribed numbers services x ≡ false
-  not-fits h =
+  pub not_fits : (Fits subscribed numbers services x → ⊥) → instance_fits subscribed numbers services x ≡ false
+  not_fits h =
       let fits = instance_fits subscribed numbers services x in
-      by_bool (fits ≡ false) fits (λ t. absurd (h (fits-of t))) (λ t. t)
+      by_bool (fits ≡ false) fits (λ t. absurd (h (fits_of t))) (λ t. t)

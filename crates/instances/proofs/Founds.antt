@@ -16,7 +16,7 @@ use Rattle.instances.specs.Instance.{every_number, every_service, instance_of, i
 use Rattle.instances.specs.Run.{forwarded_to}
 use Rattle.instances.specs.declared.instance.Instance.{Instance}
 use Rattle.instances.specs.declared.instance.Selection.{Selection}
-use Rattle.instances.proofs.Choices.{find-here, find-on, find_none}
+use Rattle.instances.proofs.Choices.{find_here, find_on, find_none}
 use Rattle.instances.proofs.Keys.{Small, key_same}
 
 -- an address is found, or it is not
@@ -33,19 +33,19 @@ some_same a b h = ap (λ o. inside a o) h
 -- ---- the instance of a procedure, number and service
 
 module _ (q n s : ℕ) (x : Instance) where
-  pub is-at : x.procedure ≡ q → x.number ≡ n → x.service ≡ s → is_at q n s x ≡ true
+  pub is_at_lem : x.procedure ≡ q → x.number ≡ n → x.service ≡ s → is_at q n s x ≡ true
   unfolding is_at
-  is-at a b c = rw (eq-eqb x.procedure q a, eq-eqb x.number n b, eq-eqb x.service s c)
+  is_at_lem a b c = rw (eq-eqb x.procedure q a, eq-eqb x.number n b, eq-eqb x.service s c)
 
-  pub at-is : is_at q n s x ≡ true → (x.procedure ≡ q) × (x.number ≡ n) × (x.service ≡ s)
+  pub at_is : is_at q n s x ≡ true → (x.procedure ≡ q) × (x.number ≡ n) × (x.service ≡ s)
   unfolding is_at
-  at-is h =
+  at_is h =
       let tests : List Bool = eqb x.procedure q ∷ eqb x.number n ∷ eqb x.service s ∷ [] in
       (eqb-true x.procedure q (all_at tests 0 h), eqb-true x.number n (all_at tests 1 h), eqb-true x.service s (all_at tests 2 h))
 
   pub not_at : (x.procedure ≡ q → x.number ≡ n → x.service ≡ s → ⊥) → is_at q n s x ≡ false
   not_at h =
-      by_bool (is_at q n s x ≡ false) (is_at q n s x) (λ e. let is = at-is e in absurd (h is.0 is.1 is.2)) (λ e. e)
+      by_bool (is_at q n s x ≡ false) (is_at q n s x) (λ e. let is = at_is e in absurd (h is.0 is.1 is.2)) (λ e. e)
 
 -- ---- what is found in two lists, one after the other
 
@@ -54,31 +54,31 @@ module _ (q n s : ℕ) where
   found_after [] ys h = refl
   found_after (x ∷ xs) ys h =
       by_bool (forwarded_to q n s (x ∷ xs ++ ys) ≡ forwarded_to q n s ys) (is_at q n s x)
-      (λ e. absurd (some_none (sym (find-here q n s (x ∷ xs) x xs refl e) ∙ h)))
-      (λ e. find-on q n s (x ∷ xs ++ ys) x (xs ++ ys) refl e ∙ found_after xs ys (sym (find-on q n s (x ∷ xs) x xs refl e) ∙ h))
+      (λ e. absurd (some_none (sym (find_here q n s (x ∷ xs) x xs refl e) ∙ h)))
+      (λ e. find_on q n s (x ∷ xs ++ ys) x (xs ++ ys) refl e ∙ found_after xs ys (sym (find_on q n s (x ∷ xs) x xs refl e) ∙ h))
 
   pub found_before : (xs ys : List Instance) → forwarded_to q n s ys ≡ none → forwarded_to q n s (xs ++ ys) ≡ forwarded_to q n s xs
   found_before [] ys h = h ∙ sym (find_none q n s [] refl)
   found_before (x ∷ xs) ys h =
       by_bool (forwarded_to q n s (x ∷ xs ++ ys) ≡ forwarded_to q n s (x ∷ xs)) (is_at q n s x)
-      (λ e. find-here q n s (x ∷ xs ++ ys) x (xs ++ ys) refl e ∙ sym (find-here q n s (x ∷ xs) x xs refl e))
+      (λ e. find_here q n s (x ∷ xs ++ ys) x (xs ++ ys) refl e ∙ sym (find_here q n s (x ∷ xs) x xs refl e))
       (λ e.
-      find-on q n s (x ∷ xs ++ ys) x (xs ++ ys) refl e
+      find_on q n s (x ∷ xs ++ ys) x (xs ++ ys) refl e
       ∙ found_before xs ys h
-      ∙ sym (find-on q n s (x ∷ xs) x xs refl e))
+      ∙ sym (find_on q n s (x ∷ xs) x xs refl e))
 
   -- ---- in a list that ascends
 
   -- there is none whose key is not above what comes before
-  pub found-low : (b : ℕ) (l : List Instance) → Up key_of b l → key q n s ≤ b → forwarded_to q n s l ≡ none
-  found-low b [] up low = find_none q n s [] refl
-  found-low b (x ∷ l) up low =
-      find-on q n s (x ∷ l) x l refl
+  pub found_low : (b : ℕ) (l : List Instance) → Up key_of b l → key q n s ≤ b → forwarded_to q n s l ≡ none
+  found_low b [] up low = find_none q n s [] refl
+  found_low b (x ∷ l) up low =
+      find_on q n s (x ∷ l) x l refl
       (not_at q n s x (λ i j k. let same : key_of x ≡ key q n s = rw (i, j, k) in omega (arith, same, low, up.0)))
-      ∙ found-low (key_of x) l up.1 (omega (arith, low, up.0))
+      ∙ found_low (key_of x) l up.1 (omega (arith, low, up.0))
 
 found_own : (x : Instance) (l : List Instance) → forwarded_to x.procedure x.number x.service (x ∷ l) ≡ some x.address
-found_own x l = find-here _ _ _ (x ∷ l) x l refl (is-at _ _ _ x refl refl refl)
+found_own x l = find_here _ _ _ (x ∷ l) x l refl (is_at_lem _ _ _ x refl refl refl)
 
 -- the first of a list in which the instance x is found has no higher key
 first_low :
@@ -88,7 +88,7 @@ first_low x y b ys up found =
     by_bool (key_of y ≤ key_of x) (ltb (key_of x) (key_of y))
     (λ e.
     let less = ltb-true (key_of x) (key_of y) e in
-    absurd (some_none (sym found ∙ found-low _ _ _ (key_of x) (y ∷ ys) (less, up.1) (omega arith))))
+    absurd (some_none (sym found ∙ found_low _ _ _ (key_of x) (y ∷ ys) (less, up.1) (omega arith))))
     (λ e. ltb-false (key_of x) (key_of y) e)
 
 -- lists in which the same is found everywhere
@@ -97,8 +97,8 @@ FoundSame xs ys = (q n s : ℕ) → forwarded_to q n s xs ≡ forwarded_to q n s
 
 module _ (b : ℕ) (x y : Instance) (xs ys : List Instance) (ups : Up key_of b (x ∷ xs)) (upt : Up key_of b (y ∷ ys)) (smallx : Small x)
     (smally : Small y) (same : FoundSame (x ∷ xs) (y ∷ ys)) where
-  keys-same : (x.procedure ≡ y.procedure) × (x.number ≡ y.number) × (x.service ≡ y.service)
-  keys-same =
+  keys_same : (x.procedure ≡ y.procedure) × (x.number ≡ y.number) × (x.service ≡ y.service)
+  keys_same =
       let low = first_low x y b ys upt (sym (same _ _ _) ∙ found_own x xs) in
       let high = first_low y x b xs ups (same _ _ _ ∙ found_own y ys) in
       key_same _ _ _ _ _ _ smallx.0 smally.0 smallx.1 smally.1 (omega (arith, low, high))
@@ -106,7 +106,7 @@ module _ (b : ℕ) (x y : Instance) (xs ys : List Instance) (ups : Up key_of b (
   -- the first is the same
   firsts_same : x ≡ y
   firsts_same =
-      let keys = keys-same in
+      let keys = keys_same in
       let there : forwarded_to x.procedure x.number x.service (y ∷ ys) ≡ some y.address =
       rw (keys.0, keys.1, keys.2) (found_own y ys) in
       let address : x.address ≡ y.address = some_same _ _ (sym (found_own x xs) ∙ same _ _ _ ∙ there) in
@@ -116,19 +116,19 @@ module _ (b : ℕ) (x y : Instance) (xs ys : List Instance) (ups : Up key_of b (
       ∙ ap (λ (a : Address). instance_of y.procedure y.number y.service a) address
 
   -- and so is the rest
-  rests-found : FoundSame xs ys
-  rests-found q n s =
+  rests_found : FoundSame xs ys
+  rests_found q n s =
       by_bool (forwarded_to q n s xs ≡ forwarded_to q n s ys) (is_at q n s x)
       (λ e.
-      let is = at-is q n s x e in
+      let is = at_is q n s x e in
       let here : key q n s ≡ key_of x = rw (sym is.0, sym is.1, sym is.2) in
       let there : key_of x ≡ key_of y = ap key_of firsts_same in
-      found-low q n s (key_of x) xs ups.1 (omega (arith, here))
-      ∙ sym (found-low q n s (key_of y) ys upt.1 (omega (arith, here, there))))
+      found_low q n s (key_of x) xs ups.1 (omega (arith, here))
+      ∙ sym (found_low q n s (key_of y) ys upt.1 (omega (arith, here, there))))
       (λ e.
-      sym (find-on q n s (x ∷ xs) x xs refl e)
+      sym (find_on q n s (x ∷ xs) x xs refl e)
       ∙ same q n s
-      ∙ find-on q n s (y ∷ ys) y ys refl (ap (is_at q n s) (sym firsts_same) ∙ e))
+      ∙ find_on q n s (y ∷ ys) y ys refl (ap (is_at q n s) (sym firsts_same) ∙ e))
 
 -- two lists that ascend and in which the same is found are one list
 pub found_same :
@@ -140,7 +140,7 @@ found_same b (x ∷ xs) [] ups upt smalls smallt same =
     absurd (some_none (sym (found_own x xs) ∙ same _ _ _ ∙ find_none _ _ _ [] refl))
 found_same b (x ∷ xs) (y ∷ ys) ups upt smalls smallt same =
     let one = firsts_same b x y xs ys ups upt smalls.0 smallt.0 same in
-    let rest = rests-found b x y xs ys ups upt smalls.0 smallt.0 same in
+    let rest = rests_found b x y xs ys ups upt smalls.0 smallt.0 same in
     let up : Up key_of (key_of x) ys = rw one upt.1 in
     ap (λ (l : List Instance). x ∷ l) (found_same (key_of x) xs ys ups.1 up smalls.1 smallt.1 rest)
     ∙ ap (λ (i : Instance). i ∷ ys) one

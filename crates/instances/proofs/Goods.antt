@@ -11,7 +11,7 @@ use borrow.Author.Tests.{le-leb, leb-true, eqb-true, eqb-false}
 use Rattle.laws.proofs.Picks.{pick_last, by_bool}
 use Rattle.laws.proofs.Tests.{all_at, both_hold}
 use Rattle.laws.proofs.Thoses.{those_none, those_fewer}
-use Rattle.laws.proofs.Eaches.{Each, each-so, each_append, each-those, each_map, Up, up-low, up-those, up_map}
+use Rattle.laws.proofs.Eaches.{Each, each_so, each_append, each_those, each_map, Up, up_low, up_those, up_map}
 use Rattle.codes.proofs.Tables.{service_most}
 use Rattle.numbers.specs.Address.{address_good}
 use Rattle.numbers.specs.declared.address.Address.{Address}
@@ -29,9 +29,9 @@ use Rattle.instances.specs.declared.places.Place.{Place}
 use Rattle.instances.specs.declared.run.Run.{Run}
 use Rattle.instances.proofs.Runs.{packed_all}
 use Rattle.instances.proofs.Choices.{concerns_own, is_chosen}
-use Rattle.instances.proofs.Counts.{count-other, count_merged, all_three}
+use Rattle.instances.proofs.Counts.{count_other, count_merged, all_three}
 use Rattle.instances.proofs.Keys.{key_more, key_next, key_top, Small, key_same, up_of, up_ascending, each_merged, up_merged}
-use Rattle.instances.proofs.Fits.{among_all, among_small, goods_of, goods_all, fits-of, fits-is}
+use Rattle.instances.proofs.Fits.{among_all, among_small, goods_of, goods_all, fits_of, fits_is}
 
 -- two of which one is chosen and one is not
 key_apart :
@@ -47,26 +47,26 @@ key_apart sel x y hx hy e =
 -- ---- the places of a profile, each with the address
 
 module _ (q : ℕ) where
-  abbrev pub placeKey : Place → ℕ
-  placeKey w = key q w.number w.service
+  abbrev pub place_key : Place → ℕ
+  place_key w = key q w.number w.service
 
-  up-row :
+  up_row :
       (a low : ℕ) (codes : List ℕ) (rest : List Place) → low ≤ 255 → rising low codes ≡ true →
-      Up placeKey (key q a 255) rest → Up placeKey (key q a low) (map (place_for a) codes ++ rest)
-  up-row a low [] rest few h u = up-low placeKey (key q a low) (key q a 255) rest (key_top q a low few) u
-  up-row a low (code ∷ codes) rest few h u =
+      Up place_key (key q a 255) rest → Up place_key (key q a low) (map (place_for a) codes ++ rest)
+  up_row a low [] rest few h u = up_low place_key (key q a low) (key q a 255) rest (key_top q a low few) u
+  up_row a low (code ∷ codes) rest few h u =
       let first = rising_first low code codes h in
-      (key_more q a low code first.above, up-row a code codes rest (omega (arith, service_most code first.known)) first.rest u)
+      (key_more q a low code first.above, up_row a code codes rest (omega (arith, service_most code first.known)) first.rest u)
 
-  pub up-places :
+  pub up_places :
       (services : List ℕ) (many from : ℕ) → rising 0 services ≡ true →
-      Up placeKey (key q from 0) (places_from services many from)
+      Up place_key (key q from 0) (places_from services many from)
   unfolding places_from
-  up-places services zero from h = tt
-  up-places services (suc many) from h =
+  up_places services zero from h = tt
+  up_places services (suc many) from h =
       let rest = places_from services many (suc from) in
-      up-row from 0 services rest (omega arith) h
-      (up-low placeKey (key q from 255) (key q (suc from) 0) rest (key_next q from) (up-places services many (suc from) h))
+      up_row from 0 services rest (omega arith) h
+      (up_low place_key (key q from 255) (key q (suc from) 0) rest (key_next q from) (up_places services many (suc from) h))
 
 -- a number and a service of a profile
 abbrev Held : ℕ → List ℕ → Place → Type 0
@@ -80,7 +80,7 @@ each_places numbers services zero from h = tt
 each_places numbers services (suc many) from h =
     each_append (Held numbers services) (map (place_for from) services) (places_from services many (suc from))
     (each_map (Held numbers services) (place_for from) services
-    (each-so (λ code. among code services ≡ true) _ (λ code e. (omega arith, e)) services (among_all services)))
+    (each_so (λ code. among code services ≡ true) _ (λ code e. (omega arith, e)) services (among_all services)))
     (each_places numbers services many (suc from) (omega arith))
 
 -- ---- how many of each procedure
@@ -124,8 +124,8 @@ list_good_lem p most l so = rw (up_ascending 0 l so.ascends, goods_all (instance
 -- good instances find room
 pub good_short : (p : Profile) (l : List Instance) → GoodList p instances_most l → length l ≤ run_most
 good_short p l so =
-    let procedures = each-so (λ x. instance_good p x ≡ true) (λ x. x.procedure < 3)
-    (λ x h. (fits-of p.subscribed p.numbercount (subscribed_services p) x h).procedure) l so.each in
+    let procedures = each_so (λ x. instance_good p x ≡ true) (λ x. x.procedure < 3)
+    (λ x h. (fits_of p.subscribed p.numbercount (subscribed_services p) x h).procedure) l so.each in
     omega (arith, all_three l procedures, so.few.0, so.few.1, so.few.2)
 
 -- a run that breaks no rule, and the record of good instances
@@ -157,9 +157,9 @@ empty_good p =
 pub cleared_good :
     (p : Profile) (sel : Selection) (most : ℕ) (l : List Instance) → GoodList p most l → GoodList p most (deactivated sel l)
 cleared_good p sel most l so = record {
-  ascends = up-those key_of (spared sel) 0 l so.ascends;
-  each = each-so (λ x. (instance_good p x ≡ true) × (spared sel x ≡ true)) (λ x. instance_good p x ≡ true) (λ x h. h.0)
-      (deactivated sel l) (each-those (λ x. instance_good p x ≡ true) (spared sel) l so.each);
+  ascends = up_those key_of (spared sel) 0 l so.ascends;
+  each = each_so (λ x. (instance_good p x ≡ true) × (spared sel x ≡ true)) (λ x. instance_good p x ≡ true) (λ x h. h.0)
+      (deactivated sel l) (each_those (λ x. instance_good p x ≡ true) (spared sel) l so.each);
   few = (
     omega (arith, so.few.0, those_fewer (spared sel) (is_of 0) l),
     omega (arith, so.few.1, those_fewer (spared sel) (is_of 1) l),
@@ -173,17 +173,17 @@ module _ (p : Profile) (profile : GoodProfile p) (sel : Selection) (address : Ad
   abbrev here : Place → Instance
   here = instance_at sel.procedure address
 
-  chosen-here : (w : Place) → picks sel w ≡ true → chosen sel (here w) ≡ true
-  chosen-here w h = is_chosen sel (here w) (concerns_own sel) h
+  chosen_here : (w : Place) → picks sel w ≡ true → chosen sel (here w) ≡ true
+  chosen_here w h = is_chosen sel (here w) (concerns_own sel) h
 
   none_made : (q : ℕ) → (sel.procedure ≡ q → ⊥) → (vs : List Place) → count_of q (map here vs) ≡ 0
   none_made q other [] = ap length (those_none (is_of q) [] refl)
   none_made q other (w ∷ vs) =
-      count-other q (map here (w ∷ vs)) (map here vs) (here w) refl other ∙ none_made q other vs
+      count_other q (map here (w ∷ vs)) (map here vs) (here w) refl other ∙ none_made q other vs
 
-  pub small-good : (x : Instance) → instance_good p x ≡ true → Small x
-  small-good x h =
-      let so = fits-of p.subscribed p.numbercount (subscribed_services p) x h in (
+  pub small_good : (x : Instance) → instance_good p x ≡ true → Small x
+  small_good x h =
+      let so = fits_of p.subscribed p.numbercount (subscribed_services p) x h in (
         omega (arith, so.number, profile.few),
         omega
             (arith, among_small 0 x.service (subscribed_services p) profile.rises so.service),
@@ -202,16 +202,16 @@ module _ (p : Profile) (profile : GoodProfile p) (sel : Selection) (address : Ad
       all : Each (λ w. Held p.numbercount (subscribed_services p) w × (picks sel w ≡ true)) ws
       unfolding places_of
       all =
-          each-those (Held p.numbercount (subscribed_services p)) (picks sel)
+          each_those (Held p.numbercount (subscribed_services p)) (picks sel)
           (places_from (subscribed_services p) (length (served_numbers p)) 0)
           (each_places p.numbercount (subscribed_services p) (length (served_numbers p)) 0
           (omega (arith, length-take p.numbercount p.numbers)))
 
-      made-good : Each (λ x. instance_good p x ≡ true) (map here ws)
-      made-good =
+      made_good : Each (λ x. instance_good p x ≡ true) (map here ws)
+      made_good =
           each_map (λ x. instance_good p x ≡ true) here ws
-          (each-so (λ w. Held p.numbercount (subscribed_services p) w × (picks sel w ≡ true)) (λ w. instance_good p (here w) ≡ true)
-          (λ w h. fits-is p.subscribed p.numbercount (subscribed_services p) (here w) record {
+          (each_so (λ w. Held p.numbercount (subscribed_services p) w × (picks sel w ≡ true)) (λ w. instance_good p (here w) ≡ true)
+          (λ w h. fits_is p.subscribed p.numbercount (subscribed_services p) (here w) record {
             procedure = three;
             subscribes = subscribes;
             number = h.0.0;
@@ -224,22 +224,22 @@ module _ (p : Profile) (profile : GoodProfile p) (sel : Selection) (address : Ad
       made_up =
           let every = places_from (subscribed_services p) (length (served_numbers p)) 0 in
           up_map key_of here 0 ws
-          (up-those (λ w. key_of (here w)) (picks sel) 0 every
-          (up-low (λ w. key_of (here w)) 0 (key sel.procedure 0 0) every (omega arith)
-          (up-places sel.procedure (subscribed_services p) (length (served_numbers p)) 0 profile.rises)))
+          (up_those (λ w. key_of (here w)) (picks sel) 0 every
+          (up_low (λ w. key_of (here w)) 0 (key sel.procedure 0 0) every (omega arith)
+          (up_places sel.procedure (subscribed_services p) (length (served_numbers p)) 0 profile.rises)))
 
-      made-small : Each (λ x. Small x × (chosen sel x ≡ true)) (map here ws)
-      made-small =
+      made_small : Each (λ x. Small x × (chosen sel x ≡ true)) (map here ws)
+      made_small =
           each_map (λ x. Small x × (chosen sel x ≡ true)) here ws
-          (each-so (λ w. Held p.numbercount (subscribed_services p) w × (picks sel w ≡ true)) _
+          (each_so (λ w. Held p.numbercount (subscribed_services p) w × (picks sel w ≡ true)) _
           (λ w h.
           let few = among_small 0 w.service (subscribed_services p) profile.rises h.0.1 in
-          ((omega (arith, h.0.0, profile.few), omega (arith, few)), chosen-here w h.1)) ws all)
+          ((omega (arith, h.0.0, profile.few), omega (arith, few)), chosen_here w h.1)) ws all)
 
       kept_small : Each (λ x. Small x × (spared sel x ≡ true)) (deactivated sel l)
       kept_small =
-          each-so (λ x. (instance_good p x ≡ true) × (spared sel x ≡ true)) _ (λ x h. (small-good x h.0, h.1))
-          (deactivated sel l) (each-those (λ x. instance_good p x ≡ true) (spared sel) l so.each)
+          each_so (λ x. (instance_good p x ≡ true) × (spared sel x ≡ true)) _ (λ x h. (small_good x h.0, h.1))
+          (deactivated sel l) (each_those (λ x. instance_good p x ≡ true) (spared sel) l so.each)
 
       few_at : (q : ℕ) → count_of q l ≤ most → count_of q (activated p sel address l) ≤ most
       few_at q h =
@@ -248,12 +248,12 @@ module _ (p : Profile) (profile : GoodProfile p) (sel : Selection) (address : Ad
           (λ e. rw (sym (eqb-true sel.procedure q e)) within)
           (λ e. omega (arith, sum, h, none_made q (eqb-false sel.procedure q e) ws, those_fewer (spared sel) (is_of q) l))
 
-      pub activated-good : GoodList p most (activated p sel address l)
-      activated-good =
+      pub activated_good : GoodList p most (activated p sel address l)
+      activated_good =
           let kept = cleared_good p sel most l so in
           record {
             ascends = up_merged (λ x. Small x × (chosen sel x ≡ true)) (λ y. Small y × (spared sel y ≡ true)) (key_apart sel) 0
-                (map here ws) (deactivated sel l) made-small kept_small made_up kept.ascends;
-            each = each_merged (λ x. instance_good p x ≡ true) (map here ws) (deactivated sel l) made-good kept.each;
+                (map here ws) (deactivated sel l) made_small kept_small made_up kept.ascends;
+            each = each_merged (λ x. instance_good p x ≡ true) (map here ws) (deactivated sel l) made_good kept.each;
             few = (few_at 0 so.few.0, few_at 1 so.few.1, few_at 2 so.few.2);
           }

@@ -44,24 +44,24 @@ module _ (q a c r b d : ℕ) (ha : a < 256) (hc : c < 256) (hb : b < 256) (hd : 
   abbrev yours : ℕ
   yours = key r b d
 
-  pub before-procedure : (q ≡ r → ⊥) → ltb q r ≡ ltb (key q a c) (key r b d)
-  before-procedure other =
+  pub before_procedure : (q ≡ r → ⊥) → ltb q r ≡ ltb (key q a c) (key r b d)
+  before_procedure other =
       by_bool (ltb q r ≡ ltb mine yours) (ltb q r)
       (λ h. h ∙ sym (lt-ltb mine yours (key_procedure q a c r b d ha hc (ltb-true q r h))))
       (λ h.
       let more : r < q = omega (arith, ltb-false q r h, other) in
       h ∙ sym (le-ltb mine yours (omega (arith, key_procedure r b d q a c hb hd more))))
 
-  pub before-number : q ≡ r → (a ≡ b → ⊥) → ltb a b ≡ ltb (key q a c) (key r b d)
+  pub before_number : q ≡ r → (a ≡ b → ⊥) → ltb a b ≡ ltb (key q a c) (key r b d)
   unfolding key
-  before-number same other =
+  before_number same other =
       by_bool (ltb a b ≡ ltb mine yours) (ltb a b)
       (λ h. h ∙ sym (lt-ltb mine yours (omega (arith, ltb-true a b h, same))))
       (λ h. h ∙ sym (le-ltb mine yours (omega (arith, ltb-false a b h, other, same))))
 
-  pub before-service : q ≡ r → a ≡ b → ltb c d ≡ ltb (key q a c) (key r b d)
+  pub before_service : q ≡ r → a ≡ b → ltb c d ≡ ltb (key q a c) (key r b d)
   unfolding key
-  before-service same equal =
+  before_service same equal =
       by_bool (ltb c d ≡ ltb mine yours) (ltb c d)
       (λ h. h ∙ sym (lt-ltb mine yours (omega (arith, ltb-true c d h, same, equal))))
       (λ h. h ∙ sym (le-ltb mine yours (omega (arith, ltb-false c d h, same, equal))))

@@ -7,8 +7,8 @@ use native.Mathlib.Omega.{arith}
 use lib.ListN.{length, get_or, length-map}
 use borrow.Author.Tests.{lt-ltb}
 use Rattle.laws.proofs.Picks.{by_bool}
-use Rattle.laws.proofs.Thoses.{those-take, those-skip, those_none}
-use Rattle.laws.proofs.Eaches.{Each, each-so, each-those}
+use Rattle.laws.proofs.Thoses.{those_take, those_skip, those_none}
+use Rattle.laws.proofs.Eaches.{Each, each_so, each_those}
 use Rattle.numbers.specs.Number.{number_good}
 use Rattle.numbers.specs.declared.number.Number.{Number}
 use Rattle.profile.specs.Profile.{numbers_most, no_number, subscribed_services}
@@ -22,8 +22,8 @@ use Rattle.instances.specs.Run.{listed, served_number, entry_for, count_of}
 use Rattle.instances.specs.declared.instance.Instance.{Instance}
 use Rattle.instances.specs.declared.instance.Selection.{Selection}
 use Rattle.instances.proofs.Choices.{chosen_is, concerns_is}
-use Rattle.instances.proofs.Counts.{count-this, count_cons}
-use Rattle.instances.proofs.Fits.{fits-of}
+use Rattle.instances.proofs.Counts.{count_this, count_cons}
+use Rattle.instances.proofs.Fits.{fits_of}
 use Rattle.instances.proofs.Goods.{Few, GoodList}
 
 -- ---- how many
@@ -37,10 +37,10 @@ listed_few sel (x ∷ l) =
     omega (
       arith,
       listed_few sel l,
-      ap length (those-take (chosen sel) (x ∷ l) l x refl h),
-      count-this q (x ∷ l) l x refl (concerns_is sel x.procedure (chosen_is sel x h).0),
+      ap length (those_take (chosen sel) (x ∷ l) l x refl h),
+      count_this q (x ∷ l) l x refl (concerns_is sel x.procedure (chosen_is sel x h).0),
     ))
-    (λ h. omega (arith, listed_few sel l, ap length (those-skip (chosen sel) (x ∷ l) l x refl h), count_cons q x l))
+    (λ h. omega (arith, listed_few sel l, ap length (those_skip (chosen sel) (x ∷ l) l x refl h), count_cons q x l))
 
 few_at : (most q : ℕ) (l : List Instance) → q < 3 → Few most l → count_of q l ≤ most
 few_at most zero l h few = few.0
@@ -50,8 +50,8 @@ few_at most (suc (suc (suc q))) l h few = absurd (omega arith)
 
 module _ (p : Profile) (sel : Selection) (most : ℕ) (l : List Instance) (so : GoodList p most l) where
   -- "at most 8 for each procedure"
-  pub listed-most : sel.procedure < 3 → length (map (entry_for p.numbers) (listed sel l)) ≤ most
-  listed-most three =
+  pub listed_most : sel.procedure < 3 → length (map (entry_for p.numbers) (listed sel l)) ≤ most
+  listed_most three =
       omega (
         arith,
         length-map (listed sel l) (entry_for p.numbers),
@@ -67,26 +67,26 @@ unfolding served_number
 served_own numbers k h = rw (lt-ltb k numbers_most h)
 
 module _ (p : Profile) (profile : GoodProfile p) where
-  number-good : (n : ℕ) → n < p.numbercount → number_good (served_number p.numbers n) ≡ true
+  number_good_lem : (n : ℕ) → n < p.numbercount → number_good (served_number p.numbers n) ≡ true
   unfolding served_number
-  number-good n h = rw (lt-ltb n numbers_most (omega (arith, profile.few))) (profile.numbers n h)
+  number_good_lem n h = rw (lt-ltb n numbers_most (omega (arith, profile.few))) (profile.numbers n h)
 
-  entry-for-good : (x : Instance) → instance_good p x ≡ true → entry_good (entry_for p.numbers x) ≡ true
-  entry-for-good x h =
-      let fits = fits-of p.subscribed p.numbercount (subscribed_services p) x h in
-      entry_good_lem (entry_for p.numbers x) (number-good x.number fits.number) fits.address
+  entry_for_good : (x : Instance) → instance_good p x ≡ true → entry_good (entry_for p.numbers x) ≡ true
+  entry_for_good x h =
+      let fits = fits_of p.subscribed p.numbercount (subscribed_services p) x h in
+      entry_good_lem (entry_for p.numbers x) (number_good_lem x.number fits.number) fits.address
 
   entries_good : (l : List Instance) → Each (λ x. instance_good p x ≡ true) l → all_good (map (entry_for p.numbers) l) ≡ true
   entries_good [] h = all_none
   entries_good (x ∷ l) h =
       let e = entry_for p.numbers x in
-      all_both (e ∷ []) (map (entry_for p.numbers) l) (all_one e (entry-for-good x h.0)) (entries_good l h.1)
+      all_both (e ∷ []) (map (entry_for p.numbers) l) (all_one e (entry_for_good x h.0)) (entries_good l h.1)
 
   -- "Each carries the profile's own number"
-  pub listed-good :
+  pub listed_good :
       (sel : Selection) (most : ℕ) (l : List Instance) → GoodList p most l →
       all_good (map (entry_for p.numbers) (listed sel l)) ≡ true
-  listed-good sel most l so =
+  listed_good sel most l so =
       entries_good (listed sel l)
-      (each-so (λ x. (instance_good p x ≡ true) × (chosen sel x ≡ true)) (λ x. instance_good p x ≡ true) (λ x h. h.0) (listed sel l)
-      (each-those (λ x. instance_good p x ≡ true) (chosen sel) l so.each))
+      (each_so (λ x. (instance_good p x ≡ true) × (chosen sel x ≡ true)) (λ x. instance_good p x ≡ true) (λ x h. h.0) (listed sel l)
+      (each_those (λ x. instance_good p x ≡ true) (chosen sel) l so.each))

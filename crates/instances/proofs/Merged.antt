@@ -10,7 +10,7 @@ use borrow.Author.Tests.{lt-ltb, le-ltb}
 use Rattle.laws.specs.Those.{those}
 use Rattle.laws.proofs.Picks.{pick_ind, by_bool}
 use Rattle.laws.proofs.Eaches.{Each}
-use Rattle.laws.proofs.Thoses.{those-take, those-skip, those_none}
+use Rattle.laws.proofs.Thoses.{those_take, those_skip, those_none}
 use Rattle.instances.specs.Instance.{key_of}
 use Rattle.instances.specs.Run.{merged}
 use Rattle.instances.specs.declared.instance.Instance.{Instance}
@@ -33,23 +33,23 @@ merged_nil (x ∷ xs) = refl
 module _ (xs ys : List Instance) where
   module _ (y : Instance) (vs : List Instance) (on : ys ≡ y ∷ vs) where
     -- there is nothing else
-    pub merge-rest : xs ≡ [] → merged xs ys ≡ y ∷ merged xs vs
-    merge-rest none = rw (none, on, nil_merged (y ∷ vs), nil_merged vs)
+    pub merge_rest : xs ≡ [] → merged xs ys ≡ y ∷ merged xs vs
+    merge_rest none = rw (none, on, nil_merged (y ∷ vs), nil_merged vs)
 
     -- its key is below that of the other
-    pub merge-lower : (x : Instance) (us : List Instance) → xs ≡ x ∷ us → key_of y < key_of x → merged xs ys ≡ y ∷ merged xs vs
+    pub merge_lower : (x : Instance) (us : List Instance) → xs ≡ x ∷ us → key_of y < key_of x → merged xs ys ≡ y ∷ merged xs vs
     unfolding merged
-    merge-lower x us more h = rw (more, on, lt-ltb (key_of y) (key_of x) h)
+    merge_lower x us more h = rw (more, on, lt-ltb (key_of y) (key_of x) h)
 
   module _ (x : Instance) (us : List Instance) (more : xs ≡ x ∷ us) where
     -- there is nothing else
-    pub merge-last : ys ≡ [] → merged xs ys ≡ x ∷ merged us ys
-    merge-last none = rw (more, none, merged_nil (x ∷ us), merged_nil us)
+    pub merge_last : ys ≡ [] → merged xs ys ≡ x ∷ merged us ys
+    merge_last none = rw (more, none, merged_nil (x ∷ us), merged_nil us)
 
     -- its key is not above that of the other
-    pub merge-higher : (y : Instance) (vs : List Instance) → ys ≡ y ∷ vs → key_of x ≤ key_of y → merged xs ys ≡ x ∷ merged us ys
+    pub merge_higher : (y : Instance) (vs : List Instance) → ys ≡ y ∷ vs → key_of x ≤ key_of y → merged xs ys ≡ x ∷ merged us ys
     unfolding merged
-    merge-higher y vs on h = rw (more, on, le-ltb (key_of y) (key_of x) h)
+    merge_higher y vs on h = rw (more, on, le-ltb (key_of y) (key_of x) h)
 
 -- ---- how long it is
 
@@ -72,7 +72,7 @@ merged_length (x ∷ xs) (y ∷ ys) =
 -- where none passes
 pub those_gone : (f : Instance → Bool) (l : List Instance) → Each (λ x. f x ≡ false) l → those f l ≡ []
 those_gone f [] h = those_none f [] refl
-those_gone f (x ∷ l) h = those-skip f (x ∷ l) l x refl h.0 ∙ those_gone f l h.1
+those_gone f (x ∷ l) h = those_skip f (x ∷ l) l x refl h.0 ∙ those_gone f l h.1
 
 -- those of two lists as one, where none of the first passes
 pub gone_merged : (f : Instance → Bool) (xs ys : List Instance) → Each (λ x. f x ≡ false) xs → those f (merged xs ys) ≡ those f ys
@@ -82,10 +82,10 @@ gone_merged f (x ∷ xs) [] h = those_gone f (x ∷ xs) h ∙ sym (those_none f 
 gone_merged f (x ∷ xs) (y ∷ ys) h =
     pick_ind (λ l. those f l ≡ those f (y ∷ ys)) (ltb (key_of y) (key_of x)) {x = y ∷ merged (x ∷ xs) ys} {y = x ∷ merged xs (y ∷ ys)}
     (λ _. both (gone_merged f (x ∷ xs) ys h))
-    (λ _. those-skip f (x ∷ merged xs (y ∷ ys)) (merged xs (y ∷ ys)) x refl h.0 ∙ gone_merged f xs (y ∷ ys) h.1)
+    (λ _. those_skip f (x ∷ merged xs (y ∷ ys)) (merged xs (y ∷ ys)) x refl h.0 ∙ gone_merged f xs (y ∷ ys) h.1)
   where
     both : those f (merged (x ∷ xs) ys) ≡ those f ys → those f (y ∷ merged (x ∷ xs) ys) ≡ those f (y ∷ ys)
     both e =
         by_bool (those f (y ∷ merged (x ∷ xs) ys) ≡ those f (y ∷ ys)) (f y)
-        (λ k. those-take f _ (merged (x ∷ xs) ys) y refl k ∙ (ap (λ m. y ∷ m) e ∙ sym (those-take f _ ys y refl k)))
-        (λ k. those-skip f _ (merged (x ∷ xs) ys) y refl k ∙ (e ∙ sym (those-skip f _ ys y refl k)))
+        (λ k. those_take f _ (merged (x ∷ xs) ys) y refl k ∙ (ap (λ m. y ∷ m) e ∙ sym (those_take f _ ys y refl k)))
+        (λ k. those_skip f _ (merged (x ∷ xs) ys) y refl k ∙ (e ∙ sym (those_skip f _ ys y refl k)))

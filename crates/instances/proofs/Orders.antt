@@ -18,13 +18,13 @@ use Rattle.instances.specs.declared.run.Run.{Run}
 -- ---- they ascend
 
 module _ (below : ℕ) (l m : List Instance) (x : Instance) (e : l ≡ x ∷ m) where
-  pub ascends-on : below < key_of x → ascending below l ≡ ascending (key_of x) m
+  pub ascends_on : below < key_of x → ascending below l ≡ ascending (key_of x) m
   unfolding ascending
-  ascends-on h = rw (e, lt-ltb below (key_of x) h, pick_last (ascending (key_of x) m))
+  ascends_on h = rw (e, lt-ltb below (key_of x) h, pick_last (ascending (key_of x) m))
 
-  pub ascends-low : key_of x ≤ below → ascending below l ≡ false
+  pub ascends_low : key_of x ≤ below → ascending below l ≡ false
   unfolding ascending
-  ascends-low h = rw (e, le-ltb below (key_of x) h)
+  ascends_low h = rw (e, le-ltb below (key_of x) h)
 
 pub ascends_none : (below : ℕ) (l : List Instance) → l ≡ [] → ascending below l ≡ true
 unfolding ascending
@@ -36,22 +36,22 @@ abbrev pub sound : (Instance → Bool) → ℕ → List Instance → Bool
 sound good below is = all (ascending below is ∷ each_good good is ∷ [])
 
 module _ (good : Instance → Bool) (l m : List Instance) (x : Instance) (e : l ≡ x ∷ m) where
-  good-on : good x ≡ true → each_good good l ≡ each_good good m
+  good_on : good x ≡ true → each_good good l ≡ each_good good m
   unfolding each_good
-  good-on g = rw (e, g, pick_last (each_good good m))
+  good_on g = rw (e, g, pick_last (each_good good m))
 
-  good-bad : good x ≡ false → each_good good l ≡ false
+  good_bad : good x ≡ false → each_good good l ≡ false
   unfolding each_good
-  good-bad g = rw (e, g)
+  good_bad g = rw (e, g)
 
-  pub sound-on : (below : ℕ) → below < key_of x → good x ≡ true → sound good below l ≡ sound good (key_of x) m
-  sound-on below h g = rw (ascends-on below l m x e h, good-on g)
+  pub sound_on : (below : ℕ) → below < key_of x → good x ≡ true → sound good below l ≡ sound good (key_of x) m
+  sound_on below h g = rw (ascends_on below l m x e h, good_on g)
 
-  pub sound-low : (below : ℕ) → key_of x ≤ below → sound good below l ≡ false
-  sound-low below h = rw (ascends-low below l m x e h)
+  pub sound_low : (below : ℕ) → key_of x ≤ below → sound good below l ≡ false
+  sound_low below h = rw (ascends_low below l m x e h)
 
-  pub sound-bad : (below : ℕ) → good x ≡ false → sound good below l ≡ false
-  sound-bad below g = rw (good-bad g) (pick_ind (λ t. t ≡ false) (ascending below l) (λ _. refl) (λ _. refl))
+  pub sound_bad : (below : ℕ) → good x ≡ false → sound good below l ≡ false
+  sound_bad below g = rw (good_bad g) (pick_ind (λ t. t ≡ false) (ascending below l) (λ _. refl) (λ _. refl))
 
 pub sound_none : (good : Instance → Bool) (below : ℕ) (l : List Instance) → l ≡ [] → sound good below l ≡ true
 unfolding ascending each_good
@@ -65,22 +65,22 @@ all_parts true false c = refl
 all_parts false b c = refl
 
 module _ (p : Profile) (run : Run) (most : ℕ) (few : run.count ≤ run_most) where
-  run-parts : run_good most p run ≡ pick (sound (instance_good p) 0 (instances_of run)) (few_of_each most (instances_of run)) false
+  run_parts : run_good most p run ≡ pick (sound (instance_good p) 0 (instances_of run)) (few_of_each most (instances_of run)) false
   unfolding run_good
-  run-parts =
+  run_parts =
       let l = instances_of run in
       rw (le-leb run.count run_most few)
       (pick_last _ ∙ all_parts (ascending 0 l) (each_good (instance_good p) l) (few_of_each most l))
 
   pub not_good : sound (instance_good p) 0 (instances_of run) ≡ false → run_good most p run ≡ false
-  not_good h = run-parts ∙ rw h
+  not_good h = run_parts ∙ rw h
 
   -- there are too many of a procedure
-  pub not-few : few_of_each most (instances_of run) ≡ false → run_good most p run ≡ false
-  not-few h = run-parts ∙ rw h (pick_ind (λ t. t ≡ false) (sound (instance_good p) 0 (instances_of run)) (λ _. refl) (λ _. refl))
+  pub not_few : few_of_each most (instances_of run) ≡ false → run_good most p run ≡ false
+  not_few h = run_parts ∙ rw h (pick_ind (λ t. t ≡ false) (sound (instance_good p) 0 (instances_of run)) (λ _. refl) (λ _. refl))
 
-  pub is-good : sound (instance_good p) 0 (instances_of run) ≡ true → run_good most p run ≡ few_of_each most (instances_of run)
-  is-good h = run-parts ∙ rw h
+  pub is_good : sound (instance_good p) 0 (instances_of run) ≡ true → run_good most p run ≡ few_of_each most (instances_of run)
+  is_good h = run_parts ∙ rw h
 
 pub too_long : (p : Profile) (run : Run) (most : ℕ) → leb run.count run_most ≡ false → run_good most p run ≡ false
 unfolding run_good

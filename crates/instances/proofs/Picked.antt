@@ -53,8 +53,8 @@ module _ (f : ℕ → Entry) (whole : List Entry) where
 
   module _ {rest : List Entry} {i k : ℕ} {places : List ℕ} {size : ℕ} (so : Picked f whole rest i k places size) where
     -- one that is not selected, or that there is no place for
-    pub picked-skip : (left : List Entry) → rest ≡ left → Picked f whole left (i + 1) k places size
-    picked-skip left same = record {
+    pub picked_skip : (left : List Entry) → rest ≡ left → Picked f whole left (i + 1) k places size
+    picked_skip left same = record {
       long = so.long;
       few = so.few;
       below = λ m h. omega (arith, so.below m h);
@@ -63,8 +63,8 @@ module _ (f : ℕ → Entry) (whole : List Entry) where
       within = so.within;
     }
 
-    pub picked-full : (left : List Entry) → (k < instances_most → ⊥) → Picked f whole left (i + 1) k places size
-    picked-full left full =
+    pub picked_full : (left : List Entry) → (k < instances_most → ⊥) → Picked f whole left (i + 1) k places size
+    picked_full left full =
         let none : instances_most - k ≡ 0 = omega arith in
         record {
           long = so.long;
@@ -76,11 +76,11 @@ module _ (f : ℕ → Entry) (whole : List Entry) where
         }
 
     -- one that is selected
-    pub picked-take :
+    pub picked_take :
         (e : Entry) (left : List Entry) (one : ℕ) → k < instances_most → rest ≡ e ∷ left → f i ≡ e → one ≡ length (entry_octets e) →
         one ≤ entry_size →
         Picked f whole left (i + 1) (k + 1) (set places k i) (size + one)
-    picked-take e left one more next is size_is small =
+    picked_take e left one more next is size_is small =
         let room : k < length (map f places) = omega (arith, so.long, length-map places f) in
         let less : instances_most - k ≡ suc (instances_most - suc k) = omega arith in
         let taken : take (k + 1) (map f (set places k i)) ≡ take k (map f places) ++ (e ∷ []) =
@@ -105,8 +105,8 @@ module _ (f : ℕ → Entry) (whole : List Entry) where
         }
 
     -- nothing is to come: these are the entries of the list
-    pub picked-done : rest ≡ [] → take k (map f places) ≡ take instances_most whole
-    picked-done none =
+    pub picked_done : rest ≡ [] → take k (map f places) ≡ take instances_most whole
+    picked_done none =
         let come = rw none at so.come in
         rw (take-nil {A = Entry} (instances_most - k), append-nil (take k (map f places))) at come
 
@@ -123,25 +123,25 @@ pub record Listing (f : ℕ → Entry) (places : List ℕ) (k size : ℕ) (xs : 
   pub holds : Wrote xs from (entries_octets (take m (map f places))) at ys
 
 module _ (f : ℕ → Entry) (places : List ℕ) (k size : ℕ) {xs : List ℕ} {from : ℕ} where
-  pub listing-first :
+  pub listing_first :
       k ≤ length places → from + size ≤ length xs → size ≡ length (entries_octets (take k (map f places))) →
       Listing f places k size xs from 0 from xs
-  listing-first long fits sum = record { long = long; fits = fits; sum = sum; few = omega arith; holds = rw octets_none wrote_none }
+  listing_first long fits sum = record { long = long; fits = fits; sum = sum; few = omega arith; holds = rw octets_none wrote_none }
 
   module _ {m at : ℕ} {ys : List ℕ} (so : Listing f places k size xs from m at ys) (more : m < k) where
-    next-octets :
+    next_octets :
         entries_octets (take (m + 1) (map f places)) ≡ entries_octets (take m (map f places)) ++ entry_octets (f (get_or places m 0))
-    next-octets =
+    next_octets =
         rw (get_or-map f places m 0) at (octets_next (map f places) m (f 0) (omega (arith, so.long, length-map places f)))
 
     -- there is room for the next
-    pub listing-room : at + length (entry_octets (f (get_or places m 0))) ≤ length ys
-    listing-room =
+    pub listing_room : at + length (entry_octets (f (get_or places m 0))) ≤ length ys
+    listing_room =
         omega (
           arith,
           so.fits,
           so.sum,
-          ap length next-octets,
+          ap length next_octets,
           length-append (entries_octets (take m (map f places))) (entry_octets (f (get_or places m 0))),
           octets_fewer (map f places) (m + 1) k (omega arith),
           so.holds.moved,
@@ -149,13 +149,13 @@ module _ (f : ℕ → Entry) (places : List ℕ) (k size : ℕ) {xs : List ℕ} 
         )
 
     -- it is written after them
-    pub listing-next :
+    pub listing_next :
         {next : ℕ} {ts : List ℕ} → Wrote ys at (entry_octets (f (get_or places m 0))) next ts →
         Listing f places k size xs from (m + 1) next ts
-    listing-next one = record {
+    listing_next one = record {
       long = so.long;
       fits = so.fits;
       sum = so.sum;
       few = omega arith;
-      holds = rw next-octets (then so.holds one);
+      holds = rw next_octets (then so.holds one);
     }

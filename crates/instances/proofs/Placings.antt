@@ -13,8 +13,8 @@ use borrow.Author.Tests.{eqb-true, eqb-false, eq-eqb, ne_eqb, ltb-true, ltb-fals
 use Rattle.laws.specs.Pick.{pick}
 use Rattle.laws.specs.Those.{those}
 use Rattle.laws.proofs.Picks.{by_bool, pick_last}
-use Rattle.laws.proofs.Thoses.{those-take, those-skip, those_none}
-use Rattle.laws.proofs.Lefts.{left-none}
+use Rattle.laws.proofs.Thoses.{those_take, those_skip, those_none}
+use Rattle.laws.proofs.Lefts.{left_none}
 use Rattle.laws.proofs.Filled.{Full}
 use Rattle.profile.specs.Profile.{services_most, subscribed_services}
 use Rattle.profile.specs.declared.profile.Profile.{Profile}
@@ -26,7 +26,7 @@ use Rattle.instances.specs.declared.places.Named.{Named}
 use Rattle.instances.specs.declared.places.Place.{Place}
 use Rattle.instances.specs.declared.places.Places.{Places}
 use Rattle.instances.proofs.Runs.{step}
-use Rattle.instances.proofs.Choices.{named-every, named-one}
+use Rattle.instances.proofs.Choices.{named_every, named_one}
 
 places_more :
     (services : List ℕ) (many from : ℕ) →
@@ -54,43 +54,43 @@ module _ (asked : ℕ) (services : List ℕ) where
 
   module _ (numbers a : ℕ) where
     -- those of the numbers from a on
-    abbrev pub placesLeft : List Place
-    placesLeft = places_named asked services (numbers - a) a
+    abbrev pub places_left : List Place
+    places_left = places_named asked services (numbers - a) a
 
     module _ (h : a < numbers) where
       spelled :
-          placesLeft ≡
+          places_left ≡
           pick (named every_number asked a) (map (place_for a) services) [] ++ places_named asked services (numbers - (a + 1)) (a + 1)
       spelled =
           let less : numbers - a ≡ suc (numbers - (a + 1)) = omega arith in
           rw (less, named_more (numbers - (a + 1)) a, add-one a)
 
-      pub number-named :
+      pub number_named :
           named every_number asked a ≡ true →
-          placesLeft ≡ map (place_for a) services ++ places_named asked services (numbers - (a + 1)) (a + 1)
-      number-named t = rw t at spelled
+          places_left ≡ map (place_for a) services ++ places_named asked services (numbers - (a + 1)) (a + 1)
+      number_named t = rw t at spelled
 
-      pub number-other :
-          named every_number asked a ≡ false → placesLeft ≡ places_named asked services (numbers - (a + 1)) (a + 1)
-      number-other t = rw t at spelled
+      pub number_other :
+          named every_number asked a ≡ false → places_left ≡ places_named asked services (numbers - (a + 1)) (a + 1)
+      number_other t = rw t at spelled
 
-    pub number_none : numbers ≤ a → placesLeft ≡ []
+    pub number_none : numbers ≤ a → places_left ≡ []
     number_none h =
         let none : numbers - a ≡ 0 = omega arith in
         rw (none, named_none a)
 
 -- those of a number from its service b on
 module _ (services : List ℕ) (a b : ℕ) where
-  abbrev pub rowLeft : List Place
-  rowLeft = drop b (map (place_for a) services)
+  abbrev pub row_left : List Place
+  row_left = drop b (map (place_for a) services)
 
   pub place_next :
-      b < length services → rowLeft ≡ place_for a (get_or services b 0) ∷ drop (b + 1) (map (place_for a) services)
+      b < length services → row_left ≡ place_for a (get_or services b 0) ∷ drop (b + 1) (map (place_for a) services)
   place_next h =
       let long : b < length (map (place_for a) services) = rw length-map h in
       rw add-one (drop-cons (map (place_for a) services) b (place_for a 0) long ∙ rw (get_or-map (place_for a) services b 0))
 
-  pub place_none : length services ≡ b → rowLeft ≡ []
+  pub place_none : length services ≡ b → row_left ≡ []
   place_none e =
       let long : length (map (place_for a) services) ≡ b = rw length-map e in
       rw (← long) (drop-length (map (place_for a) services))
@@ -98,11 +98,11 @@ module _ (services : List ℕ) (a b : ℕ) where
 -- ---- those that are selected: of the numbers that are named, with the services that are
 
 module _ (sel : Selection) (from : ℕ) where
-  row-test :
+  row_test :
       named every_number sel.number from ≡ true → (code : ℕ) →
       picks sel (place_for from code) ≡ named every_service sel.service code
   unfolding selected
-  row-test h code = rw h (pick_last (named every_service sel.service code))
+  row_test h code = rw h (pick_last (named every_service sel.service code))
 
   module _ (ws : List Place) where
     row_named :
@@ -113,21 +113,21 @@ module _ (sel : Selection) (from : ℕ) where
     row_named h (x ∷ services) =
         let f = named every_service sel.service in
         let less = row_named h services in
-        let test = row-test h x in
+        let test = row_test h x in
         let row = map (place_for from) services ++ ws in
         by_bool
         (those (picks sel) (map (place_for from) (x ∷ services) ++ ws) ≡
         map (place_for from) (services_named sel.service (x ∷ services)) ++ those (picks sel) ws)
         (f x)
         (λ t. rw (
-          those-take f (x ∷ services) services x refl t,
-          those-take (picks sel) (place_for from x ∷ row) row (place_for from x) refl
+          those_take f (x ∷ services) services x refl t,
+          those_take (picks sel) (place_for from x ∷ row) row (place_for from x) refl
               (test ∙ t),
           less,
         ))
         (λ t. rw (
-          those-skip f (x ∷ services) services x refl t,
-          those-skip (picks sel) (place_for from x ∷ row) row (place_for from x) refl
+          those_skip f (x ∷ services) services x refl t,
+          those_skip (picks sel) (place_for from x ∷ row) row (place_for from x) refl
               (test ∙ t),
           less,
         ))
@@ -137,7 +137,7 @@ module _ (sel : Selection) (from : ℕ) where
         those (picks sel) (map (place_for from) services ++ ws) ≡ those (picks sel) ws
     unfolding selected
     row_other h [] = refl
-    row_other h (x ∷ services) = those-skip (picks sel) _ _ (place_for from x) refl (rw h) ∙ row_other h services
+    row_other h (x ∷ services) = those_skip (picks sel) _ _ (place_for from x) refl (rw h) ∙ row_other h services
 
 places_named_lem :
     (sel : Selection) (services : List ℕ) (many from : ℕ) →
@@ -187,7 +187,7 @@ module _ (w : Places) (many m : ℕ) (few : many ≡ min w.count run_most) (long
   next_place h = step w.count w.places m no_place (omega arith) (omega arith)
 
   pub no_place : many ≤ m → drop m (places_in w) ≡ []
-  no_place h = left-none w.count w.places m (omega (arith, few, long))
+  no_place h = left_none w.count w.places m (omega (arith, few, long))
 
 pub placed_back : (w : Places) (ws : List Place) → w ≡ placed ws → places_in w ≡ ws
 placed_back w ws e = rw e (take-append_seam ws (replicate (run_most - length ws) no_place))
@@ -218,36 +218,36 @@ places_product asked services (suc many) from =
 numbers_every : (asked many from : ℕ) → asked ≡ every_number → numbers_from asked many from ≡ many
 numbers_every asked zero from h = refl
 numbers_every asked (suc many) from h =
-    rw (named-every every_number asked from h) (omega (arith, numbers_every asked many (suc from) h))
+    rw (named_every every_number asked from h) (omega (arith, numbers_every asked many (suc from) h))
 
 -- where one is asked for, it is among them, or they begin past it, or they end short of it
 module _ (asked : ℕ) (one : asked ≡ every_number → ⊥) where
-  is-here : (from : ℕ) → asked ≡ from → named every_number asked from ≡ true
-  is-here from h = named-one every_number asked from one ∙ eq-eqb asked from h
+  is_here : (from : ℕ) → asked ≡ from → named every_number asked from ≡ true
+  is_here from h = named_one every_number asked from one ∙ eq-eqb asked from h
 
-  not-here : (from : ℕ) → (asked ≡ from → ⊥) → named every_number asked from ≡ false
-  not-here from h = named-one every_number asked from one ∙ ne_eqb asked from h
+  not_here : (from : ℕ) → (asked ≡ from → ⊥) → named every_number asked from ≡ false
+  not_here from h = named_one every_number asked from one ∙ ne_eqb asked from h
 
-  numbers-past : (many from : ℕ) → asked < from → numbers_from asked many from ≡ 0
-  numbers-past zero from h = refl
-  numbers-past (suc many) from h =
-      rw (not-here from (λ e. omega arith)) (omega (arith, numbers-past many (suc from) (omega arith)))
+  numbers_past : (many from : ℕ) → asked < from → numbers_from asked many from ≡ 0
+  numbers_past zero from h = refl
+  numbers_past (suc many) from h =
+      rw (not_here from (λ e. omega arith)) (omega (arith, numbers_past many (suc from) (omega arith)))
 
-  numbers-short : (many from : ℕ) → from + many ≤ asked → numbers_from asked many from ≡ 0
-  numbers-short zero from h = refl
-  numbers-short (suc many) from h =
-      rw (not-here from (λ e. omega arith)) (omega (arith, numbers-short many (suc from) (omega arith)))
+  numbers_short : (many from : ℕ) → from + many ≤ asked → numbers_from asked many from ≡ 0
+  numbers_short zero from h = refl
+  numbers_short (suc many) from h =
+      rw (not_here from (λ e. omega arith)) (omega (arith, numbers_short many (suc from) (omega arith)))
 
-  numbers-one : (many from : ℕ) → from ≤ asked → asked < from + many → numbers_from asked many from ≡ 1
-  numbers-one zero from h less = absurd (omega arith)
-  numbers-one (suc many) from h less =
+  numbers_one : (many from : ℕ) → from ≤ asked → asked < from + many → numbers_from asked many from ≡ 1
+  numbers_one zero from h less = absurd (omega arith)
+  numbers_one (suc many) from h less =
       by_bool (numbers_from asked (suc many) from ≡ 1) (eqb asked from)
       (λ t.
       let e = eqb-true asked from t in
-      rw (is-here from e) (omega (arith, numbers-past many (suc from) (omega arith))))
+      rw (is_here from e) (omega (arith, numbers_past many (suc from) (omega arith))))
       (λ t.
       let e = eqb-false asked from t in
-      rw (not-here from e) (omega (arith, numbers-one many (suc from) (omega arith) (omega arith))))
+      rw (not_here from e) (omega (arith, numbers_one many (suc from) (omega arith) (omega arith))))
 
 numbers_are : (asked many : ℕ) → numbers_from asked many 0 ≡ numbers_named asked many
 numbers_are asked many =
@@ -257,8 +257,8 @@ numbers_are asked many =
     let one = eqb-false asked every_number h in
     rw h
     (by_bool (numbers_from asked many 0 ≡ pick (ltb asked many) 1 0) (ltb asked many)
-    (λ t. rw t (numbers-one asked one many 0 (omega arith) (omega (arith, ltb-true asked many t))))
-    (λ t. rw t (numbers-short asked one many 0 (omega (arith, ltb-false asked many t))))))
+    (λ t. rw t (numbers_one asked one many 0 (omega arith) (omega (arith, ltb-true asked many t))))
+    (λ t. rw t (numbers_short asked one many 0 (omega (arith, ltb-false asked many t))))))
 
 pub places_counted :
     (p : Profile) (sel : Selection) →

@@ -6,7 +6,7 @@ use mathlib.Core.List.{List, [], ◌∷◌, map}
 use mathlib.Core.Logic.{◌⊎◌, ⊎_elim}
 use Prim.Native.Nat.{ℕ}
 use lib.ListN.{take}
-use Rattle.laws.proofs.Thoses.{those-take, those-skip, those_none}
+use Rattle.laws.proofs.Thoses.{those_take, those_skip, those_none}
 use Rattle.laws.proofs.Filled.{Full}
 use Rattle.numbers.specs.declared.address.Address.{Address}
 use Rattle.profile.specs.declared.profile.Profile.{Profile}
@@ -22,7 +22,7 @@ use Rattle.instances.specs.declared.run.Run.{Run}
 use Rattle.instances.proofs.Runs.{packed_done, packed_full}
 use Rattle.instances.proofs.Choices.{kept_test, gone_test}
 use Rattle.instances.proofs.Placings.{placed_back}
-use Rattle.instances.proofs.Merged.{merged_nil, merge-rest, merge-lower, merge-last, merge-higher}
+use Rattle.instances.proofs.Merged.{merged_nil, merge_rest, merge_lower, merge_last, merge_higher}
 
 module _ (sel : Selection) (address : Address) (ws : List Place) (is : List Instance) where
   abbrev here : Place → Instance
@@ -30,24 +30,24 @@ module _ (sel : Selection) (address : Address) (ws : List Place) (is : List Inst
 
   module _ (x : Instance) (js : List Instance) (e : is ≡ x ∷ js) where
     -- an older one is replaced
-    pub put-skip : chosen sel x ≡ true → activated_at sel address ws is ≡ activated_at sel address ws js
-    put-skip h = ap (merged (map here ws)) (those-skip (spared sel) is js x e (gone_test _ h))
+    pub put_skip : chosen sel x ≡ true → activated_at sel address ws is ≡ activated_at sel address ws js
+    put_skip h = ap (merged (map here ws)) (those_skip (spared sel) is js x e (gone_test _ h))
 
     module _ (stays : chosen sel x ≡ false) where
       takes : deactivated sel is ≡ x ∷ deactivated sel js
-      takes = those-take (spared sel) is js x e (kept_test _ stays)
+      takes = those_take (spared sel) is js x e (kept_test _ stays)
 
       pub put_rest : ws ≡ [] → activated_at sel address ws is ≡ x ∷ activated_at sel address ws js
-      put_rest none = merge-rest (map here ws) (deactivated sel is) x (deactivated sel js) takes (ap (map here) none)
+      put_rest none = merge_rest (map here ws) (deactivated sel is) x (deactivated sel js) takes (ap (map here) none)
 
       module _ (w : Place) (vs : List Place) (more : ws ≡ w ∷ vs) where
-        pub put-kept : key_of x < key_of (here w) → activated_at sel address ws is ≡ x ∷ activated_at sel address ws js
-        put-kept h =
-            merge-lower (map here ws) (deactivated sel is) x (deactivated sel js) takes (here w) (map here vs) (ap (map here) more) h
+        pub put_kept : key_of x < key_of (here w) → activated_at sel address ws is ≡ x ∷ activated_at sel address ws js
+        put_kept h =
+            merge_lower (map here ws) (deactivated sel is) x (deactivated sel js) takes (here w) (map here vs) (ap (map here) more) h
 
-        pub put-made : key_of (here w) ≤ key_of x → activated_at sel address ws is ≡ here w ∷ activated_at sel address vs is
-        put-made h =
-            merge-higher (map here ws) (deactivated sel is) (here w) (map here vs) (ap (map here) more) x (deactivated sel js) takes h
+        pub put_made : key_of (here w) ≤ key_of x → activated_at sel address ws is ≡ here w ∷ activated_at sel address vs is
+        put_made h =
+            merge_higher (map here ws) (deactivated sel is) (here w) (map here vs) (ap (map here) more) x (deactivated sel js) takes h
 
   module _ (none : is ≡ []) where
     gone : deactivated sel is ≡ []
@@ -56,10 +56,10 @@ module _ (sel : Selection) (address : Address) (ws : List Place) (is : List Inst
     pub put_last :
         (w : Place) (vs : List Place) → ws ≡ w ∷ vs →
         activated_at sel address ws is ≡ here w ∷ activated_at sel address vs is
-    put_last w vs more = merge-last (map here ws) (deactivated sel is) (here w) (map here vs) (ap (map here) more) gone
+    put_last w vs more = merge_last (map here ws) (deactivated sel is) (here w) (map here vs) (ap (map here) more) gone
 
-    pub put-none : ws ≡ [] → activated_at sel address ws is ≡ []
-    put-none empty = rw (gone, empty) (merged_nil [])
+    pub put_none : ws ≡ [] → activated_at sel address ws is ≡ []
+    put_none empty = rw (gone, empty) (merged_nil [])
 
 -- either all has found room, or there is none left
 pub put_answer :

@@ -29,41 +29,41 @@ module _ {A : Type 0} (f : A → A) (blank : A) where
   redone (suc n) (suc i) (x ∷ l) = f x ∷ redone n i l
 
   -- the next place is as it was
-  pub redone-at : (n i : ℕ) (l : List A) (d : A) → get_or (redone n i l) i d ≡ get_or l i d
-  redone-at n zero l d = refl
-  redone-at n (suc i) [] d = refl
-  redone-at zero (suc i) (x ∷ l) d = redone-at zero i l d
-  redone-at (suc n) (suc i) (x ∷ l) d = redone-at n i l d
+  pub redone_at : (n i : ℕ) (l : List A) (d : A) → get_or (redone n i l) i d ≡ get_or l i d
+  redone_at n zero l d = refl
+  redone_at n (suc i) [] d = refl
+  redone_at zero (suc i) (x ∷ l) d = redone_at zero i l d
+  redone_at (suc n) (suc i) (x ∷ l) d = redone_at n i l d
 
   -- it is changed
-  pub redone-change :
+  pub redone_change :
       (n i : ℕ) (l : List A) (d : A) → i < n → set (redone n i l) i (f (get_or l i d)) ≡ redone n (suc i) l
-  redone-change zero i l d h = let none : ⊥ = omega arith in absurd none
-  redone-change (suc n) zero [] d h = refl
-  redone-change (suc n) zero (x ∷ l) d h = refl
-  redone-change (suc n) (suc i) [] d h = refl
-  redone-change (suc n) (suc i) (x ∷ l) d h = ap (λ (r : List A). f x ∷ r) (redone-change n i l d (omega arith))
+  redone_change zero i l d h = let none : ⊥ = omega arith in absurd none
+  redone_change (suc n) zero [] d h = refl
+  redone_change (suc n) zero (x ∷ l) d h = refl
+  redone_change (suc n) (suc i) [] d h = refl
+  redone_change (suc n) (suc i) (x ∷ l) d h = ap (λ (r : List A). f x ∷ r) (redone_change n i l d (omega arith))
 
   -- or made blank
-  pub redone-blank : (n i : ℕ) (l : List A) → n ≤ i → set (redone n i l) i blank ≡ redone n (suc i) l
-  redone-blank zero zero [] h = refl
-  redone-blank zero zero (x ∷ l) h = refl
-  redone-blank zero (suc i) [] h = refl
-  redone-blank zero (suc i) (x ∷ l) h = ap (λ (r : List A). blank ∷ r) (redone-blank zero i l (omega arith))
-  redone-blank (suc n) zero l h = let none : ⊥ = omega arith in absurd none
-  redone-blank (suc n) (suc i) [] h = refl
-  redone-blank (suc n) (suc i) (x ∷ l) h = ap (λ (r : List A). f x ∷ r) (redone-blank n i l (omega arith))
+  pub redone_blank : (n i : ℕ) (l : List A) → n ≤ i → set (redone n i l) i blank ≡ redone n (suc i) l
+  redone_blank zero zero [] h = refl
+  redone_blank zero zero (x ∷ l) h = refl
+  redone_blank zero (suc i) [] h = refl
+  redone_blank zero (suc i) (x ∷ l) h = ap (λ (r : List A). blank ∷ r) (redone_blank zero i l (omega arith))
+  redone_blank (suc n) zero l h = let none : ⊥ = omega arith in absurd none
+  redone_blank (suc n) (suc i) [] h = refl
+  redone_blank (suc n) (suc i) (x ∷ l) h = ap (λ (r : List A). f x ∷ r) (redone_blank n i l (omega arith))
 
   -- all are done
-  pub redone-all :
+  pub redone_all :
       (n : ℕ) (l : List A) → n ≤ length l →
       redone n (length l) l ≡ map f (take n l) ++ replicate (length l - n) blank
-  redone-all zero [] h = refl
-  redone-all zero (x ∷ l) h =
-      let rest : redone zero (length l) l ≡ replicate (length l) blank = rw sub-zero at (redone-all zero l (omega arith)) in
+  redone_all zero [] h = refl
+  redone_all zero (x ∷ l) h =
+      let rest : redone zero (length l) l ≡ replicate (length l) blank = rw sub-zero at (redone_all zero l (omega arith)) in
       rw sub-zero (ap (λ (r : List A). blank ∷ r) rest)
-  redone-all (suc n) [] h = let none : ⊥ = omega arith in absurd none
-  redone-all (suc n) (x ∷ l) h = rw suc-sub-suc (ap (λ (r : List A). f x ∷ r) (redone-all n l (omega arith)))
+  redone_all (suc n) [] h = let none : ⊥ = omega arith in absurd none
+  redone_all (suc n) (x ∷ l) h = rw suc-sub-suc (ap (λ (r : List A). f x ∷ r) (redone_all n l (omega arith)))
 
 -- ---- instances that get an address
 
@@ -72,39 +72,39 @@ module _ (sel : Selection) (address : Address) (n : ℕ) (l : List Instance) whe
   new = renewed sel address
 
   -- the places of a run when the first i are done
-  abbrev pub renewedTo : ℕ → List Instance
-  renewedTo i = redone new blank_instance n i l
+  abbrev pub renewed_to : ℕ → List Instance
+  renewed_to i = redone new blank_instance n i l
 
-  module _ (i : ℕ) (array : List Instance) (so : array ≡ renewedTo i) where
+  module _ (i : ℕ) (array : List Instance) (so : array ≡ renewed_to i) where
     -- the instance that is read is the old one
     old : get_or array i outside ≡ get_or l i outside
-    old = ap (λ (r : List Instance). get_or r i outside) so ∙ redone-at new blank_instance n i l outside
+    old = ap (λ (r : List Instance). get_or r i outside) so ∙ redone_at new blank_instance n i l outside
 
-    changes : i < n → set array i (new (get_or array i outside)) ≡ renewedTo (i + 1)
-    changes h = rw (old, so, add-one i) (redone-change new blank_instance n i l outside h)
+    changes : i < n → set array i (new (get_or array i outside)) ≡ renewed_to (i + 1)
+    changes h = rw (old, so, add-one i) (redone_change new blank_instance n i l outside h)
 
-    pub renews-one :
+    pub renews_one :
         i < n → chosen sel (get_or array i outside) ≡ true →
         set array i (instance_of (get_or array i outside).procedure (get_or array i outside).number (get_or array i outside).service address) ≡
-        renewedTo (i + 1)
-    renews-one h picked = rw picked at (changes h)
+        renewed_to (i + 1)
+    renews_one h picked = rw picked at (changes h)
 
-    pub spares-one : i < n → chosen sel (get_or array i outside) ≡ false → array ≡ renewedTo (i + 1)
-    spares-one h left = sym (set-get_or array i outside) ∙ rw left at (changes h)
+    pub spares_one : i < n → chosen sel (get_or array i outside) ≡ false → array ≡ renewed_to (i + 1)
+    spares_one h left = sym (set-get_or array i outside) ∙ rw left at (changes h)
 
-    pub blanks-one : n ≤ i → set array i blank_instance ≡ renewedTo (i + 1)
-    blanks-one h = rw (so, add-one i) (redone-blank new blank_instance n i l h)
+    pub blanks_one : n ≤ i → set array i blank_instance ≡ renewed_to (i + 1)
+    blanks_one h = rw (so, add-one i) (redone_blank new blank_instance n i l h)
 
 -- when all places are done, the array is that of the renewed instances
 pub renew_answer :
     (sel : Selection) (address : Address) (run : Run) (n : ℕ) (array : List Instance) → n ≡ min run.count run_most →
-    length run.run ≡ run_most → array ≡ renewedTo sel address n run.run run_most →
+    length run.run ≡ run_most → array ≡ renewed_to sel address n run.run run_most →
     ◌≡◌ {A = Run} record { count = n; run = array } (packed (map (renewed sel address) (instances_of run)))
 renew_answer sel address run n array few long so =
     let new = renewed sel address in
     let held : take n run.run ≡ instances_of run = rw (few, ← long) (take_min run.count run.run) in
     let many : length (map new (instances_of run)) ≡ n =
     length-map (instances_of run) new ∙ ap length (sym held) ∙ length-take-le n run.run (omega (arith, few, long)) in
-    let done = redone-all new blank_instance n run.run (omega (arith, few, long)) in
+    let done = redone_all new blank_instance n run.run (omega (arith, few, long)) in
     let all = rw (long, held) at done in
     packed_done (map new (instances_of run)) n array (sym many, rw many (so ∙ all), omega (arith, many, few))

@@ -8,8 +8,8 @@ use lib.ListN.{length, get_or, length-take, get_or-eq_default}
 use lib.Dec.{ltb, eqb}
 use borrow.Author.Tests.{lt-ltb, ltb-true, ltb-false, eqb-true}
 use Rattle.laws.proofs.Picks.{pick_then, by_bool}
-use Rattle.laws.proofs.Thoses.{those-take, those-skip, those_none}
-use Rattle.laws.proofs.Eaches.{Each, each-so, each-those, Up, up-low, up-those, up_map}
+use Rattle.laws.proofs.Thoses.{those_take, those_skip, those_none}
+use Rattle.laws.proofs.Eaches.{Each, each_so, each_those, Up, up_low, up_those, up_map}
 use Rattle.numbers.specs.Number.{number_good, digits_of}
 use Rattle.numbers.specs.declared.address.Address.{Address}
 use Rattle.numbers.proofs.Goods.{good_number, digits_fair}
@@ -23,10 +23,10 @@ use Rattle.instances.specs.declared.instance.Instance.{Instance}
 use Rattle.instances.specs.declared.instance.Selection.{Selection}
 use Rattle.instances.specs.declared.places.Place.{Place}
 use Rattle.instances.proofs.Choices.{chosen_is, concerns_is, kept_test, gone_test}
-use Rattle.instances.proofs.Finds.{isPlace, stands, stands_of}
-use Rattle.instances.proofs.Fits.{fits-of}
-use Rattle.instances.proofs.Goods.{placeKey, up-places, GoodList}
-use Rattle.instances.proofs.Merged.{nil_merged, merge-rest, merge-lower, merge-last, merge-higher}
+use Rattle.instances.proofs.Finds.{is_place, stands, stands_of}
+use Rattle.instances.proofs.Fits.{fits_of}
+use Rattle.instances.proofs.Goods.{place_key, up_places, GoodList}
+use Rattle.instances.proofs.Merged.{nil_merged, merge_rest, merge_lower, merge_last, merge_higher}
 
 -- an instance with the address in place of its own
 abbrev again : Address → Instance → Instance
@@ -36,18 +36,18 @@ again address x = instance_of x.procedure x.number x.service address
 
 module _ (q : ℕ) where
   -- a place has the key of its number and service
-  place-key : (n s : ℕ) (w : Place) → isPlace n s w ≡ true → placeKey q w ≡ key q n s
-  place-key n s w h =
+  place_key_lem : (n s : ℕ) (w : Place) → is_place n s w ≡ true → place_key q w ≡ key q n s
+  place_key_lem n s w h =
       let both = pick_then (eqb w.number n) (eqb w.service s) h in
       rw (eqb-true w.number n both.0, eqb-true w.service s both.1)
 
   -- what stands among places that ascend has a key above what comes before them
-  stands-above : (n s below : ℕ) (ws : List Place) → Up (placeKey q) below ws → stands n s ws ≡ true → below < key q n s
-  stands-above n s below [] up h = absurd (false≢true h)
-  stands-above n s below (w ∷ ws) up h =
-      by_bool (below < key q n s) (isPlace n s w)
-      (λ e. omega (arith, up.0, place-key n s w e))
-      (λ e. omega (arith, up.0, stands-above n s (placeKey q w) ws up.1 (rw e at h)))
+  stands_above : (n s below : ℕ) (ws : List Place) → Up (place_key q) below ws → stands n s ws ≡ true → below < key q n s
+  stands_above n s below [] up h = absurd (false≢true h)
+  stands_above n s below (w ∷ ws) up h =
+      by_bool (below < key q n s) (is_place n s w)
+      (λ e. omega (arith, up.0, place_key_lem n s w e))
+      (λ e. omega (arith, up.0, stands_above n s (place_key q w) ws up.1 (rw e at h)))
 
   -- an instance of the procedure whose place stands there
   abbrev Inside : List Place → Instance → Type 0
@@ -58,55 +58,55 @@ module _ (q : ℕ) where
   own_key x h = rw h
 
   -- those with keys above that of the first place stand among the others
-  inside-rest :
-      (below : ℕ) (w : Place) (ws : List Place) (xs : List Instance) → placeKey q w ≤ below → Up key_of below xs →
+  inside_rest :
+      (below : ℕ) (w : Place) (ws : List Place) (xs : List Instance) → place_key q w ≤ below → Up key_of below xs →
       Each (Inside (w ∷ ws)) xs → Each (Inside ws) xs
-  inside-rest below w ws [] low up h = tt
-  inside-rest below w ws (x ∷ xs) low up h =
+  inside_rest below w ws [] low up h = tt
+  inside_rest below w ws (x ∷ xs) low up h =
       let own = own_key x h.0.0 in
       let here : stands x.number x.service ws ≡ true =
-      by_bool (stands x.number x.service ws ≡ true) (isPlace x.number x.service w)
-      (λ e. absurd (omega (arith, low, up.0, own, place-key x.number x.service w e)))
+      by_bool (stands x.number x.service ws ≡ true) (is_place x.number x.service w)
+      (λ e. absurd (omega (arith, low, up.0, own, place_key_lem x.number x.service w e)))
       (λ e. (rw e at h).0.1) in
-      ((h.0.0, here), inside-rest (key_of x) w ws xs (omega (arith, low, up.0)) up.1 h.1)
+      ((h.0.0, here), inside_rest (key_of x) w ws xs (omega (arith, low, up.0)) up.1 h.1)
 
   module _ (address : Address) where
-    again-here : (x : Instance) (w : Place) → x.procedure ≡ q → isPlace x.number x.service w ≡ true → again address x ≡ instance_at q address w
-    again-here x w own h =
+    again_here : (x : Instance) (w : Place) → x.procedure ≡ q → is_place x.number x.service w ≡ true → again address x ≡ instance_at q address w
+    again_here x w own h =
         let both = pick_then (eqb w.number x.number) (eqb w.service x.service) h in
         rw (own, eqb-true w.number x.number both.0, eqb-true w.service x.service both.1)
 
     -- no more of them than places; where as many, they are the instances of these places
-    again-all :
-        (below low : ℕ) (ws : List Place) (xs : List Instance) → Up (placeKey q) low ws → Up key_of below xs → Each (Inside ws) xs →
+    again_all :
+        (below low : ℕ) (ws : List Place) (xs : List Instance) → Up (place_key q) low ws → Up key_of below xs → Each (Inside ws) xs →
         (length xs ≤ length ws) × (length xs ≡ length ws → map (again address) xs ≡ map (instance_at q address) ws)
-    again-all below low [] [] upw upx h = (omega arith, λ e. refl)
-    again-all below low [] (x ∷ xs) upw upx h = absurd (false≢true h.0.1)
-    again-all below low (w ∷ ws) [] upw upx h = (omega arith, λ e. absurd (omega (arith, e)))
-    again-all below low (w ∷ ws) (x ∷ xs) upw upx h =
+    again_all below low [] [] upw upx h = (omega arith, λ e. refl)
+    again_all below low [] (x ∷ xs) upw upx h = absurd (false≢true h.0.1)
+    again_all below low (w ∷ ws) [] upw upx h = (omega arith, λ e. absurd (omega (arith, e)))
+    again_all below low (w ∷ ws) (x ∷ xs) upw upx h =
         let own = own_key x h.0.0 in
-        by_bool _ (isPlace x.number x.service w)
-        (λ (e : isPlace x.number x.service w ≡ true).
-        let same = place-key x.number x.service w e in
-        let rest = inside-rest (key_of x) w ws xs (omega (arith, own, same)) upx.1 h.1 in
-        let so = again-all (key_of x) (placeKey q w) ws xs upw.1 upx.1 rest in (
+        by_bool _ (is_place x.number x.service w)
+        (λ (e : is_place x.number x.service w ≡ true).
+        let same = place_key_lem x.number x.service w e in
+        let rest = inside_rest (key_of x) w ws xs (omega (arith, own, same)) upx.1 h.1 in
+        let so = again_all (key_of x) (place_key q w) ws xs upw.1 upx.1 rest in (
           omega (arith, so.0),
-          λ k. rw (again-here x w h.0.0 e) (ap (λ (l : List Instance). instance_at q address w ∷ l) (so.1 (omega (arith, k)))),
+          λ k. rw (again_here x w h.0.0 e) (ap (λ (l : List Instance). instance_at q address w ∷ l) (so.1 (omega (arith, k)))),
         ))
-        (λ (e : isPlace x.number x.service w ≡ false).
+        (λ (e : is_place x.number x.service w ≡ false).
         let there : stands x.number x.service ws ≡ true = (rw e at h).0.1 in
-        let above = stands-above x.number x.service (placeKey q w) ws upw.1 there in
-        let up : Up key_of (placeKey q w) (x ∷ xs) = (omega (arith, own, above), upx.1) in
-        let rest = inside-rest (placeKey q w) w ws (x ∷ xs) (omega arith) up h in
-        let so = again-all (placeKey q w) (placeKey q w) ws (x ∷ xs) upw.1 up rest in
+        let above = stands_above x.number x.service (place_key q w) ws upw.1 there in
+        let up : Up key_of (place_key q w) (x ∷ xs) = (omega (arith, own, above), upx.1) in
+        let rest = inside_rest (place_key q w) w ws (x ∷ xs) (omega arith) up h in
+        let so = again_all (place_key q w) (place_key q w) ws (x ∷ xs) upw.1 up rest in
         (omega (arith, so.0), λ k. absurd (omega (arith, so.0, k))))
 
 -- ---- the chosen ones of good instances
 
 module _ (p : Profile) (profile : GoodProfile p) where
   -- a good profile has as many numbers as it counts
-  number-there : (n : ℕ) → n < p.numbercount → n < length (served_numbers p)
-  number-there n h =
+  number_there : (n : ℕ) → n < p.numbercount → n < length (served_numbers p)
+  number_there n h =
       let long : n < length p.numbers =
       by_bool (n < length p.numbers) (ltb n (length p.numbers))
       (λ e. ltb-true n (length p.numbers) e)
@@ -118,66 +118,66 @@ module _ (p : Profile) (profile : GoodProfile p) where
       omega (arith, length-take p.numbercount p.numbers, h, long)
 
   module _ (sel : Selection) (address : Address) (most : ℕ) (l : List Instance) (so : GoodList p most l) where
-    chosen-inside : Each (Inside sel.procedure (places_of p sel)) (listed sel l)
-    chosen-inside =
-        each-so (λ x. (instance_good p x ≡ true) × (chosen sel x ≡ true)) (Inside sel.procedure (places_of p sel))
+    chosen_inside : Each (Inside sel.procedure (places_of p sel)) (listed sel l)
+    chosen_inside =
+        each_so (λ x. (instance_good p x ≡ true) × (chosen sel x ≡ true)) (Inside sel.procedure (places_of p sel))
         (λ x h.
         let is = chosen_is sel x h.1 in
-        let fits = fits-of p.subscribed p.numbercount (subscribed_services p) x h.0 in
-        let there = lt-ltb x.number (length (served_numbers p)) (number-there x.number fits.number) in (
+        let fits = fits_of p.subscribed p.numbercount (subscribed_services p) x h.0 in
+        let there = lt-ltb x.number (length (served_numbers p)) (number_there x.number fits.number) in (
           concerns_is sel x.procedure is.0,
           stands_of x.procedure x.number x.service sel address p is.1 ∙ rw (there, fits.service),
         ))
-        (listed sel l) (each-those (λ x. instance_good p x ≡ true) (chosen sel) l so.each)
+        (listed sel l) (each_those (λ x. instance_good p x ≡ true) (chosen sel) l so.each)
 
-    places-up : Up (placeKey sel.procedure) 0 (places_of p sel)
+    places_up : Up (place_key sel.procedure) 0 (places_of p sel)
     unfolding places_of
-    places-up =
+    places_up =
         let every = places_from (subscribed_services p) (length (served_numbers p)) 0 in
-        up-those (placeKey sel.procedure) (picks sel) 0 every
-        (up-low (placeKey sel.procedure) 0 (key sel.procedure 0 0) every (omega arith)
-        (up-places sel.procedure (subscribed_services p) (length (served_numbers p)) 0 profile.rises))
+        up_those (place_key sel.procedure) (picks sel) 0 every
+        (up_low (place_key sel.procedure) 0 (key sel.procedure 0 0) every (omega arith)
+        (up_places sel.procedure (subscribed_services p) (length (served_numbers p)) 0 profile.rises))
 
     -- where they are as many as the places, with the address they are the instances of the places
-    chosen-again :
+    chosen_again :
         renews p sel l ≡ true →
         map (again address) (listed sel l) ≡ map (instance_at sel.procedure address) (places_of p sel)
-    chosen-again h =
-        (again-all sel.procedure address 0 0 (places_of p sel) (listed sel l) places-up
-        (up-those key_of (chosen sel) 0 l so.ascends) chosen-inside).1
+    chosen_again h =
+        (again_all sel.procedure address 0 0 (places_of p sel) (listed sel l) places_up
+        (up_those key_of (chosen sel) 0 l so.ascends) chosen_inside).1
         (eqb-true (length (listed sel l)) (length (places_of p sel)) h)
 
 -- ---- with the others, they are in order
 
 -- one of the first list comes first where its key is below those of the second
 first_merged : (x : Instance) (xs ys : List Instance) → Up key_of (key_of x) ys → merged (x ∷ xs) ys ≡ x ∷ merged xs ys
-first_merged x xs [] up = merge-last (x ∷ xs) [] x xs refl refl
-first_merged x xs (y ∷ ys) up = merge-higher (x ∷ xs) (y ∷ ys) x xs refl y ys refl (omega (arith, up.0))
+first_merged x xs [] up = merge_last (x ∷ xs) [] x xs refl refl
+first_merged x xs (y ∷ ys) up = merge_higher (x ∷ xs) (y ∷ ys) x xs refl y ys refl (omega (arith, up.0))
 
 -- and the other way round
 second_merged : (y : Instance) (xs ys : List Instance) → Up key_of (key_of y) xs → merged xs (y ∷ ys) ≡ y ∷ merged xs ys
-second_merged y [] ys up = merge-rest [] (y ∷ ys) y ys refl refl
-second_merged y (x ∷ xs) ys up = merge-lower (x ∷ xs) (y ∷ ys) y ys refl x xs refl up.0
+second_merged y [] ys up = merge_rest [] (y ∷ ys) y ys refl refl
+second_merged y (x ∷ xs) ys up = merge_lower (x ∷ xs) (y ∷ ys) y ys refl x xs refl up.0
 
 module _ (sel : Selection) (address : Address) where
   -- the chosen ones with the address and the spared ones are the list with the address where it is chosen
-  renewed-merged :
+  renewed_merged :
       (below : ℕ) (l : List Instance) → Up key_of below l →
       merged (map (again address) (listed sel l)) (deactivated sel l) ≡ map (renewed sel address) l
-  renewed-merged below [] up = rw (those_none (chosen sel) [] refl, those_none (spared sel) [] refl, nil_merged [])
-  renewed-merged below (x ∷ l) up =
-      let less = renewed-merged (key_of x) l up.1 in
+  renewed_merged below [] up = rw (those_none (chosen sel) [] refl, those_none (spared sel) [] refl, nil_merged [])
+  renewed_merged below (x ∷ l) up =
+      let less = renewed_merged (key_of x) l up.1 in
       let kept = deactivated sel l in
       let taken = map (again address) (listed sel l) in
       by_bool _ (chosen sel x)
       (λ (h : chosen sel x ≡ true).
-      rw (those-take (chosen sel) (x ∷ l) l x refl h, those-skip (spared sel) (x ∷ l) l x refl (gone_test _ h), h)
-      (first_merged (again address x) taken kept (up-those key_of (spared sel) (key_of x) l up.1)
+      rw (those_take (chosen sel) (x ∷ l) l x refl h, those_skip (spared sel) (x ∷ l) l x refl (gone_test _ h), h)
+      (first_merged (again address x) taken kept (up_those key_of (spared sel) (key_of x) l up.1)
       ∙ ap (λ (m : List Instance). again address x ∷ m) less))
       (λ (h : chosen sel x ≡ false).
-      rw (those-skip (chosen sel) (x ∷ l) l x refl h, those-take (spared sel) (x ∷ l) l x refl (kept_test _ h), h)
+      rw (those_skip (chosen sel) (x ∷ l) l x refl h, those_take (spared sel) (x ∷ l) l x refl (kept_test _ h), h)
       (second_merged x taken kept
-      (up_map key_of (again address) (key_of x) (listed sel l) (up-those key_of (chosen sel) (key_of x) l up.1))
+      (up_map key_of (again address) (key_of x) (listed sel l) (up_those key_of (chosen sel) (key_of x) l up.1))
       ∙ ap (λ (m : List Instance). x ∷ m) less))
 
 -- where as many instances are selected as places, an activation of instances that break no rule only renews them
@@ -186,5 +186,5 @@ pub activated_renewed :
     GoodList p most l → renews p sel l ≡ true →
     activated p sel address l ≡ map (renewed sel address) l
 activated_renewed p profile sel address most l so h =
-    ap (λ (m : List Instance). merged m (deactivated sel l)) (sym (chosen-again p profile sel address most l so h))
-    ∙ renewed-merged sel address 0 l so.ascends
+    ap (λ (m : List Instance). merged m (deactivated sel l)) (sym (chosen_again p profile sel address most l so h))
+    ∙ renewed_merged sel address 0 l so.ascends

@@ -6,7 +6,7 @@ use native.Mathlib.Numerals.{add-one}
 use native.Mathlib.Omega.{arith}
 use lib.ListN.{length, take, drop, get_or, replicate}
 use lib.Seq.{take_all, take-append_seam}
-use Rattle.laws.proofs.Lefts.{left-cons, left-none}
+use Rattle.laws.proofs.Lefts.{left_cons, left_none}
 use Rattle.laws.proofs.Filled.{Full}
 use Rattle.instances.specs.Instance.{instance_of, blank_instance}
 use Rattle.instances.specs.Places.{run_most}
@@ -19,7 +19,7 @@ use Rattle.instances.specs.declared.run.Run.{Run}
 pub step :
     {A : Type 0} (count : ℕ) (l : List A) (i : ℕ) (d : A) → i < count → i < length l →
     drop i (take count l) ≡ get_or l i d ∷ drop (i + 1) (take count l)
-step count l i d h long = rw add-one (left-cons count l i d h long)
+step count l i d h long = rw add-one (left_cons count l i d h long)
 
 -- what the machine reads past an array
 abbrev pub outside : Instance
@@ -27,11 +27,11 @@ outside =
     instance_of 0 0 0 (record { number = record { form = 0; kind = 0; count = 0; digits = [] }; subcount = 0; sub = [] })
 
 module _ (run : Run) (n i : ℕ) (few : n ≡ min run.count run_most) (long : length run.run ≡ run_most) where
-  pub next-is : i < n → drop i (instances_of run) ≡ get_or run.run i outside ∷ drop (i + 1) (instances_of run)
-  next-is h = step run.count run.run i outside (omega arith) (omega arith)
+  pub next_is : i < n → drop i (instances_of run) ≡ get_or run.run i outside ∷ drop (i + 1) (instances_of run)
+  next_is h = step run.count run.run i outside (omega arith) (omega arith)
 
   pub none_left : n ≤ i → drop i (instances_of run) ≡ []
-  none_left h = left-none run.count run.run i (omega (arith, few, long))
+  none_left h = left_none run.count run.run i (omega (arith, few, long))
 
 -- ---- the record of instances
 

@@ -16,7 +16,7 @@ pub const EVERYSERVICE: u8 = 0;
 
 // An instance: its number by the place in the profile, its service by the code.
 #[repr(C)]
-#[derive(Drop)]
+#[derive(Clone, Copy)]
 pub struct Instance {
     pub procedure: u8,
     pub number: u8,
@@ -26,7 +26,7 @@ pub struct Instance {
 
 // Instances of a procedure: of one number or, where that is 255, of all; of one service or, where that is 0, of all.
 #[repr(C)]
-#[derive(Drop)]
+#[derive(Clone, Copy)]
 pub struct Selection {
     pub procedure: u8,
     pub number: u8,

@@ -9,21 +9,21 @@ use crate::run::ROOM;
 use profile::{NUMBERS, Profile, SERVICES};
 
 // A number, by its place in the profile, and a service.
-#[derive(Drop)]
+#[derive(Clone, Copy)]
 pub struct Place {
     pub number: u8,
     pub service: u8,
 }
 
 // `count` places.
-#[derive(Drop)]
+#[derive(Clone, Copy)]
 pub(crate) struct Places {
     pub(crate) count: u8,
     pub(crate) places: [Place; ROOM],
 }
 
 // `count` services.
-#[derive(Drop)]
+#[derive(Clone, Copy)]
 struct Named {
     count: usize,
     services: [u8; SERVICES],

@@ -15,21 +15,21 @@ pub const ROOM: usize = PROCEDURES * INSTANCESMOST;
 
 // `count` instances. Places past the count carry no meaning.
 #[repr(C)]
-#[derive(Drop)]
+#[derive(Clone, Copy)]
 pub struct Run {
     pub count: u8,
     pub run: [Instance; ROOM],
 }
 
 // The address of an instance; or `ok` is false.
-#[derive(Drop)]
+#[derive(Clone, Copy)]
 pub struct Found {
     pub ok: bool,
     pub address: Address,
 }
 
 // How many instances of a procedure there are after an activation; `renews` where as many are selected as places.
-#[derive(Drop)]
+#[derive(Clone, Copy)]
 pub struct After {
     pub count: usize,
     pub renews: bool,

@@ -15,17 +15,17 @@ module _ {A : Type 0} (f : ℕ → A) where
   spelled zero from = []
   spelled (suc n) from = f from ∷ spelled n (suc from)
 
-  pub each-spelled : (n from : ℕ) → each_from f n from ≡ spelled n from
+  pub each_spelled : (n from : ℕ) → each_from f n from ≡ spelled n from
   unfolding each_from
-  each-spelled zero from = refl
-  each-spelled (suc n) from = ap (λ (l : List A). f from ∷ l) (each-spelled n (suc from))
+  each_spelled zero from = refl
+  each_spelled (suc n) from = ap (λ (l : List A). f from ∷ l) (each_spelled n (suc from))
 
   -- the thing at a place
-  pub getD-each : (n from i : ℕ) (d : A) → i < n → get_or (each_from f n from) i d ≡ f (from + i)
+  pub get_d_each : (n from i : ℕ) (d : A) → i < n → get_or (each_from f n from) i d ≡ f (from + i)
   unfolding each_from
-  getD-each zero from i d h = absurd (omega arith)
-  getD-each (suc n) from zero d h = rw add-zero
-  getD-each (suc n) from (suc i) d h = rw (add-suc, ← suc-add) (getD-each n (suc from) i d (omega arith))
+  get_d_each zero from i d h = absurd (omega arith)
+  get_d_each (suc n) from zero d h = rw add-zero
+  get_d_each (suc n) from (suc i) d h = rw (add-suc, ← suc-add) (get_d_each n (suc from) i d (omega arith))
 
   -- one thing more, at the end
   pub each_more : (n from : ℕ) → each_from f (suc n) from ≡ each_from f n from ++ (f (from + n) ∷ [])
@@ -39,8 +39,8 @@ module _ {A : Type 0} (f : ℕ → A) where
       take (i + 1) (set l i x) ≡ each_from f (i + 1) 0
   each_set l i x h e done = rw (add-one, take-suc-set l i x h, done, e, each_more i 0, zero-add)
 
-  pub each-done : (n : ℕ) (l : List A) → length l ≡ n → take n l ≡ each_from f n 0 → l ≡ each_from f n 0
-  each-done n l long done = sym (take-length l) ∙ rw long done
+  pub each_done : (n : ℕ) (l : List A) → length l ≡ n → take n l ≡ each_from f n 0 → l ≡ each_from f n 0
+  each_done n l long done = sym (take-length l) ∙ rw long done
 
 -- a part of an array is what stands at its places
 pub slice_each :

@@ -11,46 +11,46 @@ use Rattle.laws.proofs.Picks.{pick_ind}
 
 module _ (will : ℕ → Bool) where
   -- one place to look at, and none
-  pub fewest-step :
+  pub fewest_step :
       (more from : ℕ) → fewest_from will (suc more) from ≡ pick (will from) from (fewest_from will more (suc from))
   unfolding fewest_from
-  fewest-step more from = refl
+  fewest_step more from = refl
 
-  pub fewest-none : (from : ℕ) → fewest_from will 0 from ≡ from
+  pub fewest_none : (from : ℕ) → fewest_from will 0 from ≡ from
   unfolding fewest_from
-  fewest-none from = refl
+  fewest_none from = refl
 
-  will-from : (more from : ℕ) → will (from + more) ≡ true → will (fewest_from will more from) ≡ true
+  will_from : (more from : ℕ) → will (from + more) ≡ true → will (fewest_from will more from) ≡ true
   unfolding fewest_from
-  will-from zero from h = rw add-zero at h
-  will-from (suc more) from h =
+  will_from zero from h = rw add-zero at h
+  will_from (suc more) from h =
       pick_ind (λ k. will k ≡ true) (will from) (λ e. e)
-      (λ _. will-from more (suc from) (rw (suc-add, ← add-suc) h))
+      (λ _. will_from more (suc from) (rw (suc-add, ← add-suc) h))
 
-  most-from : (more from : ℕ) → fewest_from will more from ≤ from + more
+  most_from : (more from : ℕ) → fewest_from will more from ≤ from + more
   unfolding fewest_from
-  most-from zero from = omega arith
-  most-from (suc more) from =
+  most_from zero from = omega arith
+  most_from (suc more) from =
       pick_ind (λ k. k ≤ from + suc more) (will from) (λ _. omega arith)
-      (λ _. omega (arith, most-from more (suc from)))
+      (λ _. omega (arith, most_from more (suc from)))
 
-  least-from : (more from k : ℕ) → from ≤ k → will k ≡ true → fewest_from will more from ≤ k
+  least_from : (more from k : ℕ) → from ≤ k → will k ≡ true → fewest_from will more from ≤ k
   unfolding fewest_from
-  least-from zero from k le h = le
-  least-from (suc more) from k le h =
+  least_from zero from k le h = le
+  least_from (suc more) from k le h =
       pick_ind (λ j. j ≤ k) (will from) (λ _. le)
       (λ no. ⊎_elim
       (λ same. absurd (false≢true (sym no ∙ rw same h)))
-      (λ lt. least-from more (suc from) k lt h)
+      (λ lt. least_from more (suc from) k lt h)
       (eq-or-lt_of_le le))
 
   -- the fewest will do, if the most will
-  pub fewest-will : (most : ℕ) → will most ≡ true → will (fewest will most) ≡ true
-  fewest-will most h = will-from most 0 (rw zero-add h)
+  pub fewest_will : (most : ℕ) → will most ≡ true → will (fewest will most) ≡ true
+  fewest_will most h = will_from most 0 (rw zero-add h)
 
-  pub fewest-most : (most : ℕ) → fewest will most ≤ most
-  fewest-most most = omega (arith, most-from most 0)
+  pub fewest_most : (most : ℕ) → fewest will most ≤ most
+  fewest_most most = omega (arith, most_from most 0)
 
   -- none below it will do
-  pub fewest-least : (most k : ℕ) → will k ≡ true → fewest will most ≤ k
-  fewest-least most k h = least-from most 0 k (omega arith) h
+  pub fewest_least : (most k : ℕ) → will k ≡ true → fewest will most ≤ k
+  fewest_least most k h = least_from most 0 k (omega arith) h

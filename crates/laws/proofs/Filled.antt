@@ -43,16 +43,16 @@ module _ {A : Type 0} (size : ℕ) (blank : A) (whole : List A) where
       }
 
   -- nothing is to come, or there is no room
-  pub filled-done : (k : ℕ) (array : List A) → Filled size blank whole [] k array → Full size blank whole k array
-  filled-done k array so =
+  pub filled_done : (k : ℕ) (array : List A) → Filled size blank whole [] k array → Full size blank whole k array
+  filled_done k array so =
       let all : take k array ≡ whole = sym (append-nil (take k array)) ∙ so.come in
       let many : length (take k array) ≡ k = length-take-le k array (omega (arith, so.fits, so.long)) in
       let short : length whole ≡ k = ap length (sym all) ∙ many in
       (sym short, rw short (sym (take-append-drop k array) ∙ rw (all, so.rest)), omega (arith, so.fits))
 
-  pub filled-full :
+  pub filled_full :
       (left : List A) (array : List A) → Filled size blank whole left size array → Full size blank (take size whole) size array
-  filled-full left array so =
+  filled_full left array so =
       let all : take size array ≡ array = take_all size array (omega (arith, so.long)) in
       let front : take size whole ≡ array =
       rw (← so.come, all) (take-append-le size array left (omega (arith, so.long)) ∙ all) in

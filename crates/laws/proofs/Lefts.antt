@@ -8,14 +8,14 @@ use lib.Seq.{drop-cons, get_or-take}
 
 module _ {A : Type 0} (count : ℕ) (l : List A) where
   -- the next, and those after it
-  pub left-cons :
+  pub left_cons :
       (k : ℕ) (d : A) → k < count → k < length l →
       drop k (take count l) ≡ get_or l k d ∷ drop (suc k) (take count l)
-  left-cons k d h long =
+  left_cons k d h long =
       drop-cons (take count l) k d (omega (arith, length-take count l)) ∙ rw (get_or-take count l k d h)
 
   -- none
-  pub left-none : (k : ℕ) → min count (length l) ≤ k → drop k (take count l) ≡ []
-  left-none k h =
+  pub left_none : (k : ℕ) → min count (length l) ≤ k → drop k (take count l) ≡ []
+  left_none k h =
       let past : length (take count l) ≤ k = omega (arith, length-take count l) in
       drop_of_length-le (take count l) past

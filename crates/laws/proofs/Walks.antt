@@ -20,20 +20,20 @@ module _ (f : ℕ → Bool) where
   unfolding count_to
   count_none = refl
 
-  pub count-more : (k : ℕ) → count_to f (suc k) ≡ count_to f k + pick (f k) 1 0
+  pub count_more : (k : ℕ) → count_to f (suc k) ≡ count_to f k + pick (f k) 1 0
   unfolding count_to
-  count-more k = refl
+  count_more k = refl
 
   -- a turn that does not count
-  pub count-skip : (k n : ℕ) → f k ≡ false → n ≡ count_to f k → n ≡ count_to f (k + 1)
-  count-skip k n e h = rw (add-one k, count-more k, e, h, add-zero)
+  pub count_skip : (k n : ℕ) → f k ≡ false → n ≡ count_to f k → n ≡ count_to f (k + 1)
+  count_skip k n e h = rw (add-one k, count_more k, e, h, add-zero)
 
 -- what counts the same at each place counts the same
 pub count_same :
     (f g : ℕ → Bool) (n : ℕ) → ((k : ℕ) → k < n → f k ≡ g k) → count_to f n ≡ count_to g n
 count_same f g zero h = count_none f ∙ sym (count_none g)
 count_same f g (suc n) h =
-    rw (count-more f n, count-more g n, h n (omega arith), count_same f g n (λ k lt. h k (omega arith)))
+    rw (count_more f n, count_more g n, h n (omega arith), count_same f g n (λ k lt. h k (omega arith)))
 
 -- what counts no place that another does not counts no more
 pub count_fewer :
@@ -41,7 +41,7 @@ pub count_fewer :
 count_fewer f g zero h = omega (arith, count_none f)
 count_fewer f g (suc n) h =
     let less = count_fewer f g n (λ k lt. h k (omega arith)) in
-    rw (count-more f n, count-more g n)
+    rw (count_more f n, count_more g n)
     (pick_ind (λ m. count_to f n + m ≤ count_to g n + pick (g n) 1 0) (f n)
     (λ e. rw (h n (omega arith) e) (omega (arith, less)))
     (λ _. omega (arith, less)))
@@ -49,65 +49,65 @@ count_fewer f g (suc n) h =
 -- ---- tested
 
 module _ (f : ℕ → Bool) where
-  pub every-none : every_to f 0 ≡ true
+  pub every_none : every_to f 0 ≡ true
   unfolding every_to
-  every-none = refl
+  every_none = refl
 
   -- where all before it pass, the last one decides
-  pub every-last : (k : ℕ) → every_to f k ≡ true → every_to f (suc k) ≡ f k
+  pub every_last : (k : ℕ) → every_to f k ≡ true → every_to f (suc k) ≡ f k
   unfolding every_to
-  every-last k h = rw h
+  every_last k h = rw h
 
   pub every_more : (k : ℕ) → every_to f k ≡ true → f k ≡ true → every_to f (k + 1) ≡ true
-  every_more k h e = rw (add-one k) (every-last k h ∙ e)
+  every_more k h e = rw (add-one k) (every_last k h ∙ e)
 
   -- a place that fails: the whole test does
-  pub every-fails : (n k : ℕ) → k < n → f k ≡ false → every_to f n ≡ false
+  pub every_fails : (n k : ℕ) → k < n → f k ≡ false → every_to f n ≡ false
   unfolding every_to
-  every-fails zero k h e = absurd (not-suc-le-zero h)
-  every-fails (suc n) k h e =
+  every_fails zero k h e = absurd (not-suc-le-zero h)
+  every_fails (suc n) k h e =
       ⊎_elim
       (λ (same : k ≡ n). rw (← same, e) (pick_ind (λ t. t ≡ false) (every_to f k) (λ _. refl) (λ _. refl)))
-      (λ (lt : k < n). rw (every-fails n k lt e))
+      (λ (lt : k < n). rw (every_fails n k lt e))
       (eq-or-lt_of_le (le_of_suc-le-suc h))
 
   -- where the whole test passes, each place does
-  pub every-at : (n k : ℕ) → k < n → every_to f n ≡ true → f k ≡ true
+  pub every_at : (n k : ℕ) → k < n → every_to f n ≡ true → f k ≡ true
   unfolding every_to
-  every-at zero k h e = absurd (not-suc-le-zero h)
-  every-at (suc n) k h e =
+  every_at zero k h e = absurd (not-suc-le-zero h)
+  every_at (suc n) k h e =
       let p = pick_then (every_to f n) (f n) e in
-      ⊎_elim (λ (same : k ≡ n). rw same p.1) (λ (lt : k < n). every-at n k lt p.0) (eq-or-lt_of_le (le_of_suc-le-suc h))
+      ⊎_elim (λ (same : k ≡ n). rw same p.1) (λ (lt : k < n). every_at n k lt p.0) (eq-or-lt_of_le (le_of_suc-le-suc h))
 
   -- where each place passes, the whole test does
-  pub every-all : (n : ℕ) → ((k : ℕ) → k < n → f k ≡ true) → every_to f n ≡ true
-  every-all zero h = every-none
-  every-all (suc n) h = every-last n (every-all n (λ k lt. h k (omega arith))) ∙ h n (omega arith)
+  pub every_all : (n : ℕ) → ((k : ℕ) → k < n → f k ≡ true) → every_to f n ≡ true
+  every_all zero h = every_none
+  every_all (suc n) h = every_last n (every_all n (λ k lt. h k (omega arith))) ∙ h n (omega arith)
 
 -- ---- changed
 
 module _ {A : Type 0} (f : ℕ → A → A) where
-  pub length-changed : (from : ℕ) (l : List A) → length (changed_from f from l) ≡ length l
+  pub length_changed : (from : ℕ) (l : List A) → length (changed_from f from l) ≡ length l
   unfolding changed_from
-  length-changed from [] = refl
-  length-changed from (x ∷ l) = ap suc (length-changed (suc from) l)
+  length_changed from [] = refl
+  length_changed from (x ∷ l) = ap suc (length_changed (suc from) l)
 
-  changed-from :
+  changed_from_lem :
       (d : A) (from : ℕ) (l : List A) (k : ℕ) → k < length l →
       get_or (changed_from f from l) k d ≡ f (from + k) (get_or l k d)
   unfolding changed_from
-  changed-from d from [] k h = absurd (not-suc-le-zero h)
-  changed-from d from (x ∷ l) zero h = rw add-zero
-  changed-from d from (x ∷ l) (suc k) h =
-      changed-from d (suc from) l k (le_of_suc-le-suc h) ∙ rw (suc-add, ← add-suc)
+  changed_from_lem d from [] k h = absurd (not-suc-le-zero h)
+  changed_from_lem d from (x ∷ l) zero h = rw add-zero
+  changed_from_lem d from (x ∷ l) (suc k) h =
+      changed_from_lem d (suc from) l k (le_of_suc-le-suc h) ∙ rw (suc-add, ← add-suc)
 
   -- what stands at a place, and past the end
-  pub changed-at :
+  pub changed_at :
       (d : A) (l : List A) (k : ℕ) → k < length l → get_or (changed_from f 0 l) k d ≡ f k (get_or l k d)
-  changed-at d l k h = rw zero-add at (changed-from d 0 l k h)
+  changed_at d l k h = rw zero-add at (changed_from_lem d 0 l k h)
 
-  pub changed-past : (d : A) (l : List A) (k : ℕ) → length l ≤ k → get_or (changed_from f 0 l) k d ≡ d
-  changed-past d l k h = get_or-eq_default (changed_from f 0 l) d (omega (arith, length-changed 0 l))
+  pub changed_past : (d : A) (l : List A) (k : ℕ) → length l ≤ k → get_or (changed_from f 0 l) k d ≡ d
+  changed_past d l k h = get_or-eq_default (changed_from f 0 l) d (omega (arith, length_changed 0 l))
 
 -- ---- gathered
 
@@ -116,27 +116,27 @@ module _ {A : Type 0} where
   unfolding gathered
   gathered_none f = refl
 
-  pub gathered-more : (f : ℕ → List A) (k : ℕ) → gathered f (suc k) ≡ gathered f k ++ f k
+  pub gathered_more : (f : ℕ → List A) (k : ℕ) → gathered f (suc k) ≡ gathered f k ++ f k
   unfolding gathered
-  gathered-more f k = refl
+  gathered_more f k = refl
 
   -- where each place gives at most one thing, and none unless it passes the test
-  pub gathered-few :
+  pub gathered_few :
       (f : ℕ → List A) (g : ℕ → Bool) (n : ℕ) → ((k : ℕ) → k < n → length (f k) ≤ pick (g k) 1 0) →
       length (gathered f n) ≤ count_to g n
-  gathered-few f g zero h = rw gathered_none (omega arith)
-  gathered-few f g (suc n) h =
-      rw (gathered-more f n, count-more g n, length-append (gathered f n) (f n))
-      (omega (arith, h n (omega arith), gathered-few f g n (λ k lt. h k (omega arith))))
+  gathered_few f g zero h = rw gathered_none (omega arith)
+  gathered_few f g (suc n) h =
+      rw (gathered_more f n, count_more g n, length-append (gathered f n) (f n))
+      (omega (arith, h n (omega arith), gathered_few f g n (λ k lt. h k (omega arith))))
 
   -- what holds of nothing and of two lists put together, if it holds of each, holds of what is gathered if it holds of each part
-  pub gathered-ind :
+  pub gathered_ind :
       (P : List A → Type 0) → P [] → ((xs ys : List A) → P xs → P ys → P (xs ++ ys)) → (f : ℕ → List A) (n : ℕ) →
       ((k : ℕ) → k < n → P (f k)) →
       P (gathered f n)
-  gathered-ind P none both f zero h = rw gathered_none none
-  gathered-ind P none both f (suc n) h =
-      rw (gathered-more f n) (both _ _ (gathered-ind P none both f n (λ k lt. h k (omega arith))) (h n (omega arith)))
+  gathered_ind P none both f zero h = rw gathered_none none
+  gathered_ind P none both f (suc n) h =
+      rw (gathered_more f n) (both _ _ (gathered_ind P none both f n (λ k lt. h k (omega arith))) (h n (omega arith)))
 
 -- ---- things kept in an array, and blanks past them
 

@@ -2,7 +2,7 @@
 use listings::print_sheet;
 
 // Room for the input. A sheet has at most 1,613 octets, so input that fills this is none, and `refused 9` follows by itself
-// (crates/listings/proofs/Accepted.antt, `prints-long`).
+// (crates/listings/proofs/Accepted.antt, `prints_long`).
 const SPACE: usize = 2048;
 
 // Room for the longest listing.

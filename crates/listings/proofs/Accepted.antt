@@ -14,44 +14,44 @@ use Rattle.refusals.specs.Refusal.{tells}
 use Rattle.refusals.specs.Handling.{Made, handling_told}
 use Rattle.refusals.specs.declared.handling.Handling.TheVariants.{Done}
 use Rattle.refusals.specs.declared.handling.Written.{Written}
-use Rattle.refusals.proofs.Refusals.{refuses-not}
+use Rattle.refusals.proofs.Refusals.{refuses_not}
 use Rattle.forms.specs.Form.{form1}
 use Rattle.forms.specs.Sheet.{Sheet, sheet_in}
-use Rattle.forms.proofs.Accepted.{accepted-form1}
+use Rattle.forms.proofs.Accepted.{accepted_form1}
 use Rattle.listings.specs.Listing.{listing_most, is_sheet, listed_sheet, ListsSheet, refused_line, printed_as, printed_sheet, PrintsSheet}
 
 module _ (s : List ℕ) (small : (i : ℕ) → get_or s i 0 < 256) where
-  is-most : is_sheet (sheet_in form1 s) ≡ true → length s ≤ 1613
-  is-most = each (sheet_in form1 s) refl
+  is_most : is_sheet (sheet_in form1 s) ≡ true → length s ≤ 1613
+  is_most = each (sheet_in form1 s) refl
     where
       each : (g : Got Sheet) → sheet_in form1 s ≡ g → is_sheet g ≡ true → length s ≤ 1613
-      each (got sheet next) e _ = accepted-form1 s small sheet next e
+      each (got sheet next) e _ = accepted_form1 s small sheet next e
       each wrong e h = absurd (false≢true h)
 
-  listed-size : (size : ℕ) → (listed_sheet s size).told ≡ tells tt → length s ≤ 1613
+  listed_size : (size : ℕ) → (listed_sheet s size).told ≡ tells tt → length s ≤ 1613
   unfolding listed_sheet
-  listed-size size =
+  listed_size size =
       let P : Made → Type 0 = λ m. m.told ≡ tells tt → length s ≤ 1613 in
-      pick_ind P (ltb size (listing_most form1)) (λ _ h. absurd (refuses-not _ tt h)) (λ _.
-      pick_ind P (not (is_sheet (sheet_in form1 s))) (λ _ h. absurd (refuses-not _ tt h)) (λ is _. is-most (not-false _ is)))
+      pick_ind P (ltb size (listing_most form1)) (λ _ h. absurd (refuses_not _ tt h)) (λ _.
+      pick_ind P (not (is_sheet (sheet_in form1 s))) (λ _ h. absurd (refuses_not _ tt h)) (λ is _. is_most (not-false _ is)))
 
   -- what `list_sheet` lists has at most 1,613 octets
-  pub listed-accepted :
+  pub listed_accepted :
       (xs : List ℕ) (r : Written) (ys : List ℕ) → ListsSheet s xs r ys → r.outcome ≡ Done → length s ≤ 1613
-  listed-accepted xs r ys lists done = listed-size (length xs) (sym lists.told ∙ ap handling_told done)
+  listed_accepted xs r ys lists done = listed_size (length xs) (sym lists.told ∙ ap handling_told done)
 
-  printed-long : (size : ℕ) → listing_most form1 ≤ size → 1613 < length s → printed_sheet s size ≡ refused_line
+  printed_long : (size : ℕ) → listing_most form1 ≤ size → 1613 < length s → printed_sheet s size ≡ refused_line
   unfolding printed_sheet
-  printed-long size room long = rw (le-ltb size (listing_most form1) room) (each (sheet_in form1 s) refl)
+  printed_long size room long = rw (le-ltb size (listing_most form1) room) (each (sheet_in form1 s) refl)
     where
       each : (g : Got Sheet) → sheet_in form1 s ≡ g → printed_as g ≡ refused_line
-      each (got sheet next) e = absurd (omega (arith, long, accepted-form1 s small sheet next e))
+      each (got sheet next) e = absurd (omega (arith, long, accepted_form1 s small sheet next e))
       each wrong e = refl
 
   -- of more octets `print_sheet` prints "refused 9", so that one who has read so many need not read on
-  pub prints-long :
+  pub prints_long :
       (xs : List ℕ) (r : ℕ) (ys : List ℕ) → PrintsSheet s xs r ys → listing_most form1 ≤ length xs → 1613 < length s →
       (r ≡ length refused_line) × (ys ≡ over xs 0 refused_line)
-  prints-long xs r ys prints room long =
-      let is = printed-long (length xs) room long in
+  prints_long xs r ys prints room long =
+      let is = printed_long (length xs) room long in
       (prints.count ∙ ap length is, prints.lent ∙ ap (over xs 0) is)

@@ -33,25 +33,25 @@ more_most few many (suc n) less =
 
 -- one more of the procedure q
 module _ (count more : ℕ → ℕ) (q : ℕ) (one : (procedure : ℕ) → more procedure ≡ pick (eqb q procedure) 1 0 + count procedure) where
-  most-before : (n : ℕ) → n ≤ q → lines_most more n ≡ lines_most count n
-  most-before zero h = refl
-  most-before (suc n) h =
+  most_before : (n : ℕ) → n ≤ q → lines_most more n ≡ lines_most count n
+  most_before zero h = refl
+  most_before (suc n) h =
       let same : more n ≡ count n = one n ∙ rw (ne_eqb q n (λ e. omega arith)) (omega arith) in
-      rw (same, most-before n (omega arith))
+      rw (same, most_before n (omega arith))
 
-  pub most-one : (n : ℕ) → q < n → lines_most more n ≡ lines_most count n + line_most q
-  most-one zero h = absurd (omega arith)
-  most-one (suc n) h =
+  pub most_one : (n : ℕ) → q < n → lines_most more n ≡ lines_most count n + line_most q
+  most_one zero h = absurd (omega arith)
+  most_one (suc n) h =
       by_bool (lines_most more (suc n) ≡ lines_most count (suc n) + line_most q) (eqb q n)
       (λ e.
       let here : q ≡ n = eqb-true q n e in
       let added : more n ≡ 1 + count n = one n ∙ rw e in
       rw added
-      (omega (arith, ap line_most here, most-before n (omega (arith, here)), add-mul 1 (count n) (line_most n), one-mul (line_most n))))
+      (omega (arith, ap line_most here, most_before n (omega (arith, here)), add-mul 1 (count n) (line_most n), one-mul (line_most n))))
       (λ e.
       let less : q < n = omega (arith, eqb-false q n e) in
       let same : more n ≡ count n = one n ∙ rw e (omega arith) in
-      rw (same, most-one n less) (omega arith))
+      rw (same, most_one n less) (omega arith))
 
 pub lines_most_lem :
     (is : List Instance) → Each (FieldsFit form1) is →
@@ -64,6 +64,6 @@ lines_most_lem (i ∷ is) b =
       length-append (instance_line i) (instance_lines is),
       line_most_lem i b.0,
       lines_most_lem is b.1,
-      most-one (λ procedure. count_of procedure is) (λ procedure. count_of procedure (i ∷ is)) i.procedure
+      most_one (λ procedure. count_of procedure is) (λ procedure. count_of procedure (i ∷ is)) i.procedure
           (λ procedure. count_cons procedure i is) form1.procedures b.0.procedure,
     ))

@@ -35,8 +35,8 @@ module _ (xs : List ℕ) (at : ℕ) (w v : List ℕ) (ws : List (List ℕ)) (fit
 
   -- it was written: there is room for the others, and with them all are written
   module _ {p : ℕ} {ys : List ℕ} (word : Wrote xs at (ended_by w 32) p ys) where
-    line-room : p + length (line_of (v ∷ ws)) ≤ length ys
-    line-room = room_then (line_of (v ∷ ws)) (rw (line_more w v ws) at fits) word
+    line_room : p + length (line_of (v ∷ ws)) ≤ length ys
+    line_room = room_then (line_of (v ∷ ws)) (rw (line_more w v ws) at fits) word
 
     line_wrote : {q : ℕ} {zs : List ℕ} → Wrote ys p (line_of (v ∷ ws)) q zs → Wrote xs at (line_of (w ∷ v ∷ ws)) q zs
     line_wrote rest = rw (line_more w v ws) (then word rest)
@@ -65,57 +65,57 @@ module _ (i : Instance) where
   abbrev sub : List ℕ
   sub = sub_text a.subcount a.sub
 
-  line-words : instance_line i ≡ line_of (name ∷ number ∷ service ∷ kind ∷ digits ∷ sub ∷ [])
+  line_words : instance_line i ≡ line_of (name ∷ number ∷ service ∷ kind ∷ digits ∷ sub ∷ [])
   unfolding instance_line
-  line-words = refl
+  line_words = refl
 
   module _ (xs : List ℕ) (at : ℕ) (fits : at + length (instance_line i) ≤ length xs) where
     whole : at + length (line_of (name ∷ number ∷ service ∷ kind ∷ digits ∷ sub ∷ [])) ≤ length xs
-    whole = rw line-words at fits
+    whole = rw line_words at fits
 
-    pub name-room : at + length (ended_by name 32) ≤ length xs
-    name-room = line_first xs at name number (service ∷ kind ∷ digits ∷ sub ∷ []) whole
+    pub name_room : at + length (ended_by name 32) ≤ length xs
+    name_room = line_first xs at name number (service ∷ kind ∷ digits ∷ sub ∷ []) whole
 
     module _ {p : ℕ} {ys : List ℕ} (w1 : Wrote xs at (ended_by name 32) p ys) where
-      after-name : p + length (line_of (number ∷ service ∷ kind ∷ digits ∷ sub ∷ [])) ≤ length ys
-      after-name = line-room xs at name number (service ∷ kind ∷ digits ∷ sub ∷ []) whole w1
+      after_name : p + length (line_of (number ∷ service ∷ kind ∷ digits ∷ sub ∷ [])) ≤ length ys
+      after_name = line_room xs at name number (service ∷ kind ∷ digits ∷ sub ∷ []) whole w1
 
-      pub number-room : p + length (ended_by number 32) ≤ length ys
-      number-room = line_first ys p number service (kind ∷ digits ∷ sub ∷ []) after-name
+      pub number_room : p + length (ended_by number 32) ≤ length ys
+      number_room = line_first ys p number service (kind ∷ digits ∷ sub ∷ []) after_name
 
       module _ {q : ℕ} {zs : List ℕ} (w2 : Wrote ys p (ended_by number 32) q zs) where
-        after-number : q + length (line_of (service ∷ kind ∷ digits ∷ sub ∷ [])) ≤ length zs
-        after-number = line-room ys p number service (kind ∷ digits ∷ sub ∷ []) after-name w2
+        after_number : q + length (line_of (service ∷ kind ∷ digits ∷ sub ∷ [])) ≤ length zs
+        after_number = line_room ys p number service (kind ∷ digits ∷ sub ∷ []) after_name w2
 
-        pub service-room : q + length (ended_by service 32) ≤ length zs
-        service-room = line_first zs q service kind (digits ∷ sub ∷ []) after-number
+        pub service_room : q + length (ended_by service 32) ≤ length zs
+        service_room = line_first zs q service kind (digits ∷ sub ∷ []) after_number
 
         module _ {k : ℕ} {us : List ℕ} (w3 : Wrote zs q (ended_by service 32) k us) where
-          after-service : k + length (line_of (kind ∷ digits ∷ sub ∷ [])) ≤ length us
-          after-service = line-room zs q service kind (digits ∷ sub ∷ []) after-number w3
+          after_service : k + length (line_of (kind ∷ digits ∷ sub ∷ [])) ≤ length us
+          after_service = line_room zs q service kind (digits ∷ sub ∷ []) after_number w3
 
-          pub kind-room : k + length (ended_by kind 32) ≤ length us
-          kind-room = line_first us k kind digits (sub ∷ []) after-service
+          pub kind_room : k + length (ended_by kind 32) ≤ length us
+          kind_room = line_first us k kind digits (sub ∷ []) after_service
 
           module _ {m : ℕ} {vs : List ℕ} (w4 : Wrote us k (ended_by kind 32) m vs) where
-            after-kind : m + length (line_of (digits ∷ sub ∷ [])) ≤ length vs
-            after-kind = line-room us k kind digits (sub ∷ []) after-service w4
+            after_kind : m + length (line_of (digits ∷ sub ∷ [])) ≤ length vs
+            after_kind = line_room us k kind digits (sub ∷ []) after_service w4
 
-            pub digits-room : m + length (ended_by digits 32) ≤ length vs
-            digits-room = line_first vs m digits sub [] after-kind
+            pub digits_room : m + length (ended_by digits 32) ≤ length vs
+            digits_room = line_first vs m digits sub [] after_kind
 
             module _ {t : ℕ} {ws : List ℕ} (w5 : Wrote vs m (ended_by digits 32) t ws) where
-              pub sub-room : t + length (ended_by sub 10) ≤ length ws
-              sub-room = rw (line_last sub) at (line-room vs m digits sub [] after-kind w5)
+              pub sub_room : t + length (ended_by sub 10) ≤ length ws
+              sub_room = rw (line_last sub) at (line_room vs m digits sub [] after_kind w5)
 
-              pub instance-wrote : {n : ℕ} {rs : List ℕ} → Wrote ws t (ended_by sub 10) n rs → Wrote xs at (instance_line i) n rs
-              instance-wrote w6 =
-                  rw line-words
+              pub instance_wrote : {n : ℕ} {rs : List ℕ} → Wrote ws t (ended_by sub 10) n rs → Wrote xs at (instance_line i) n rs
+              instance_wrote w6 =
+                  rw line_words
                   (line_wrote xs at name number (service ∷ kind ∷ digits ∷ sub ∷ []) whole w1
-                  (line_wrote ys p number service (kind ∷ digits ∷ sub ∷ []) after-name w2
-                  (line_wrote zs q service kind (digits ∷ sub ∷ []) after-number w3
-                  (line_wrote us k kind digits (sub ∷ []) after-service w4
-                  (line_wrote vs m digits sub [] after-kind w5 (rw (line_last sub) w6))))))
+                  (line_wrote ys p number service (kind ∷ digits ∷ sub ∷ []) after_name w2
+                  (line_wrote zs q service kind (digits ∷ sub ∷ []) after_number w3
+                  (line_wrote us k kind digits (sub ∷ []) after_service w4
+                  (line_wrote vs m digits sub [] after_kind w5 (rw (line_last sub) w6))))))
 
   -- a line has at most 71 octets beside its procedure's name
   module _ (b : FieldsFit form1 i) where
@@ -142,7 +142,7 @@ module _ (i : Instance) where
     line_most_lem =
         omega (
           arith,
-          ap length line-words,
+          ap length line_words,
           ap length (line_more name number (service ∷ kind ∷ digits ∷ sub ∷ [])),
           length-append (ended_by name 32) (line_of (number ∷ service ∷ kind ∷ digits ∷ sub ∷ [])),
           length-append name (32 ∷ []),
@@ -178,51 +178,51 @@ abbrev count_text : List ℕ
 count_text = 99 ∷ 111 ∷ 117 ∷ 110 ∷ 116 ∷ 32 ∷ []
 
 module _ (last count : ℕ) where
-  abbrev lastPart : List ℕ
-  lastPart = ended_by (decimal last) 32
+  abbrev last_part : List ℕ
+  last_part = ended_by (decimal last) 32
 
-  abbrev countPart : List ℕ
-  countPart = ended_by (decimal count) 10
+  abbrev count_part : List ℕ
+  count_part = ended_by (decimal count) 10
 
-  header-text : header_line 1 last count ≡ form_text ++ (lastPart ++ (count_text ++ countPart))
+  header_text : header_line 1 last count ≡ form_text ++ (last_part ++ (count_text ++ count_part))
   unfolding header_line line_of
-  header-text = rw (decimal_one 1 (omega arith))
+  header_text = rw (decimal_one 1 (omega arith))
 
   module _ (xs : List ℕ) (fits : length (header_line 1 last count) ≤ length xs) {p : ℕ} {ys : List ℕ} (put : Puts xs 0 form_text p ys) where
-    whole-header : 0 + length (form_text ++ (lastPart ++ (count_text ++ countPart))) ≤ length xs
-    whole-header = omega (arith, ap length header-text)
+    whole_header : 0 + length (form_text ++ (last_part ++ (count_text ++ count_part))) ≤ length xs
+    whole_header = omega (arith, ap length header_text)
 
-    form-wrote : Wrote xs 0 form_text p ys
-    form-wrote = wrote (omega (arith, length-append form_text (lastPart ++ (count_text ++ countPart)), whole-header)) put
+    form_wrote : Wrote xs 0 form_text p ys
+    form_wrote = wrote (omega (arith, length-append form_text (last_part ++ (count_text ++ count_part)), whole_header)) put
 
-    after-form : p + length (lastPart ++ (count_text ++ countPart)) ≤ length ys
-    after-form = room_then (lastPart ++ (count_text ++ countPart)) whole-header form-wrote
+    after_form : p + length (last_part ++ (count_text ++ count_part)) ≤ length ys
+    after_form = room_then (last_part ++ (count_text ++ count_part)) whole_header form_wrote
 
-    pub last-room : p + length lastPart ≤ length ys
-    last-room = omega (arith, after-form, length-append lastPart (count_text ++ countPart))
+    pub last_room : p + length last_part ≤ length ys
+    last_room = omega (arith, after_form, length-append last_part (count_text ++ count_part))
 
-    module _ {q : ℕ} {zs : List ℕ} (w : Wrote ys p lastPart q zs) {k : ℕ} {us : List ℕ} (again : Puts zs q count_text k us) where
-      after_last : q + length (count_text ++ countPart) ≤ length zs
-      after_last = room_then (count_text ++ countPart) after-form w
+    module _ {q : ℕ} {zs : List ℕ} (w : Wrote ys p last_part q zs) {k : ℕ} {us : List ℕ} (again : Puts zs q count_text k us) where
+      after_last : q + length (count_text ++ count_part) ≤ length zs
+      after_last = room_then (count_text ++ count_part) after_form w
 
-      count-wrote : Wrote zs q count_text k us
-      count-wrote = wrote (omega (arith, after_last, length-append count_text countPart)) again
+      count_wrote : Wrote zs q count_text k us
+      count_wrote = wrote (omega (arith, after_last, length-append count_text count_part)) again
 
-      pub count_room : k + length countPart ≤ length us
-      count_room = room_then countPart after_last count-wrote
+      pub count_room : k + length count_part ≤ length us
+      count_room = room_then count_part after_last count_wrote
 
-      pub header-wrote : {n : ℕ} {rs : List ℕ} → Wrote us k countPart n rs → Wrote xs 0 (header_line 1 last count) n rs
-      header-wrote last_word = rw header-text (then form-wrote (then w (then count-wrote last_word)))
+      pub header_wrote : {n : ℕ} {rs : List ℕ} → Wrote us k count_part n rs → Wrote xs 0 (header_line 1 last count) n rs
+      header_wrote last_word = rw header_text (then form_wrote (then w (then count_wrote last_word)))
 
   -- it has at most 27 octets
-  pub header-most : last ≤ 32767 → count < 100 → length (header_line 1 last count) ≤ header_most
-  header-most few small =
+  pub header_most_lem : last ≤ 32767 → count < 100 → length (header_line 1 last count) ≤ header_most
+  header_most_lem few small =
       omega (
         arith,
-        ap length header-text,
-        length-append form_text (lastPart ++ (count_text ++ countPart)),
-        length-append lastPart (count_text ++ countPart),
-        length-append count_text countPart,
+        ap length header_text,
+        length-append form_text (last_part ++ (count_text ++ count_part)),
+        length-append last_part (count_text ++ count_part),
+        length-append count_text count_part,
         length-append (decimal last) (32 ∷ []),
         length-append (decimal count) (10 ∷ []),
         decimal_most 4 last (omega arith),

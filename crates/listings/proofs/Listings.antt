@@ -10,7 +10,7 @@ use Rattle.instances.specs.Places.{run_most}
 use Rattle.instances.specs.Run.{instances_of}
 use Rattle.instances.specs.declared.instance.Instance.{Instance}
 use Rattle.instances.specs.declared.run.Run.{Run}
-use Rattle.instances.proofs.Runs.{outside, next-is, none_left}
+use Rattle.instances.proofs.Runs.{outside, next_is, none_left}
 use Rattle.listings.specs.Listing.{instance_line, instance_lines}
 use Rattle.listings.specs.inner.Write.{Counted, AllCounted}
 
@@ -45,19 +45,19 @@ module _ (is : List Instance) (xs : List ℕ) (at : ℕ) where
 
   module _ {i p : ℕ} {ys : List ℕ} (so : Going is xs at i p ys) where
     -- it has listed them all
-    going-all : drop i is ≡ [] → Wrote xs at (instance_lines is) p ys
-    going-all none =
+    going_all : drop i is ≡ [] → Wrote xs at (instance_lines is) p ys
+    going_all none =
         let end : is ≡ so.done = so.all ∙ ap (λ (l : List Instance). so.done ++ l) none ∙ append-nil so.done in
         rw end so.wrote
 
     -- the next one
     module _ (k : Instance) (more : drop i is ≡ k ∷ drop (i + 1) is) where
-      going-counted : Counted k.address
-      going-counted = let each = rw more at so.counted in each.0
+      going_counted : Counted k.address
+      going_counted = let each = rw more at so.counted in each.0
 
       -- there is room for its line where there is for them all
-      going-room : at + length (instance_lines is) ≤ length xs → p + length (instance_line k) ≤ length ys
-      going-room fits =
+      going_room : at + length (instance_lines is) ≤ length xs → p + length (instance_line k) ≤ length ys
+      going_room fits =
           let lines : instance_lines is ≡ instance_lines so.done ++ instance_lines (drop i is) =
           ap instance_lines so.all ∙ lines_append so.done (drop i is) in
           omega (
@@ -88,19 +88,19 @@ module _ (run : Run) (long : length run.run ≡ run_most) (xs : List ℕ) (at : 
 
   module _ (i : ℕ) {p : ℕ} {ys : List ℕ} (so : Going is xs at i p ys) where
     -- no more are counted, or it is at the end of the array
-    pub run-all : min run.count run_most ≤ i → Wrote xs at (instance_lines is) p ys
-    run-all h = going-all is xs at so (none_left run (min run.count run_most) i refl long h)
+    pub run_all : min run.count run_most ≤ i → Wrote xs at (instance_lines is) p ys
+    run_all h = going_all is xs at so (none_left run (min run.count run_most) i refl long h)
 
     module _ (few : i < run.count) (less : i < run_most) where
       abbrev k : Instance
       k = get_or run.run i outside
 
       more : drop i is ≡ k ∷ drop (i + 1) is
-      more = next-is run (min run.count run_most) i refl long (omega arith)
+      more = next_is run (min run.count run_most) i refl long (omega arith)
 
       pub run_room :
           at + length (instance_lines is) ≤ length xs → Counted k.address × (p + length (instance_line k) ≤ length ys)
-      run_room fits = (going-counted is xs at so k more, going-room is xs at so k more fits)
+      run_room fits = (going_counted is xs at so k more, going_room is xs at so k more fits)
 
-      pub run-next : {q : ℕ} {zs : List ℕ} → Wrote ys p (instance_line k) q zs → Going is xs at (i + 1) q zs
-      run-next line = going_next is xs at so k more line
+      pub run_next : {q : ℕ} {zs : List ℕ} → Wrote ys p (instance_line k) q zs → Going is xs at (i + 1) q zs
+      run_next line = going_next is xs at so k more line

@@ -29,12 +29,12 @@ use Rattle.refusals.specs.declared.handling.Handling.TheVariants.{Done}
 use Rattle.refusals.specs.declared.handling.Written.{Written}
 use Rattle.forms.specs.declared.sheet.FormRead.{FormRead}
 use Rattle.forms.proofs.Fits.{FieldsFit, held_small, order_of, form1_short}
-use Rattle.forms.proofs.Sheets.{Allowed, sheet_allowed_lem, allowed-room, FormFound, form_found, form_none}
+use Rattle.forms.proofs.Sheets.{Allowed, sheet_allowed_lem, allowed_room, FormFound, form_found, form_none}
 use Rattle.listings.specs.Listing.{procedure_name, line_of, header_line, instance_lines, header_most, lines_most, listing}
 use Rattle.listings.specs.Listing.{listing_most, listing_in, listed_sheet, ListsSheet, refused_line, printed_as, printed_sheet, PrintsSheet}
 use Rattle.listings.specs.inner.Write.{AllCounted, sheet_of}
 use Rattle.listings.proofs.Words.{decimal_one}
-use Rattle.listings.proofs.Lines.{header-most}
+use Rattle.listings.proofs.Lines.{header_most_lem}
 use Rattle.listings.proofs.Lengths.{lines_most_lem, more_most}
 
 -- ---- how long a listing is
@@ -60,24 +60,24 @@ module _ (sheet : Sheet) (so : Allowed form1 sheet) where
   is = sheet.instances
 
   -- by how many instances there are of each procedure
-  pub listing-most :
+  pub listing_most_lem :
       length (listing form1 sheet) ≤ header_most + lines_most (λ procedure. count_of procedure is) form1.procedures
-  listing-most =
-      let short = allowed-room form1 form1_short sheet so in
+  listing_most_lem =
+      let short = allowed_room form1 form1_short sheet so in
       omega (
         arith,
         ap length (listing_parts sheet),
         length-append (header_line 1 sheet.last (length is)) (instance_lines is),
-        header-most sheet.last (length is) so.last (omega (arith, short)),
+        header_most_lem sheet.last (length is) so.last (omega (arith, short)),
         lines_most_lem is so.each,
       )
 
-  allowed-fits : length (listing form1 sheet) ≤ listing_most form1
-  allowed-fits =
+  allowed_fits : length (listing form1 sheet) ≤ listing_most form1
+  allowed_fits =
       let few = few_of 8 is (order_of form1 is so.order).1 in
       omega (
         arith,
-        listing-most,
+        listing_most_lem,
         more_most (λ procedure. count_of procedure is) (λ _. form1.perprocedure) form1.procedures (few_each is few),
       )
 
@@ -86,7 +86,7 @@ pub listing_fits : (s : List ℕ) → length (listing_in (sheet_in form1 s)) ≤
 listing_fits s = each (sheet_in form1 s) refl
   where
     each : (g : Got Sheet) → sheet_in form1 s ≡ g → length (listing_in g) ≤ listing_most form1
-    each (got sheet next) e = allowed-fits sheet (found_is (Allowed form1) e (sheet_allowed_lem form1 s))
+    each (got sheet next) e = allowed_fits sheet (found_is (Allowed form1) e (sheet_allowed_lem form1 s))
     each wrong e = omega arith
 
 -- ---- the listing of a run
@@ -98,21 +98,21 @@ module _ (last : ℕ) (run : Run) (few : run.count ≤ run_most) (long : length 
   abbrev lines : List ℕ
   lines = instance_lines (instances_of run)
 
-  run-parts : listing form1 (sheet_of last run) ≡ header ++ lines
-  run-parts =
+  run_parts : listing form1 (sheet_of last run) ≡ header ++ lines
+  run_parts =
       let count : length (instances_of run) ≡ run.count = length-take-le run.count run.run (omega arith) in
       listing_parts (sheet_of last run) ∙ ap (λ (n : ℕ). header_line 1 last n ++ lines) count
 
   module _ (xs : List ℕ) (fits : length (listing form1 (sheet_of last run)) ≤ length xs) where
-    pub header-room : length header ≤ length xs
-    header-room = omega (arith, ap length run-parts, length-append header lines)
+    pub header_room : length header ≤ length xs
+    header_room = omega (arith, ap length run_parts, length-append header lines)
 
     module _ {p : ℕ} {ys : List ℕ} (head : Wrote xs 0 header p ys) where
-      pub lines-room : p + length lines ≤ length ys
-      lines-room = room_then lines (omega (arith, ap length run-parts)) head
+      pub lines_room : p + length lines ≤ length ys
+      lines_room = room_then lines (omega (arith, ap length run_parts)) head
 
-      pub listing-wrote : {q : ℕ} {zs : List ℕ} → Wrote ys p lines q zs → Wrote xs 0 (listing form1 (sheet_of last run)) q zs
-      listing-wrote rest = rw run-parts (then head rest)
+      pub listing_wrote : {q : ℕ} {zs : List ℕ} → Wrote ys p lines q zs → Wrote xs 0 (listing form1 (sheet_of last run)) q zs
+      listing_wrote rest = rw run_parts (then head rest)
 
 -- ---- a sheet that was read
 
@@ -129,18 +129,18 @@ module _ (s : List ℕ) (r : FormRead) (told : ReadForm s r) (ok : r.ok ≡ true
   found : FormFound s r
   found = form_found s r told ok
 
-  same-sheet : sheet_of r.last r.run ≡ found.sheet
-  same-sheet =
+  same_sheet : sheet_of r.last r.run ≡ found.sheet
+  same_sheet =
       ap (λ (n : ℕ). sheet_of n r.run) found.last
       ∙ ap (λ (is : List Instance). sheet_for found.sheet.last is) found.instances
 
   -- what its writer asks, in output that has room for the longest listing
-  pub listing-asks :
+  pub listing_asks :
       (xs : List ℕ) → listing_most form1 ≤ length xs →
       (r.run.count ≤ run_most) × (length (listing form1 (sheet_of r.last r.run)) ≤ length xs) × AllCounted (instances_of r.run)
-  listing-asks xs fits = (
+  listing_asks xs fits = (
     omega (arith, ap (λ (x : Run). x.count) found.run, length-take run_most found.sheet.instances),
-    rw same-sheet (omega (arith, allowed-fits found.sheet found.allowed)),
+    rw same_sheet (omega (arith, allowed_fits found.sheet found.allowed)),
     rw found.instances (all_counted found.sheet.instances found.allowed.each),
   )
 
@@ -151,16 +151,16 @@ unfolding refused_line line_of
 refused_text = rw (decimal_one 9 (omega arith))
 
 module _ (s xs : List ℕ) where
-  pub lists-short :
+  pub lists_short :
       length xs < listing_most form1 → (r : Written) → r ≡ not_written ShortOutput → ListsSheet s xs r xs
   unfolding listed_sheet
-  lists-short short r e =
+  lists_short short r e =
       let is = lt-ltb (length xs) (listing_most form1) short in
       record { told = rw (is, e); count = rw (is, e); lent = rw is (sym (over_nil xs 0)) }
 
-  pub prints-short : length xs < listing_most form1 → PrintsSheet s xs 0 xs
+  pub prints_short : length xs < listing_most form1 → PrintsSheet s xs 0 xs
   unfolding printed_sheet
-  prints-short short =
+  prints_short short =
       let is = lt-ltb (length xs) (listing_most form1) short in
       record { count = rw is; lent = rw is (sym (over_nil xs 0)) }
 
@@ -172,44 +172,44 @@ module _ (s xs : List ℕ) where
       none : sheet_in form1 s ≡ wrong
       none = form_none s r told bad
 
-      pub lists-none : (w : Written) → w ≡ not_written BadSheet → ListsSheet s xs w xs
+      pub lists_none : (w : Written) → w ≡ not_written BadSheet → ListsSheet s xs w xs
       unfolding listed_sheet
-      lists-none w e = record {
+      lists_none w e = record {
         told = rw (wide, none, e);
         count = rw (wide, none, e);
         lent = rw (wide, none) (sym (over_nil xs 0));
       }
 
-      pub prints-none :
+      pub prints_none :
           {n : ℕ} {ys : List ℕ} →
           Puts xs 0 (114 ∷ 101 ∷ 102 ∷ 117 ∷ 115 ∷ 101 ∷ 100 ∷ 32 ∷ 57 ∷ 10 ∷ []) n ys →
           PrintsSheet s xs n ys
       unfolding printed_sheet
-      prints-none put =
+      prints_none put =
           let w = wrote (omega arith) put in
           record { count = rw (wide, none, refused_text) (w.moved ∙ zero-add _); lent = rw (wide, none, refused_text) w.holds }
 
     module _ (ok : r.ok ≡ true) {n : ℕ} {ys : List ℕ}
         (w : Wrote xs 0 (listing form1 (sheet_of r.last r.run)) n ys) where
-      is-sheet : sheet_in form1 s ≡ got (found s r told ok).sheet (found s r told ok).next
-      is-sheet = (found s r told ok).is
+      is_sheet_lem : sheet_in form1 s ≡ got (found s r told ok).sheet (found s r told ok).next
+      is_sheet_lem = (found s r told ok).is
 
       whole : Wrote xs 0 (listing form1 (found s r told ok).sheet) n ys
-      whole = rw (same-sheet s r told ok) at w
+      whole = rw (same_sheet s r told ok) at w
 
-      pub lists-sheet : ListsSheet s xs (record { outcome = Done; count = n }) ys
+      pub lists_sheet : ListsSheet s xs (record { outcome = Done; count = n }) ys
       unfolding listed_sheet
-      lists-sheet = record {
-        told = rw (wide, is-sheet);
-        count = rw (wide, is-sheet) (whole.moved ∙ zero-add _);
-        lent = rw (wide, is-sheet) whole.holds;
+      lists_sheet = record {
+        told = rw (wide, is_sheet_lem);
+        count = rw (wide, is_sheet_lem) (whole.moved ∙ zero-add _);
+        lent = rw (wide, is_sheet_lem) whole.holds;
       }
 
       pub prints_sheet : PrintsSheet s xs n ys
       unfolding printed_sheet
       prints_sheet = record {
-        count = rw (wide, is-sheet) (whole.moved ∙ zero-add _);
-        lent = rw (wide, is-sheet) whole.holds;
+        count = rw (wide, is_sheet_lem) (whole.moved ∙ zero-add _);
+        lent = rw (wide, is_sheet_lem) whole.holds;
       }
 
 -- what is printed is within the output, whatever its size

@@ -25,11 +25,11 @@ word_room ws mark at size fits = omega (arith, length-append ws (mark ∷ []))
 
 -- a word was written: there is room for the character after it, and with it both are written
 module _ {xs : List ℕ} {at : ℕ} {ws : List ℕ} {p : ℕ} {ys : List ℕ} (mark : ℕ) where
-  pub mark-room : at + length (ended_by ws mark) ≤ length xs → Wrote xs at ws p ys → p < length ys
-  mark-room fits w = omega (arith, room_then (mark ∷ []) fits w)
+  pub mark_room : at + length (ended_by ws mark) ≤ length xs → Wrote xs at ws p ys → p < length ys
+  mark_room fits w = omega (arith, room_then (mark ∷ []) fits w)
 
-  pub mark-wrote : Wrote xs at ws p ys → Wrote xs at (ended_by ws mark) (p + 1) (set ys p mark)
-  mark-wrote w = then w (wrote_one ys p mark)
+  pub mark_wrote : Wrote xs at ws p ys → Wrote xs at (ended_by ws mark) (p + 1) (set ys p mark)
+  mark_wrote w = then w (wrote_one ys p mark)
 
 -- ---- numbers
 
@@ -58,20 +58,20 @@ module _ (n : ℕ) where
   pub digit_room : (at size : ℕ) → n < 10 → at + length (decimal n) ≤ size → at < size
   digit_room at size small fits = omega (arith, ap length (decimal_one n small))
 
-  pub digit-wrote : (xs : List ℕ) (at : ℕ) → n < 10 → Wrote xs at (decimal n) (at + 1) (set xs at (48 + n))
-  digit-wrote xs at small = rw (decimal_one n small) (wrote_one xs at (48 + n))
+  pub digit_wrote : (xs : List ℕ) (at : ℕ) → n < 10 → Wrote xs at (decimal n) (at + 1) (set xs at (48 + n))
+  digit_wrote xs at small = rw (decimal_one n small) (wrote_one xs at (48 + n))
 
   module _ (ten : 10 ≤ n) (small : n < 2 ^ 32) where
-    pub digits-room : (at size : ℕ) → at + length (decimal n) ≤ size → at + length (decimal (n / 10)) ≤ size
-    digits-room at size fits =
+    pub digits_room : (at size : ℕ) → at + length (decimal n) ≤ size → at + length (decimal (n / 10)) ≤ size
+    digits_room at size fits =
         omega (arith, ap length (decimal_more n ten small), length-append (decimal (n / 10)) ((48 + n % 10) ∷ []))
 
     module _ {xs : List ℕ} {at p : ℕ} {ys : List ℕ} (w : Wrote xs at (decimal (n / 10)) p ys) where
       pub digits_next : at + length (decimal n) ≤ length xs → p < length ys
-      digits_next fits = mark-room (48 + n % 10) (rw (decimal_more n ten small) at fits) w
+      digits_next fits = mark_room (48 + n % 10) (rw (decimal_more n ten small) at fits) w
 
-      pub digits-wrote : Wrote xs at (decimal n) (p + 1) (set ys p (48 + n % 10))
-      digits-wrote = rw (decimal_more n ten small) (mark-wrote (48 + n % 10) w)
+      pub digits_wrote : Wrote xs at (decimal n) (p + 1) (set ys p (48 + n % 10))
+      digits_wrote = rw (decimal_more n ten small) (mark_wrote (48 + n % 10) w)
 
 -- a number below 10 to the k-th has at most k digits
 few : (j k n : ℕ) → n < 10 ^ suc k → length (decimal_in j n) ≤ suc k
@@ -110,45 +110,45 @@ pub text_wrote :
 text_wrote text e fits put = rw e (wrote (rw e at fits) put)
 
 module _ (procedure : ℕ) where
-  pub name-cfu : procedure ≡ 0 → ended_by (procedure_name procedure) 32 ≡ 99 ∷ 102 ∷ 117 ∷ 32 ∷ []
+  pub name_cfu : procedure ≡ 0 → ended_by (procedure_name procedure) 32 ≡ 99 ∷ 102 ∷ 117 ∷ 32 ∷ []
   unfolding procedure_name
-  name-cfu zero_is = rw (eq-eqb procedure 0 zero_is)
+  name_cfu zero_is = rw (eq-eqb procedure 0 zero_is)
 
-  pub name-cfb :
+  pub name_cfb :
       (procedure ≡ 0 → ⊥) → procedure ≡ 1 → ended_by (procedure_name procedure) 32 ≡ 99 ∷ 102 ∷ 98 ∷ 32 ∷ []
   unfolding procedure_name
-  name-cfb some one = rw (ne_eqb procedure 0 some, eq-eqb procedure 1 one)
+  name_cfb some one = rw (ne_eqb procedure 0 some, eq-eqb procedure 1 one)
 
-  pub name-cfnr :
+  pub name_cfnr :
       (procedure ≡ 0 → ⊥) → (procedure ≡ 1 → ⊥) →
       ended_by (procedure_name procedure) 32 ≡ 99 ∷ 102 ∷ 110 ∷ 114 ∷ 32 ∷ []
   unfolding procedure_name
-  name-cfnr some more = rw (ne_eqb procedure 0 some, ne_eqb procedure 1 more)
+  name_cfnr some more = rw (ne_eqb procedure 0 some, ne_eqb procedure 1 more)
 
 module _ (form kind : ℕ) where
-  pub kind-unknown : form ≡ 0 → ended_by (kind_text form kind) 32 ≡ 117 ∷ 32 ∷ []
+  pub kind_unknown : form ≡ 0 → ended_by (kind_text form kind) 32 ≡ 117 ∷ 32 ∷ []
   unfolding kind_text
-  kind-unknown none = rw (eq-eqb form 0 none)
+  kind_unknown none = rw (eq-eqb form 0 none)
 
   module _ (some : form ≡ 0 → ⊥) where
-    pub kind-public : kind_text form kind ≡ 112 ∷ decimal kind
+    pub kind_public : kind_text form kind ≡ 112 ∷ decimal kind
     unfolding kind_text
-    kind-public = rw (ne_eqb form 0 some)
+    kind_public = rw (ne_eqb form 0 some)
 
     -- the p was written: there is room for the type, and with it both are written
-    pub kind-first : (at size : ℕ) → at + length (ended_by (kind_text form kind) 32) ≤ size → at < size
-    kind-first at size fits =
-        omega (arith, length-append (kind_text form kind) (32 ∷ []), ap length kind-public)
+    pub kind_first : (at size : ℕ) → at + length (ended_by (kind_text form kind) 32) ≤ size → at < size
+    kind_first at size fits =
+        omega (arith, length-append (kind_text form kind) (32 ∷ []), ap length kind_public)
 
-    pub kind-room :
+    pub kind_room :
         (xs : List ℕ) (at : ℕ) → at + length (ended_by (kind_text form kind) 32) ≤ length xs →
         at + 1 + length (ended_by (decimal kind) 32) ≤ length (set xs at 112)
-    kind-room xs at fits = room_then (ended_by (decimal kind) 32) (rw kind-public at fits) (wrote_one xs at 112)
+    kind_room xs at fits = room_then (ended_by (decimal kind) 32) (rw kind_public at fits) (wrote_one xs at 112)
 
-    pub kind-wrote :
+    pub kind_wrote :
         {xs : List ℕ} {at q : ℕ} {zs : List ℕ} → Wrote (set xs at 112) (at + 1) (ended_by (decimal kind) 32) q zs →
         Wrote xs at (ended_by (kind_text form kind) 32) q zs
-    kind-wrote {xs} {at} w = rw kind-public (then (wrote_one xs at 112) w)
+    kind_wrote {xs} {at} w = rw kind_public (then (wrote_one xs at 112) w)
 
 -- ---- octets in hexadecimal
 
@@ -178,14 +178,14 @@ abbrev pub Come : List ℕ → List ℕ → ℕ → ℕ → ℕ → List ℕ →
 Come octets xs at i p ys = Wrote xs at (hex_text (take i octets)) p ys
 
 module _ (octets xs : List ℕ) (at : ℕ) where
-  pub come-first : Come octets xs at 0 at xs
+  pub come_first : Come octets xs at 0 at xs
   unfolding hex_text
-  come-first = wrote_none
+  come_first = wrote_none
 
   module _ {i p : ℕ} {ys : List ℕ} (so : Come octets xs at i p ys) (count : ℕ) (more : i < count) (long : count ≤ length octets) where
     -- there is room for one more, which is written
-    pub come-room : at + length (hex_text (take count octets)) ≤ length xs → p + 2 ≤ length ys
-    come-room fits =
+    pub come_room : at + length (hex_text (take count octets)) ≤ length xs → p + 2 ≤ length ys
+    come_room fits =
         omega (
           arith,
           so.moved,
@@ -196,8 +196,8 @@ module _ (octets xs : List ℕ) (at : ℕ) where
           length-take count octets,
         )
 
-    pub come-next : {q : ℕ} {zs : List ℕ} → Wrote ys p (pair_of (get_or octets i 0)) q zs → Come octets xs at (i + 1) q zs
-    come-next next =
+    pub come_next : {q : ℕ} {zs : List ℕ} → Wrote ys p (pair_of (get_or octets i 0)) q zs → Come octets xs at (i + 1) q zs
+    come_next next =
         rw (
           add-one i,
           take-suc octets i 0 (omega arith),

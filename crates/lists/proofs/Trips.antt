@@ -48,13 +48,13 @@ module _ (e : Entry) (good : entry_good e ≡ true) (s : List ℕ) (end next : �
         good_kept e good,
       )
 
-  codes-back :
+  codes_back :
       (at : ℕ) →
       Stands s at (enumerated_octets e.service ++ (enumerated_octets e.procedure ++ address_octets e.address)) →
       at + 6 + length (address_octets e.address) ≡ end →
       codes_in (tidy_number e.served) s at end next ≡ got (tidy_entry e) next
   unfolding codes_in
-  codes-back at st fit =
+  codes_back at st fit =
       let service : List ℕ = enumerated_octets e.service in
       let procedure : List ℕ = enumerated_octets e.procedure in
       let address : List ℕ = address_octets e.address in
@@ -81,7 +81,7 @@ module _ (e : Entry) (good : entry_good e ≡ true) (s : List ℕ) (end next : �
       rw
       (number_back field_depth e.served s at end (omega arith) (good_entry e good).0 (stands_left s at number rest st)
       (omega arith) in-s)
-      (codes-back (at + length number) (stands_right s at number rest st) (omega arith))
+      (codes_back (at + length number) (stands_right s at number rest st) (omega arith))
 
 -- an entry that stands at `at`
 entry_in :

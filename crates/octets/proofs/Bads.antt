@@ -25,13 +25,13 @@ module _ (depth : ℕ) (s : List ℕ) (at end : ℕ) where
       (λ _. refl) (λ _. rw e)
 
   -- fewer than two octets
-  pub head-past : end ≤ at + 1 → head_at depth s at end ≡ Bad
-  head-past h = no_length (length_past s (at + 1) end h)
+  pub head_past : end ≤ at + 1 → head_at depth s at end ≡ Bad
+  head_past h = no_length (length_past s (at + 1) end h)
 
   -- "Identifier tags with low five bits all ones are refused."
-  pub head-ones : get_or s at 0 % 32 ≡ 31 → head_at depth s at end ≡ Bad
+  pub head_ones : get_or s at 0 % 32 ≡ 31 → head_at depth s at end ≡ Bad
   unfolding head_at
-  head-ones ones =
+  head_ones ones =
       let low : Bool = eqb (get_or s at 0 % 32) 31 in
       pick_ind (λ (x : Head). x ≡ Bad) (any (eqb depth 0 ∷ ltb (length s) end ∷ leb end at ∷ low ∷ [])) (λ _. refl) (λ e.
       let d = neither (eqb depth 0) _ e in
@@ -40,10 +40,10 @@ module _ (depth : ℕ) (s : List ℕ) (at end : ℕ) where
       absurd (eqb-false (get_or s at 0 % 32) 31 l.0 ones))
 
   -- "80 and 83 upward are badly built."
-  pub head-length :
+  pub head_length :
       0x80 ≤ get_or s (at + 1) 0 → (get_or s (at + 1) 0 ≡ 0x81 → ⊥) → (get_or s (at + 1) 0 ≡ 0x82 → ⊥) →
       head_at depth s at end ≡ Bad
   unfolding length_at
-  head-length high one two =
+  head_length high one two =
       let b : ℕ = get_or s (at + 1) 0 in
       no_length (rw (le-ltb b 0x80 high, ne_eqb b 0x81 one, ne_eqb b 0x82 two))

@@ -11,7 +11,7 @@ use borrow.Author.Tests.{lt-ltb, le-ltb, le-leb, lt-leb, ltb-true}
 use Rattle.laws.specs.Stands.{Stands}
 use Rattle.laws.specs.Fewest.{fewest_from}
 use Rattle.laws.proofs.Picks.{pick_ind}
-use Rattle.laws.proofs.Fewest.{fewest-step, fewest-will, fewest-most, fewest-least}
+use Rattle.laws.proofs.Fewest.{fewest_step, fewest_will, fewest_most, fewest_least}
 use Rattle.laws.proofs.Stands.{stands_first, stands_right}
 use Rattle.octets.specs.Word.{word_at, word_octets}
 use Rattle.octets.specs.Head.{span_of, length_at}
@@ -29,24 +29,24 @@ length_length (suc k) n = ap suc (length_word (suc k) n)
 -- the shortest: it can say the length, none below it can, and it never has more than two octets after its first
 pub shortest_holds : (n : ℕ) → n < 65536 → length_holds n (length_fewest n) ≡ true
 unfolding length_fewest length_holds
-shortest_holds n h = fewest-will (length_holds n) length_most (lt-ltb n 65536 h)
+shortest_holds n h = fewest_will (length_holds n) length_most (lt-ltb n 65536 h)
 
 pub shortest_least : (n k : ℕ) → length_holds n k ≡ true → length_fewest n ≤ k
 unfolding length_fewest
-shortest_least n k h = fewest-least (length_holds n) length_most k h
+shortest_least n k h = fewest_least (length_holds n) length_most k h
 
 pub shortest_most : (n : ℕ) → length_fewest n ≤ length_most
 unfolding length_fewest
-shortest_most n = fewest-most (length_holds n) length_most
+shortest_most n = fewest_most (length_holds n) length_most
 
 -- none below 128, and from there on the search begins at one
 pub fewest_short : (n : ℕ) → n < 128 → length_fewest n ≡ 0
 unfolding length_fewest length_holds
-fewest_short n h = rw (fewest-step (length_holds n) 1 0, lt-ltb n 128 h)
+fewest_short n h = rw (fewest_step (length_holds n) 1 0, lt-ltb n 128 h)
 
 pub fewest_long : (n : ℕ) → 128 ≤ n → length_fewest n ≡ fewest_from (length_holds n) 1 1
 unfolding length_fewest length_holds
-fewest_long n h = rw (fewest-step (length_holds n) 1 0, le-ltb n 128 h)
+fewest_long n h = rw (fewest_step (length_holds n) 1 0, le-ltb n 128 h)
 
 -- contents that end by `end`, and contents that do not
 pub span_fits : (start n end : ℕ) → start + n ≤ end → span_of start n end ≡ Is start (start + n)

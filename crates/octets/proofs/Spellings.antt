@@ -36,17 +36,17 @@ module _ (s : List ℕ) (small : (i : ℕ) → get_or s i 0 < 256) where
   word_small (suc k) at = omega (arith, word_small k at, small (at + k))
 
   -- and they are the word that they are read as
-  pub word-only : (k at : ℕ) → at + k ≤ length s → slice at (at + k) s ≡ word_octets k (word_at k s at)
+  pub word_only : (k at : ℕ) → at + k ≤ length s → slice at (at + k) s ≡ word_octets k (word_at k s at)
   unfolding word_at word_octets
-  word-only zero at h = let same : at + 0 ≡ at = omega arith in rw same (slice_empty at s)
-  word-only (suc k) at h =
+  word_only zero at h = let same : at + 0 ≡ at = omega arith in rw same (slice_empty at s)
+  word_only (suc k) at h =
       let n : ℕ = word_at k s at * 256 + get_or s (at + k) 0 in
       let high : n / 256 ≡ word_at k s at = omega (arith, small (at + k)) in
       let last : n % 256 ≡ get_or s (at + k) 0 = omega (arith, small (at + k)) in
       let next : at + suc k ≡ suc (at + k) = omega arith in
       rw (high, last, next)
       (sym (slice_join at (at + k) (suc (at + k)) s (omega arith) (omega arith))
-      ∙ rw (slice_one (at + k) s (omega arith)) (ap (λ (l : List ℕ). l ++ (get_or s (at + k) 0 ∷ [])) (word-only k at (omega arith))))
+      ∙ rw (slice_one (at + k) s (omega arith)) (ap (λ (l : List ℕ). l ++ (get_or s (at + k) 0 ∷ [])) (word_only k at (omega arith))))
 
 -- ---- lengths
 
@@ -89,9 +89,9 @@ span_only s k at n end few inside holds is =
 
 module _ (s : List ℕ) (small : (i : ℕ) → get_or s i 0 < 256) where
   -- with none after its first
-  length-one : (at end : ℕ) → end ≤ length s → get_or s at 0 < 128 → LengthIf s at end (span_of (at + 1) (get_or s at 0) end)
+  length_one : (at end : ℕ) → end ≤ length s → get_or s at 0 < 128 → LengthIf s at end (span_of (at + 1) (get_or s at 0) end)
   unfolding length_holds length_with
-  length-one at end inside low =
+  length_one at end inside low =
       span_only s 0 at (get_or s at 0) end (omega arith) inside (lt-ltb (get_or s at 0) 128 low)
       (λ h. let next : at + 1 ≡ suc at = omega arith in rw next (slice_one at s (omega arith)))
 
@@ -108,14 +108,14 @@ module _ (s : List ℕ) (small : (i : ℕ) → get_or s i 0 < 256) where
       let after : suc at ≡ at + 1 = omega arith in
       slice-cons at (at + suc (suc k)) s 0 (omega arith) h
       ∙ rw (first, after)
-      (ap (λ (l : List ℕ). (128 + suc k) ∷ l) (rw next at (word-only s small (suc k) (at + 1) (omega arith)))))
+      (ap (λ (l : List ℕ). (128 + suc k) ∷ l) (rw next at (word_only s small (suc k) (at + 1) (omega arith)))))
 
-  length-only : (at end : ℕ) → end ≤ length s → LengthIf s at end (length_at s at end)
+  length_only : (at end : ℕ) → end ≤ length s → LengthIf s at end (length_at s at end)
   unfolding length_at
-  length-only at end inside =
+  length_only at end inside =
       let b : ℕ = get_or s at 0 in
       let P : Span → Type 0 = LengthIf s at end in
-      pick_ind P (ltb b 0x80) (λ e. length-one at end inside (ltb-true b 0x80 e)) (λ _.
+      pick_ind P (ltb b 0x80) (λ e. length_one at end inside (ltb-true b 0x80 e)) (λ _.
       pick_ind P (eqb b 0x81) (λ e. length_some 0 at end (omega arith) inside (eqb-true b 0x81 e)) (λ _.
       pick_ind P (eqb b 0x82) (λ e. length_some 1 at end (omega arith) inside (eqb-true b 0x82 e)) (λ _. tt)))
 
@@ -172,9 +172,9 @@ tagged_only depth s at end (span.Is start stop) deep inside low l =
 tagged_only depth s at end span.Wrong deep inside low l = tt
 
 module _ (s : List ℕ) (small : (i : ℕ) → get_or s i 0 < 256) where
-  head-if : (depth at end : ℕ) → HeadIf depth s at end (head_at depth s at end)
+  head_if : (depth at end : ℕ) → HeadIf depth s at end (head_at depth s at end)
   unfolding head_at
-  head-if depth at end =
+  head_if depth at end =
       let low : Bool = eqb (get_or s at 0 % 32) 31 in
       pick_ind (HeadIf depth s at end) (any (eqb depth 0 ∷ ltb (length s) end ∷ leb end at ∷ low ∷ [])) (λ _. tt) (λ e.
       let d = neither (eqb depth 0) _ e in
@@ -182,13 +182,13 @@ module _ (s : List ℕ) (small : (i : ℕ) → get_or s i 0 < 256) where
       let l = neither low false (neither (leb end at) _ i.1).1 in
       let inside : end ≤ length s = ltb-false (length s) end i.0 in
       tagged_only depth s at end (length_at s (at + 1) end) (eqb-false depth 0 d.0) inside
-      (eqb-false (get_or s at 0 % 32) 31 l.0) (length-only s small (at + 1) end inside))
+      (eqb-false (get_or s at 0 % 32) 31 l.0) (length_only s small (at + 1) end inside))
 
   -- what is accepted as an element spells one, and there was a level left to go
-  pub head-only :
+  pub head_only :
       (depth at end : ℕ) {tag start stop next : ℕ} → head_at depth s at end ≡ head.Is tag start stop next →
       HeadSpelt depth s at end tag start stop next
-  head-only depth at end e = rw e at (head-if depth at end)
+  head_only depth at end e = rw e at (head_if depth at end)
 
 -- how many octets spell an element
 pub spells_length :

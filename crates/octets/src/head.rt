@@ -7,14 +7,14 @@ ghost use Rattle.octets.specs.Element.{length_most};
 use crate::word::word_at;
 
 // Where contents stand.
-#[derive(Drop)]
+#[derive(Clone, Copy)]
 enum Span {
     Is { start: usize, stop: usize },
     Wrong,
 }
 
 // An element: its tag, its contents from `start` up to `stop`, and `next`, where what follows it begins.
-#[derive(Drop)]
+#[derive(Clone, Copy)]
 pub enum Head {
     Is {
         tag: u8,

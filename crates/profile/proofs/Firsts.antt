@@ -11,63 +11,63 @@ use lib.ListN.{length, take, get_or}
 use Rattle.laws.specs.Pick.{pick}
 use Rattle.laws.specs.Places.{count_to}
 use Rattle.laws.proofs.Picks.{pick_ind}
-use Rattle.laws.proofs.Walks.{count_none, count-more}
+use Rattle.laws.proofs.Walks.{count_none, count_more}
 use Rattle.numbers.specs.declared.number.Number.{Number}
 use Rattle.profile.specs.Profile.{same, place_in, no_number}
 use Rattle.profile.specs.declared.profile.Profile.{Profile}
-use Rattle.profile.proofs.Profiles.{same_refl, Come, number-here, number-next}
+use Rattle.profile.proofs.Profiles.{same_refl, Come, number_here, number_next}
 
 module _ (p : Profile) (numbers : List Number) (n : Number) where
   -- whether the number at a place is the same
-  abbrev pub sameAt : ℕ → Bool
-  sameAt k = same p (get_or numbers k no_number) n
+  abbrev pub same_at : ℕ → Bool
+  same_at k = same p (get_or numbers k no_number) n
 
   -- one that is the same is counted
-  same-counted : (count k : ℕ) → k < count → sameAt k ≡ true → 0 < count_to sameAt count
-  same-counted zero k h e = absurd (omega arith)
-  same-counted (suc count) k h e =
+  same_counted : (count k : ℕ) → k < count → same_at k ≡ true → 0 < count_to same_at count
+  same_counted zero k h e = absurd (omega arith)
+  same_counted (suc count) k h e =
       ⊎_elim
-      (λ (here : k ≡ count). rw (count-more sameAt count, ← here, e) (omega arith))
-      (λ (lt : k < count). rw (count-more sameAt count) (omega (arith, same-counted count k lt e)))
+      (λ (here : k ≡ count). rw (count_more same_at count, ← here, e) (omega arith))
+      (λ (lt : k < count). rw (count_more same_at count) (omega (arith, same_counted count k lt e)))
       (eq-or-lt_of_le (omega arith))
 
   module _ (count : ℕ) (long : count ≤ length numbers) where
     -- a search passes those that are not the same
-    passes : (k : ℕ) → k ≤ count → count_to sameAt k ≡ 0 → Come p n count numbers k
+    passes : (k : ℕ) → k ≤ count → count_to same_at k ≡ 0 → Come p n count numbers k
     passes zero h none = omega arith
     passes (suc k) h none =
-        let sum : count_to sameAt k + pick (sameAt k) 1 0 ≡ 0 = sym (count-more sameAt k) ∙ none in
-        let other : sameAt k ≡ false =
-        pick_ind (λ m. count_to sameAt k + m ≡ 0 → sameAt k ≡ false) (sameAt k) (λ _ z. absurd (omega arith)) (λ e _. e) sum in
+        let sum : count_to same_at k + pick (same_at k) 1 0 ≡ 0 = sym (count_more same_at k) ∙ none in
+        let other : same_at k ≡ false =
+        pick_ind (λ m. count_to same_at k + m ≡ 0 → same_at k ≡ false) (same_at k) (λ _ z. absurd (omega arith)) (λ e _. e) sum in
         rw (← add-one k)
-        (number-next p n count numbers k (omega arith) (omega arith) other (passes k (omega arith) (omega arith)))
+        (number_next p n count numbers k (omega arith) (omega arith) other (passes k (omega arith) (omega arith)))
 
     -- and stops where one is
-    stops : (k : ℕ) → k ≤ count → 0 < count_to sameAt k → place_in p n (take count numbers) < k
-    stops zero h some = absurd (omega (arith, count_none sameAt))
+    stops : (k : ℕ) → k ≤ count → 0 < count_to same_at k → place_in p n (take count numbers) < k
+    stops zero h some = absurd (omega (arith, count_none same_at))
     stops (suc k) h some =
         ⊎_elim
-        (λ (none : 0 ≡ count_to sameAt k).
-        pick_ind (λ m. 0 < count_to sameAt k + m → place_in p n (take count numbers) < suc k) (sameAt k)
-        (λ e _. omega (arith, number-here p n count numbers k (omega arith) (omega arith) e (passes k (omega arith) (sym none))))
+        (λ (none : 0 ≡ count_to same_at k).
+        pick_ind (λ m. 0 < count_to same_at k + m → place_in p n (take count numbers) < suc k) (same_at k)
+        (λ e _. omega (arith, number_here p n count numbers k (omega arith) (omega arith) e (passes k (omega arith) (sym none))))
         (λ _ z. absurd (omega arith))
-        (rw (count-more sameAt k) at some))
-        (λ (lt : 0 < count_to sameAt k). omega (arith, stops k (omega arith) lt))
+        (rw (count_more same_at k) at some))
+        (λ (lt : 0 < count_to same_at k). omega (arith, stops k (omega arith) lt))
         (eq-or-lt_of_le (omega arith))
 
 module _ (p : Profile) (numbers : List Number) (count k : ℕ) (long : count ≤ length numbers) (h : k < count) where
   -- a search for a number finds it at its own place where none before it is the same
-  pub first-here :
-      count_to (sameAt p numbers (get_or numbers k no_number)) k ≡ 0 →
+  pub first_here :
+      count_to (same_at p numbers (get_or numbers k no_number)) k ≡ 0 →
       place_in p (get_or numbers k no_number) (take count numbers) ≡ k
-  first-here none =
+  first_here none =
       let n : Number = get_or numbers k no_number in
-      sym (number-here p n count numbers k h (omega arith) (same_refl p n) (passes p numbers n count long k (omega arith) none))
+      sym (number_here p n count numbers k h (omega arith) (same_refl p n) (passes p numbers n count long k (omega arith) none))
 
   -- and elsewhere where one is
-  pub later-not :
-      (j : ℕ) → j < k → sameAt p numbers (get_or numbers k no_number) j ≡ true →
+  pub later_not :
+      (j : ℕ) → j < k → same_at p numbers (get_or numbers k no_number) j ≡ true →
       place_in p (get_or numbers k no_number) (take count numbers) ≡ k → ⊥
-  later-not j lt same e =
+  later_not j lt same e =
       let n : Number = get_or numbers k no_number in
-      omega (arith, stops p numbers n count long k (omega arith) (same-counted p numbers n k j lt same))
+      omega (arith, stops p numbers n count long k (omega arith) (same_counted p numbers n k j lt same))

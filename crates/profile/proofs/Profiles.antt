@@ -14,7 +14,7 @@ use Rattle.laws.specs.Tests.{all}
 use Rattle.laws.specs.Places.{every_to}
 use Rattle.laws.proofs.Tests.{all_at}
 use Rattle.laws.proofs.Picks.{pick_ind, pick_last}
-use Rattle.laws.proofs.Walks.{every-at}
+use Rattle.laws.proofs.Walks.{every_at}
 use Rattle.codes.specs.Codes.{service_code}
 use Rattle.numbers.specs.Number.{most, digits_of, number_good, tidy_number}
 use Rattle.numbers.specs.declared.number.Number.{Number}
@@ -138,18 +138,18 @@ module _ (p : Profile) (n : Number) (count : ℕ) (numbers : List Number) where
       )
 
   -- finds the number there
-  pub number-here :
+  pub number_here :
       (k : ℕ) → k < count → k < length numbers → same p (get_or numbers k no_number) n ≡ true → Come k →
       k ≡ place_in p n (take count numbers)
-  number-here k h long e come =
+  number_here k h long e come =
       let z : place_in p n (drop k (take count numbers)) ≡ 0 = rw (step k h long, e) in
       omega arith
 
   -- goes on where another number stands
-  pub number-next :
+  pub number_next :
       (k : ℕ) → k < count → k < length numbers → same p (get_or numbers k no_number) n ≡ false → Come k →
       Come (k + 1)
-  number-next k h long e come =
+  number_next k h long e come =
       let z : place_in p n (drop k (take count numbers)) ≡ 1 + place_in p n (drop (suc k) (take count numbers)) =
       rw (step k h long, e) in
       rw add-one (omega arith)
@@ -301,7 +301,7 @@ good_profile p h =
       numbers = λ k lt.
           let number : Number = get_or p.numbers k no_number in
           all_at (number_good number ∷ eqb (place_in p number (served_numbers p)) k ∷ []) 0
-          (every-at (number_fits p p.numbercount p.numbers) p.numbercount k lt n.2);
+          (every_at (number_fits p p.numbercount p.numbers) p.numbercount k lt n.2);
       services_few = s.1;
       rises = s.2;
       flags = subscriptions_each p (rule_at p 2 h);

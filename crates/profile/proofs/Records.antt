@@ -12,7 +12,7 @@ use borrow.Author.Tests.{eqb-true}
 use Rattle.laws.specs.Over.{Puts, over}
 use Rattle.laws.specs.Places.{each_from}
 use Rattle.laws.specs.Tests.{all}
-use Rattle.laws.proofs.Each.{getD-each, spelled, each-spelled, each_set, each-done, slice_each}
+use Rattle.laws.proofs.Each.{get_d_each, spelled, each_spelled, each_set, each_done, slice_each}
 use Rattle.laws.proofs.Picks.{pick_ind}
 use Rattle.laws.proofs.Over.{wrote, take_over, length_over}
 use Rattle.laws.proofs.Parts.{part_slice}
@@ -72,16 +72,16 @@ module _ (s : List ℕ) where
   abbrev pub Prefixed : List Prefix → ℕ → Type 0
   Prefixed l k = (length l ≡ prefixes_most) × (take k l ≡ each_from prefix_of k 0)
 
-  pub prefixes-first : (f : Prefix) → f ≡ prefix_of 0 → Prefixed (replicate prefixes_most f) 1
-  prefixes-first f e = (refl, rw (each-spelled, e))
+  pub prefixes_first : (f : Prefix) → f ≡ prefix_of 0 → Prefixed (replicate prefixes_most f) 1
+  prefixes_first f e = (refl, rw (each_spelled, e))
 
-  pub prefixes-next :
+  pub prefixes_next :
       (l : List Prefix) (k : ℕ) (f : Prefix) → k < prefixes_most → f ≡ prefix_of k → Prefixed l k → Prefixed (set l k f) (k + 1)
-  prefixes-next l k f h e p = (length-set l k f ∙ p.0, each_set prefix_of l k f (omega (arith, p.0)) e p.1)
+  prefixes_next l k f h e p = (length-set l k f ∙ p.0, each_set prefix_of l k f (omega (arith, p.0)) e p.1)
 
-  pub prefixes-all : (l : List Prefix) → Prefixed l prefixes_most → l ≡ prefixes_from s
+  pub prefixes_all : (l : List Prefix) → Prefixed l prefixes_most → l ≡ prefixes_from s
   unfolding prefixes_from
-  prefixes-all l p = each-done prefix_of prefixes_most l p.0 p.1
+  prefixes_all l p = each_done prefix_of prefixes_most l p.0 p.1
 
 -- ---- the profile, field by field
 
@@ -113,9 +113,9 @@ pub profile_made :
 unfolding profile_from
 profile_made s a b c d prefixes long first second third fourth rest =
     rw (
-      slice_each s 0 services_at services_most (omega arith) ∙ each-spelled _ _ _,
-      slice_each s 0 subscribed_at 3 (omega arith) ∙ each-spelled _ _ _,
-      each-spelled,
+      slice_each s 0 services_at services_most (omega arith) ∙ each_spelled _ _ _,
+      slice_each s 0 subscribed_at 3 (omega arith) ∙ each_spelled _ _ _,
+      each_spelled,
       first,
       second,
       third,
@@ -172,5 +172,5 @@ access_numbers s =
     (λ r. r.ok ≡ true → (k : ℕ) → k < numbers_most → length (get_or r.profile.numbers k no_number).digits ≡ most)
     (λ h. absurd (false≢true h))
     (λ long _ _ k low.
-    ap (λ (n : Number). length n.digits) (getD-each (λ k. number_from s (numbers_at + number_size * k)) numbers_most 0 k no_number low)
+    ap (λ (n : Number). length n.digits) (get_d_each (λ k. number_from s (numbers_at + number_size * k)) numbers_most 0 k no_number low)
     ∙ number_long s (numbers_at + number_size * (0 + k)) (omega (arith, long, low)))

@@ -14,10 +14,10 @@ module _ (service count : ℕ) (services : List ℕ) where
   Come k = place_of service (take count services) ≡ k + place_of service (drop k (take count services))
 
   -- finds the service there
-  pub slot-here :
+  pub slot_here :
       (k : ℕ) → k < count → k < length services → get_or services k 0 ≡ service → Come k →
       k ≡ place_of service (take count services)
-  slot-here k h long e =
+  slot_here k h long e =
       place_here service (take count services) k (omega (arith, length-take count services))
       (get_or-take count services k 0 h ∙ e)
 
@@ -29,9 +29,9 @@ module _ (service count : ℕ) (services : List ℕ) where
       (λ q. e (sym (get_or-take count services k 0 h) ∙ q))
 
   -- finds nothing where there are no more services
-  pub slot-none :
+  pub slot_none :
       (k : ℕ) → min count (length services) ≤ k → Come k → k ≡ place_of service (take count services)
-  slot-none k h come =
+  slot_none k h come =
       let none : 0 ≡ place_of service [] = place_none service [] (omega arith) in
       let past : length (take count services) ≤ k = omega (arith, length-take count services) in
       let z : place_of service (drop k (take count services)) ≡ 0 = rw (drop_of_length-le (take count services) past, ← none) in

@@ -19,14 +19,14 @@ digits_tidied n = take-append_seam (digits_of n) (replicate (most - length (digi
 -- a number whose array of digits has its places
 module _ (n : Number) (good : number_good n ≡ true) (long : length n.digits ≡ most) where
   -- has as many digits as it counts
-  pub count-tidied : length (digits_of n) ≡ n.count
-  count-tidied = length-take-le n.count n.digits (omega (arith, (good_number n good).few))
+  pub count_tidied : length (digits_of n) ≡ n.count
+  count_tidied = length-take-le n.count n.digits (omega (arith, (good_number n good).few))
 
-  pub same-tidied : (p : Profile) (x : Number) → same p x (tidy_number n) ≡ same p x n
+  pub same_tidied : (p : Profile) (x : Number) → same p x (tidy_number n) ≡ same p x n
   unfolding same same_number
-  same-tidied p x = rw (digits_tidied n, count-tidied)
+  same_tidied p x = rw (digits_tidied n, count_tidied)
 
-  pub place-tidied : (p : Profile) (ns : List Number) → place_in p (tidy_number n) ns ≡ place_in p n ns
+  pub place_tidied : (p : Profile) (ns : List Number) → place_in p (tidy_number n) ns ≡ place_in p n ns
   unfolding place_in
-  place-tidied p [] = refl
-  place-tidied p (x ∷ ns) = rw (same-tidied p x, place-tidied p ns)
+  place_tidied p [] = refl
+  place_tidied p (x ∷ ns) = rw (same_tidied p x, place_tidied p ns)

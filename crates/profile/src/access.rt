@@ -26,7 +26,7 @@ const PREFIXSIZE: usize = 21;
 const ACCESSSIZE: usize = 447;
 
 // A profile that breaks no rule; or `ok` is false, refusal 3.
-#[derive(Drop)]
+#[derive(Clone, Copy)]
 pub struct AccessRead {
     pub ok: bool,
     pub profile: Profile,

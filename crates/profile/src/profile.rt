@@ -15,7 +15,7 @@ pub const PREFIXES: usize = 16;
 
 // A special prefix: `count` digits as characters.
 #[repr(C)]
-#[derive(Drop)]
+#[derive(Clone, Copy)]
 pub struct Prefix {
     pub count: u8,
     pub digits: [u8; MOST],
@@ -24,7 +24,7 @@ pub struct Prefix {
 // What the carrier has agreed with the subscriber. Places past a count carry no meaning; the fields from `subscribed` to `release`
 // are 0 or 1, but for `option`.
 #[repr(C)]
-#[derive(Drop)]
+#[derive(Clone, Copy)]
 pub struct Profile {
     pub numbercount: u8,
     pub numbers: [Number; NUMBERS],

@@ -27,19 +27,19 @@ use Rattle.answers.specs.declared.answer.Answer.TheVariants as answer
 use Rattle.answers.specs.declared.answer.Problem.{Problem}
 use Rattle.answers.specs.declared.answer.Whose.TheVariants.{Own}
 use Rattle.answers.proofs.Answers.{reject-back, error-back, result-back}
-use Rattle.answers.proofs.Lists.{listing-back}
+use Rattle.answers.proofs.Lists.{listing_back}
 use Rattle.exchange.specs.Question.{known_operation, code_of, question}
 use Rattle.exchange.specs.Step.{Step, stays, handled, step}
 use Rattle.exchange.specs.Table.{table_good}
 use Rattle.exchange.specs.Arrive.{Done, done}
 use Rattle.exchange.specs.declared.table.Table.{Table}
 use Rattle.exchange.proofs.Questions.{known_code}
-use Rattle.exchange.proofs.Steps.{lists, handled-ind, step-says, step-asks}
-use Rattle.exchange.proofs.Arrivals.{done-answers, StepFits, step_fits}
+use Rattle.exchange.proofs.Steps.{lists, handled_ind, step_says, step_asks}
+use Rattle.exchange.proofs.Arrivals.{done_answers, StepFits, step_fits}
 use Rattle.exchange.proofs.Nexts.{changing, heeded}
 use Rattle.end.specs.Sending.{sends}
 use Rattle.end.specs.declared.end.End.{End}
-use Rattle.exchange.proofs.Askings.{Asking, rejected, judged, asking, asking-new}
+use Rattle.exchange.proofs.Askings.{Asking, rejected, judged, asking, asking_new}
 use Rattle.end.proofs.Waitings.{sends_waits}
 use Rattle.promise.specs.AnswerBack.{ListSaid, SaysBack, AnswersEnd}
 
@@ -50,20 +50,20 @@ module _ (identifier : ℤ) (operation : ℕ) where
   abbrev Said : Step → Type 0
   Said y = SaysBack identifier operation (answer_octets y.answer y.entries) y.answer y.entries
 
-  rejected-said :
+  rejected_said :
       (t : Table) (problem : Problem) → StepFits (stays t (answer.Reject (Own identifier) problem)) →
       Said (stays t (answer.Reject (Own identifier) problem))
-  rejected-said t problem fits = (refl, reject-back identifier operation fits.answer problem [])
+  rejected_said t problem fits = (refl, reject-back identifier operation fits.answer problem [])
 
   module _ (p : Profile) (t : Table) (r : Request) where
-    listed-said :
+    listed_said :
         operation ≡ interrogation → StepFits (lists p t identifier operation r) →
         ListSaid identifier operation
         (answer_octets (answer.Listing identifier) (lists p t identifier operation r).entries)
         (lists p t identifier operation r).entries
-    listed-said asks fits =
+    listed_said asks fits =
         let es : List Entry = (lists p t identifier operation r).entries in
-        let back = listing-back identifier instances_most es fits.answer fits.good fits.few (omega arith) in
+        let back = listing_back identifier instances_most es fits.answer fits.good fits.few (omega arith) in
         record {
           at = back.at;
           end = back.end;
@@ -71,26 +71,26 @@ module _ (identifier : ℤ) (operation : ℕ) where
           entries = back.entries;
         }
 
-    handled-said : Known operation → StepFits (handled p t identifier operation r) → Said (handled p t identifier operation r)
-    handled-said is =
-        handled-ind p t identifier operation r (λ y. StepFits y → Said y)
+    handled_said : Known operation → StepFits (handled p t identifier operation r) → Said (handled p t identifier operation r)
+    handled_said is =
+        handled_ind p t identifier operation r (λ y. StepFits y → Said y)
         (λ error _ fits. (refl, error-back identifier operation fits.answer.0 error [] fits.answer.1))
-        (λ _ asks fits. (refl, asks, listed-said asks fits))
+        (λ _ asks fits. (refl, asks, listed_said asks fits))
         (λ _ other fits. (refl, changing is other, result-back identifier operation fits.answer [] other))
 
 module _ (p : Profile) (t : Table) (s : List ℕ) (identifier : ℤ) (operation : Operation) (n : ℕ) where
-  step-said :
+  step_said :
       (known_operation operation.value ≡ true → operation.value ≡ pos n) → StepFits (step p t s) →
       Asking identifier operation (question p t.last s) → Said identifier n (step p t s)
-  step-said same fits (rejected problem e) =
-      let is = step-says p t s (answer.Reject (Own identifier) problem) e in
-      subst (Said identifier n) (sym is) (rejected-said identifier n t problem (subst StepFits is fits))
-  step-said same fits (judged r known e) =
+  step_said same fits (rejected problem e) =
+      let is = step_says p t s (answer.Reject (Own identifier) problem) e in
+      subst (Said identifier n) (sym is) (rejected_said identifier n t problem (subst StepFits is fits))
+  step_said same fits (judged r known e) =
       let code : code_of operation.value ≡ n = ap code_of (same known) in
       let is : step p t s ≡ handled p t identifier n r =
-      step-asks p t s identifier (code_of operation.value) r e ∙ ap (λ (k : ℕ). handled p t identifier k r) code in
+      step_asks p t s identifier (code_of operation.value) r e ∙ ap (λ (k : ℕ). handled p t identifier k r) code in
       subst (Said identifier n) (sym is)
-      (handled-said identifier n p t r (subst Known code (known_code operation.value known).1) (subst StepFits is fits))
+      (handled_said identifier n p t r (subst Known code (known_code operation.value known).1) (subst StepFits is fits))
 
 -- ---- what the exchange writes
 
@@ -110,7 +110,7 @@ answer_back access t s size x identifier operation at end n hears told same =
     let octets : (done access t s size).octets ≡ answer_octets (step p t s).answer (step p t s).entries =
     ap (λ (d : Done). d.octets) so.is in
     subst (λ (o : List ℕ). SaysBack identifier n o (step p t s).answer (step p t s).entries) (sym octets)
-    (step-said p t s identifier operation n same (step_fits p t so.rules so.table s)
+    (step_said p t s identifier operation n same (step_fits p t so.rules so.table s)
     (asking p t.last s identifier operation at end hears))
 
 -- ---- to a request that the end sent
@@ -119,15 +119,15 @@ module _
     (access : List ℕ) (t : Table) (size : ℕ) (ok : (access_read access).ok ≡ true)
     (good : table_good instances_most (access_read access).profile t ≡ true) (room : output_least ≤ size)
   where
-    pub request-answered :
+    pub request_answered :
         (e : End) → e.used ≤ 32767 → sendable e.operation e.request ≡ true →
         AnswersEnd access t size e (request_octets (pos e.used) e.operation e.request)
-    request-answered e most fit =
+    request_answered e most fit =
         let p : Profile = (access_read access).profile in
         let s : List ℕ = request_octets (pos e.used) e.operation e.request in
         let fair = request_most (pos e.used) e.operation e.request (omega arith) fit in
         let back = request_back (pos e.used) e.operation e.request (omega arith) fit in
-        let is = done-answers access t s size room (omega arith) ok good in
+        let is = done_answers access t s size room (omega arith) ok good in
         let told : (done access t s size).told ≡ tells (answered_by (step p t s).answer) = ap (λ (d : Done). d.told) is in
         record {
           told = told;
@@ -135,8 +135,8 @@ module _
               answer_back access t s size (answered_by (step p t s).answer) (pos e.used) (local (pos e.operation))
               back.at (length s) e.operation back.hears told (λ _. refl);
           judged = λ new.
-              step-asks p t s (pos e.used) e.operation (tidy_request e.operation e.request)
-              (asking-new p t.last s e.used e.operation back.at (length s)
+              step_asks p t s (pos e.used) e.operation (tidy_request e.operation e.request)
+              (asking_new p t.last s e.used e.operation back.at (length s)
               (tidy_request e.operation e.request) (length s) back.hears new
               (readable e.operation e.request fit).known back.asks);
         }
@@ -151,4 +151,4 @@ pub sent_answered :
 sent_answered access operation r e size t room told good large =
     let waits = sends_waits access operation r e size told in
     subst (AnswersEnd access t room (sends access operation r e size).end) (sym waits.octets)
-    (request-answered access t room waits.ok good large (sends access operation r e size).end waits.used waits.sendable)
+    (request_answered access t room waits.ok good large (sends access operation r e size).end waits.used waits.sendable)

@@ -30,11 +30,11 @@ use Rattle.end.specs.Sending.{Sends, sends}
 use Rattle.end.specs.Taking.{takes, gives_up}
 use Rattle.end.specs.declared.end.End.{End}
 use Rattle.end.proofs.Marks.{sends_known, sends_doubt, gives_known}
-use Rattle.end.proofs.Others.{gives_picture, sends-picture}
+use Rattle.end.proofs.Others.{gives_picture, sends_picture}
 use Rattle.end.proofs.Goods as goods
 use Rattle.end.proofs.Goods.{reached_good, reached_marks}
 use Rattle.end.proofs.Dropped.{dropped_stays, idle_dropped}
-use Rattle.end.proofs.Closings.{Closed, takes-closes, gives-closes, list-known, Asks, sends_asks}
+use Rattle.end.proofs.Closings.{Closed, takes_closes, gives_closes, list_known, Asks, sends_asks}
 use Rattle.demand.specs.Rules as rules
 use Rattle.demand.specs.Rules.{says_list, idle, awaiting, Sent, Shed, Why, Hit, Miss, CustomerLaws}
 use Rattle.promise.specs.Demand.{Asking, sized}
@@ -42,9 +42,9 @@ use Rattle.promise.proofs.DemandLists.{held_of}
 use Rattle.rules.proofs.Tidied.{Sized}
 use Rattle.promise.proofs.DemandReads.{read_on}
 use Rattle.promise.proofs.DemandParts.{asking, about_of, Said, said_octets, Proper, mark_of, waiting_of, number_up, sending, Sound}
-use Rattle.promise.proofs.DemandParts.{topic, customer, clash, mark_known, known_mark, asks-is, changes-is, waits-idle, waits-busy}
-use Rattle.promise.proofs.DemandParts.{Busy, busy-is}
-use Rattle.promise.proofs.DemandReplies.{one_identifier, not-dropped, core-why, core-closes}
+use Rattle.promise.proofs.DemandParts.{topic, customer, clash, mark_known, known_mark, asks_is, changes_is, waits_idle, waits_busy}
+use Rattle.promise.proofs.DemandParts.{Busy, busy_is}
+use Rattle.promise.proofs.DemandReplies.{one_identifier, not_dropped, core_why, core_closes}
 
 -- arrays have their places
 pub sizes_of : (r : Request) → sized r ≡ true → Sized r
@@ -68,7 +68,7 @@ module _ (access : List ℕ) (ok : (access_read access).ok ≡ true) where
   -- what is outstanding is what was waited for
   module _ (e : End) (n : ℕ) (b : Said) (a : Asking) (m : Mark) (hit : Hit (topic access) (customer access) e n b a m) where
     is : Busy e n a m
-    is = busy-is e n a m hit.waits
+    is = busy_is e n a m hit.waits
 
     fits : Proper e.used (asking e.operation e.request) b
     fits =
@@ -81,12 +81,12 @@ module _ (access : List ℕ) (ok : (access_read access).ok ≡ true) where
         subst
         (λ k. mark_of (mark_at o (takes access e (said_octets k b)).end.marks) ≡ known →
         Why (topic access) (customer access) e k b (takes access e (said_octets k b)).end o)
-        is.used (core-why access ok e hit.sound is.waits b fits o)
+        is.used (core_why access ok e hit.sound is.waits b fits o)
 
     hear_closes : waiting_of (takes access e (said_octets n b)).end ≡ idle
     hear_closes =
         subst (λ k. waiting_of (takes access e (said_octets k b)).end ≡ idle) is.used
-        (core-closes access ok e hit.sound is.waits b fits)
+        (core_closes access ok e hit.sound is.waits b fits)
 
   hear_learns :
       (e : End) (n : ℕ) (l : List Entry) (a : Asking) (m : Mark) → Hit (topic access) (customer access) e n (says_list l) a m →
@@ -95,14 +95,14 @@ module _ (access : List ℕ) (ok : (access_read access).ok ≡ true) where
   hear_learns e n l a m hit o T about read =
       let w = is e n (says_list l) a m hit in
       let fit = fits e n (says_list l) a m hit in
-      let own : e.request.procedure ≡ o = ap (λ (x : Asking). x.request.procedure) w.asks ∙ (asks-is a o about).1 in
+      let own : e.request.procedure ≡ o = ap (λ (x : Asking). x.request.procedure) w.asks ∙ (asks_is a o about).1 in
       let back = fit.back.2 in
       let list = read_good p e.request.procedure (tidy_entries l) T (ap (λ k. read_on p k (tidy_entries l)) own ∙ read) in
       let good = reached_good access ok e hit.sound.way in
       subst (λ k. mark_of (mark_at o (takes access e (said_octets k (says_list l))).end.marks) ≡ known) w.used
       (subst (λ q. mark_of (mark_at q (takes access e (said_octets e.used (says_list l))).end.marks) ≡ known) own
       (known_mark _
-      (list-known access e ok good w.waits (said_octets e.used (says_list l)) fit.short
+      (list_known access e ok good w.waits (said_octets e.used (says_list l)) fit.short
       (reached_marks access e hit.sound.way) back.at back.end (tidy_entries l) back.end back.is back.entries list)))
 
   hear_drops :
@@ -113,19 +113,19 @@ module _ (access : List ℕ) (ok : (access_read access).ok ≡ true) where
       let waits = eqb-true e.outstanding 1 t in
       let other : pos n ≡ pos e.used → ⊥ =
       λ same. miss.other (asking e.operation e.request) (mark_of e.before)
-      (waits-busy e waits ∙ ap (λ k. awaiting k (asking e.operation e.request) (mark_of e.before)) (sym (pos-same same))) in
+      (waits_busy e waits ∙ ap (λ k. awaiting k (asking e.operation e.request) (mark_of e.before)) (sym (pos_same same))) in
       dropped_stays access e (said_octets n b)
       (one_identifier (pos n) (pos e.used) a.operation e.operation (said_octets n b) other
-      (not-dropped n a.operation (said_octets n b) b miss.proper.back)))
+      (not_dropped n a.operation (said_octets n b) b miss.proper.back)))
       (λ t. idle_dropped access e (said_octets n b) (eqb-false e.outstanding 1 t))
     where
-      pos-same : {x y : ℕ} → pos x ≡ pos y → x ≡ y
-      pos-same h = cc
+      pos_same : {x y : ℕ} → pos x ≡ pos y → x ≡ y
+      pos_same h = cc
 
   hear_sound : (e : End) (n : ℕ) (b : Said) → Sound access e → Sound access (takes access e (said_octets n b)).end
   hear_sound e n b s = record {
     way = goods.taking e s.way (said_octets n b);
-    sizes = λ waits. go waits (takes-closes access e (said_octets n b));
+    sizes = λ waits. go waits (takes_closes access e (said_octets n b));
   }
     where
       go :
@@ -139,7 +139,7 @@ module _ (access : List ℕ) (ok : (access_read access).ok ≡ true) where
   hear_grows : (e : End) (n : ℕ) (b : Said) → suc e.used ≤ suc (takes access e (said_octets n b)).end.used
   hear_grows e n b =
       ⊎_elim (λ same. omega (arith, ap (λ (x : End). x.used) same)) (λ shut. omega (arith, shut.used))
-      (takes-closes access e (said_octets n b))
+      (takes_closes access e (said_octets n b))
 
   -- ---- sending
 
@@ -152,9 +152,9 @@ module _ (access : List ℕ) (ok : (access_read access).ok ≡ true) where
       pub told : d.told ≡ tells tt
       pub is : (d.end, d.end.used) ≡ x
 
-    pub sends-to : (x : End × ℕ) → sending access size e a ≡ some x → Sends-to x
+    pub sends_to : (x : End × ℕ) → sending access size e a ≡ some x → Sends-to x
     unfolding sending
-    sends-to x h = go (sized a.request) d.told refl refl h
+    sends_to x h = go (sized a.request) d.told refl refl h
       where
         go :
             (b : Bool) (t : Told (Unit {0})) → sized a.request ≡ b → d.told ≡ t → pick b (number_up d.end t) none ≡ some x →
@@ -173,31 +173,31 @@ module _ (access : List ℕ) (ok : (access_read access).ok ≡ true) where
           let now = mark_known _ k in (
             known_mark _ (sends_known access a.operation a.request e size o now),
             λ h.
-                let c = changes-is a o h in
+                let c = changes_is a o h in
                 let put = sends_doubt access a.operation a.request e size c.0 to.told in
                 omega (arith, put, ap (λ q. mark_at q d.end.marks) c.1, now),
           )
 
       sent : Sent (topic access) (customer access) e a d.end d.end.used
       sent = record {
-        free = waits-idle e asks.free;
+        free = waits_idle e asks.free;
         new = omega (arith, asks.used);
         used = omega arith;
         before = mark_of (mark_at a.request.procedure e.marks);
         waits =
-            waits-busy d.end asks.outstanding
+            waits_busy d.end asks.outstanding
             ∙ (ap (λ x. awaiting d.end.used x (mark_of d.end.before))
             (ap (λ o. asking o d.end.request) asks.operation ∙ ap (asking a.operation) asks.request)
             ∙ ap (λ k. awaiting d.end.used a (mark_of k)) asks.before);
-        before_is = λ o h. ap (λ q. mark_of (mark_at q e.marks)) (⊎_elim (λ c. (changes-is a o c).1) (λ c. (asks-is a o c).1) h);
-        pics = λ o. ap (λ (u : Run). held_of o (instances_of u)) (sends-picture access a.operation a.request e size);
+        before_is = λ o h. ap (λ q. mark_of (mark_at q e.marks)) (⊎_elim (λ c. (changes_is a o c).1) (λ c. (asks_is a o c).1) h);
+        pics = λ o. ap (λ (u : Run). held_of o (instances_of u)) (sends_picture access a.operation a.request e size);
         stays = stays;
-        asked = λ o h. ap (λ (l : List ℕ). mark_of (mark_at o l)) (asks.marks (asks-is a o h).0);
+        asked = λ o h. ap (λ (l : List ℕ). mark_of (mark_at o l)) (asks.marks (asks_is a o h).0);
         fits = record { high = omega (arith, asks.used, asks.most); goes = asks.sendable; sizes = to.sizes };
       }
 
-      sent-sound : Sound access e → Sound access d.end
-      sent-sound s = record {
+      sent_sound : Sound access e → Sound access d.end
+      sent_sound s = record {
         way = goods.sending e s.way a.operation a.request size;
         sizes = λ _. subst Sized (sym asks.request) to.sizes;
       }
@@ -206,9 +206,9 @@ module _ (access : List ℕ) (ok : (access_read access).ok ≡ true) where
 
   gives : (e : End) → Sound access e → Shed (topic access) (customer access) e (gives_up access e).end
   gives e s =
-      let shut = gives-closes access e ok (reached_good access ok e s.way) in
+      let shut = gives_closes access e ok (reached_good access ok e s.way) in
       record {
-        free = waits-idle (gives_up access e).end shut.0;
+        free = waits_idle (gives_up access e).end shut.0;
         grows = omega (arith, shut.1);
         stays = λ o k. (
           known_mark _ (gives_known access e o (mark_known _ k)),
@@ -216,21 +216,21 @@ module _ (access : List ℕ) (ok : (access_read access).ok ≡ true) where
         );
       }
 
-  gives-sound : (e : End) → Sound access e → Sound access (gives_up access e).end
-  gives-sound e s = record {
+  gives_sound : (e : End) → Sound access e → Sound access (gives_up access e).end
+  gives_sound e s = record {
     way = goods.giving e s.way;
-    sizes = λ waits. absurd ((gives-closes access e ok (reached_good access ok e s.way)).0 waits);
+    sizes = λ waits. absurd ((gives_closes access e ok (reached_good access ok e s.way)).0 waits);
   }
 
-  pub customer-laws : CustomerLaws (topic access) (customer access)
-  customer-laws = record {
+  pub customer_laws : CustomerLaws (topic access) (customer access)
+  customer_laws = record {
     sends = λ size e a x s h.
-        let to = sends-to size e a x h in
+        let to = sends_to size e a x h in
         subst (λ (y : End × ℕ). Sent (topic access) (customer access) e a y.0 y.1) to.is
         (sent size e a (subst (Sends-to size e a) (sym to.is) to));
     send_sound = λ size e a x s h.
-        let to = sends-to size e a x h in
-        subst (λ (y : End × ℕ). Sound access y.0) to.is (sent-sound size e a (subst (Sends-to size e a) (sym to.is) to) s);
+        let to = sends_to size e a x h in
+        subst (λ (y : End × ℕ). Sound access y.0) to.is (sent_sound size e a (subst (Sends-to size e a) (sym to.is) to) s);
     hear_why = hear_why;
     hear_grows = hear_grows;
     hear_closes = hear_closes;
@@ -238,7 +238,7 @@ module _ (access : List ℕ) (ok : (access_read access).ok ≡ true) where
     hear_learns = hear_learns;
     hear_sound = hear_sound;
     give_up_lem = gives;
-    give_up_sound = gives-sound;
+    give_up_sound = gives_sound;
     jolts = λ e j. absurd j;
     jolt_sound = λ e j. absurd j;
   }

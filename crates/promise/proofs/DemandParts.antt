@@ -207,45 +207,45 @@ pub known_mark : (mark : ℕ) → mark ≡ mark_no known → mark_of mark ≡ kn
 known_mark mark h = rw (eq-eqb mark (mark_no known) h)
 
 module _ (a : Asking) where
-  pub about-asks : a.operation ≡ interrogation → about_of a ≡ rules.asks_for a.request.procedure
-  about-asks h = rw (eq-eqb a.operation interrogation h)
+  pub about_asks : a.operation ≡ interrogation → about_of a ≡ rules.asks_for a.request.procedure
+  about_asks h = rw (eq-eqb a.operation interrogation h)
 
-  pub about-changes : eqb a.operation interrogation ≡ false → about_of a ≡ rules.changes a.request.procedure
-  about-changes h = rw h
+  pub about_changes : eqb a.operation interrogation ≡ false → about_of a ≡ rules.changes a.request.procedure
+  about_changes h = rw h
 
-  pub about-one : (about_of a ≡ rules.changes a.request.procedure) ⊎ (about_of a ≡ rules.asks_for a.request.procedure)
-  about-one =
+  pub about_one : (about_of a ≡ rules.changes a.request.procedure) ⊎ (about_of a ≡ rules.asks_for a.request.procedure)
+  about_one =
       by_bool _ (eqb a.operation interrogation)
-      (λ h. inr (about-asks (eqb-true a.operation interrogation h))) (λ h. inl (about-changes h))
+      (λ h. inr (about_asks (eqb-true a.operation interrogation h))) (λ h. inl (about_changes h))
 
   -- what is about asking is an interrogation, of that procedure
-  pub asks-is : (P : ℕ) → about_of a ≡ rules.asks_for P → (a.operation ≡ interrogation) × (a.request.procedure ≡ P)
-  asks-is P h =
+  pub asks_is : (P : ℕ) → about_of a ≡ rules.asks_for P → (a.operation ≡ interrogation) × (a.request.procedure ≡ P)
+  asks_is P h =
       by_bool _ (eqb a.operation interrogation)
       (λ e.
       let o = eqb-true a.operation interrogation e in
-      let z : rules.asks_for a.request.procedure ≡ rules.asks_for P = sym (about-asks o) ∙ h in
+      let z : rules.asks_for a.request.procedure ≡ rules.asks_for P = sym (about_asks o) ∙ h in
       (o, cc))
-      (λ e. absurd (clash {x = rules.changes a.request.procedure} {y = rules.asks_for P} (λ z. cc) (sym (about-changes e) ∙ h)))
+      (λ e. absurd (clash {x = rules.changes a.request.procedure} {y = rules.asks_for P} (λ z. cc) (sym (about_changes e) ∙ h)))
 
-  pub changes-is : (P : ℕ) → about_of a ≡ rules.changes P → (a.operation ≡ interrogation → ⊥) × (a.request.procedure ≡ P)
-  changes-is P h =
+  pub changes_is : (P : ℕ) → about_of a ≡ rules.changes P → (a.operation ≡ interrogation → ⊥) × (a.request.procedure ≡ P)
+  changes_is P h =
       by_bool _ (eqb a.operation interrogation)
       (λ e.
       let o = eqb-true a.operation interrogation e in
-      absurd (clash {x = rules.asks_for a.request.procedure} {y = rules.changes P} (λ z. cc) (sym (about-asks o) ∙ h)))
+      absurd (clash {x = rules.asks_for a.request.procedure} {y = rules.changes P} (λ z. cc) (sym (about_asks o) ∙ h)))
       (λ e.
-      let z : rules.changes a.request.procedure ≡ rules.changes P = sym (about-changes e) ∙ h in
+      let z : rules.changes a.request.procedure ≡ rules.changes P = sym (about_changes e) ∙ h in
       (eqb-false a.operation interrogation e, cc))
 
 module _ (e : End) where
-  pub waits-idle : (e.outstanding ≡ 1 → ⊥) → waiting_of e ≡ idle
+  pub waits_idle : (e.outstanding ≡ 1 → ⊥) → waiting_of e ≡ idle
   unfolding waiting_of
-  waits-idle free = rw (ne_eqb e.outstanding 1 free)
+  waits_idle free = rw (ne_eqb e.outstanding 1 free)
 
-  pub waits-busy : e.outstanding ≡ 1 → waiting_of e ≡ awaiting e.used (asking e.operation e.request) (mark_of e.before)
+  pub waits_busy : e.outstanding ≡ 1 → waiting_of e ≡ awaiting e.used (asking e.operation e.request) (mark_of e.before)
   unfolding waiting_of
-  waits-busy waits = rw (eq-eqb e.outstanding 1 waits)
+  waits_busy waits = rw (eq-eqb e.outstanding 1 waits)
 
   pub record Busy (n : ℕ) (a : Asking) (m : Mark) : Type 0 where
     pub waits : e.outstanding ≡ 1
@@ -253,14 +253,14 @@ module _ (e : End) where
     pub asks : asking e.operation e.request ≡ a
     pub before : mark_of e.before ≡ m
 
-  pub busy-is : (n : ℕ) (a : Asking) (m : Mark) → waiting_of e ≡ awaiting n a m → Busy n a m
-  busy-is n a m h =
+  pub busy_is : (n : ℕ) (a : Asking) (m : Mark) → waiting_of e ≡ awaiting n a m → Busy n a m
+  busy_is n a m h =
       by_bool (Busy n a m) (eqb e.outstanding 1)
       (λ t.
       let w = eqb-true e.outstanding 1 t in
-      let z : awaiting e.used (asking e.operation e.request) (mark_of e.before) ≡ awaiting n a m = sym (waits-busy w) ∙ h in
+      let z : awaiting e.used (asking e.operation e.request) (mark_of e.before) ≡ awaiting n a m = sym (waits_busy w) ∙ h in
       record { waits = w; used = cc; asks = ap asked z; before = cc })
-      (λ t. absurd (clash {x = idle} {y = awaiting n a m} (λ z. cc) (sym (waits-idle (eqb-false e.outstanding 1 t)) ∙ h)))
+      (λ t. absurd (clash {x = idle} {y = awaiting n a m} (λ z. cc) (sym (waits_idle (eqb-false e.outstanding 1 t)) ∙ h)))
     where
       asked : Waiting Asking → Asking
       asked idle = a

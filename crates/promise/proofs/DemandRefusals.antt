@@ -5,30 +5,30 @@ use mathlib.Core.List.{List}
 use mathlib.Core.Option.{Option, none}
 use Rattle.laws.proofs.Picks.{pick_ind}
 use Rattle.refusals.specs.Refusal.{refuses}
-use Rattle.refusals.proofs.Refusals.{refuses-not}
+use Rattle.refusals.proofs.Refusals.{refuses_not}
 use Rattle.exchange.specs.Arrive.{done}
 use Rattle.exchange.specs.declared.table.Table.{Table}
-use Rattle.exchange.proofs.Nexts.{refusal-nothing}
+use Rattle.exchange.proofs.Nexts.{refusal_nothing}
 use Rattle.end.specs.Sending.{sends}
 use Rattle.end.specs.Taking.{takes, gives_up}
 use Rattle.end.specs.declared.end.End.{End}
-use Rattle.end.proofs.Steps.{takes-ind, gives-ind}
-use Rattle.demand.proofs.Stays.{stays-sent, stays-handled, stays-heard, stays-given}
+use Rattle.end.proofs.Steps.{takes_ind, gives_ind}
+use Rattle.demand.proofs.Stays.{stays_sent, stays_handled, stays_heard, stays_given}
 use Rattle.promise.specs.Demand.{Asking, sized, goes_up, sent_up, goes_down, machine, RefusedStays}
 
 module _ (access : List ℕ) where
-  takes-refused : (e : End) (s : List ℕ) (n : ℕ) → (takes access e s).told ≡ refuses n → (takes access e s).end ≡ e
-  takes-refused e s n =
-      takes-ind access e s (λ m. m.told ≡ refuses n → m.end ≡ e) (λ _ _. refl) (λ _ _ _ h. absurd (refuses-not _ _ (sym h)))
+  takes_refused : (e : End) (s : List ℕ) (n : ℕ) → (takes access e s).told ≡ refuses n → (takes access e s).end ≡ e
+  takes_refused e s n =
+      takes_ind access e s (λ m. m.told ≡ refuses n → m.end ≡ e) (λ _ _. refl) (λ _ _ _ h. absurd (refuses_not _ _ (sym h)))
 
-  gives-refused : (e : End) (n : ℕ) → (gives_up access e).told ≡ refuses n → (gives_up access e).end ≡ e
-  gives-refused e n =
-      gives-ind access e (λ m. m.told ≡ refuses n → m.end ≡ e) (λ _ _. refl) (λ _ _. refl) (λ _ _ _ h. absurd (refuses-not _ _ (sym h)))
+  gives_refused : (e : End) (n : ℕ) → (gives_up access e).told ≡ refuses n → (gives_up access e).end ≡ e
+  gives_refused e n =
+      gives_ind access e (λ m. m.told ≡ refuses n → m.end ≡ e) (λ _ _. refl) (λ _ _. refl) (λ _ _ _ h. absurd (refuses_not _ _ (sym h)))
 
-  sends-refused :
+  sends_refused :
       (size : ℕ) (e : End) (a : Asking) (n : ℕ) → (sends access a.operation a.request e size).told ≡ refuses n →
       (machine access).send size e a ≡ none
-  sends-refused size e a n h =
+  sends_refused size e a n h =
       let d = sends access a.operation a.request e size in
       pick_ind (λ (o : Option (End × List ℕ)). o ≡ none) (sized a.request) {x = sent_up d} {y = none}
       (λ _. ap (goes_up d.end d.octets) h) (λ _. refl)
@@ -39,12 +39,12 @@ module _ (access : List ℕ) where
   done_refused size t s n h =
       let d = done access t s size in
       ap (λ (o : Option (List ℕ)). (d.table, o)) (ap (goes_down d.octets) h)
-      ∙ ap (λ (u : Table). (u, none)) (refusal-nothing access t s size n h).0
+      ∙ ap (λ (u : Table). (u, none)) (refusal_nothing access t s size n h).0
 
-  pub refused-stays : RefusedStays access
-  refused-stays = record {
-    sending = λ w size a n h. stays-sent (machine access) w size a (sends-refused size w.end a n h);
-    handling = λ w size s i n h. stays-handled (machine access) w size s i (done_refused size w.table s n h);
-    hearing = λ w s i n h. stays-heard (machine access) w s i (takes-refused w.end s n h);
-    giving = λ w n h. stays-given (machine access) w (gives-refused w.end n h);
+  pub refused_stays : RefusedStays access
+  refused_stays = record {
+    sending = λ w size a n h. stays_sent (machine access) w size a (sends_refused size w.end a n h);
+    handling = λ w size s i n h. stays_handled (machine access) w size s i (done_refused size w.table s n h);
+    hearing = λ w s i n h. stays_heard (machine access) w s i (takes_refused w.end s n h);
+    giving = λ w n h. stays_given (machine access) w (gives_refused w.end n h);
   }

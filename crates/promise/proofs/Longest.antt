@@ -12,7 +12,7 @@ use Rattle.instances.specs.Run.{instances_of}
 use Rattle.exchange.specs.Table.{table_good}
 use Rattle.exchange.specs.Arrive.{done}
 use Rattle.exchange.specs.declared.table.Table.{Table}
-use Rattle.exchange.proofs.Nexts.{reply-fits}
+use Rattle.exchange.proofs.Nexts.{reply_fits}
 use Rattle.sheets.specs.Sheets.{wrote_sheet}
 use Rattle.sheets.proofs.WrittenTables.{Arrays}
 use Rattle.sheets.proofs.WrittenSheets.{sheet_written_most}
@@ -26,7 +26,7 @@ full_good = (row 46).0.0
 pub longest_reply :
     ((access : List ℕ) (t : Table) (s : List ℕ) (size : ℕ) → length (done access t s size).octets ≤ 707)
     × (length (done wide_access full_table last_interrogation 707).octets ≡ 707)
-longest_reply = (reply-fits, (row 46).0.1)
+longest_reply = (reply_fits, (row 46).0.1)
 
 -- of tables whose arrays are as a machine's
 pub longest_sheet_lem :

@@ -25,12 +25,12 @@ pub only_address_good : (a : Address) {x y : Bool} → AddressGood a x → Addre
 only_address_good a = both
 
 module _ (depth : ℕ) (s : List ℕ) (at end : ℕ) where
-  pub only-number-at : {a b : NumberRead} → NumberAt depth s at end a → NumberAt depth s at end b → a ≡ b
-  only-number-at = both
+  pub only_number_at : {a b : NumberRead} → NumberAt depth s at end a → NumberAt depth s at end b → a ≡ b
+  only_number_at = both
 
-  pub only-address-at :
+  pub only_address_at :
       {a b : AddressRead} → AddressAt depth s at end a → AddressAt depth s at end b → a ≡ b
-  only-address-at = both
+  only_address_at = both
 
 pub only_number_size : (n : Number) {a b : ℕ} → NumberSize n a → NumberSize n b → a ≡ b
 only_number_size n = both
@@ -39,11 +39,11 @@ pub only_address_size : (a : Address) {x y : ℕ} → AddressSize a x → Addres
 only_address_size a = both
 
 module _ (xs : List ℕ) (at : ℕ) {p q : ℕ} {ys zs : List ℕ} where
-  pub only-put-number : (n : Number) → PutNumber xs at n p ys → PutNumber xs at n q zs → (p ≡ q) × (ys ≡ zs)
-  only-put-number n = only_puts
+  pub only_put_number : (n : Number) → PutNumber xs at n p ys → PutNumber xs at n q zs → (p ≡ q) × (ys ≡ zs)
+  only_put_number n = only_puts
 
-  pub only-put-sub : (a : Address) → PutSub xs at a p ys → PutSub xs at a q zs → (p ≡ q) × (ys ≡ zs)
-  only-put-sub a = only_puts
+  pub only_put_sub : (a : Address) → PutSub xs at a p ys → PutSub xs at a q zs → (p ≡ q) × (ys ≡ zs)
+  only_put_sub a = only_puts
 
-  pub only-put-address : (a : Address) → PutAddress xs at a p ys → PutAddress xs at a q zs → (p ≡ q) × (ys ≡ zs)
-  only-put-address a = only_puts
+  pub only_put_address : (a : Address) → PutAddress xs at a p ys → PutAddress xs at a q zs → (p ≡ q) × (ys ≡ zs)
+  only_put_address a = only_puts

@@ -24,11 +24,11 @@ only_head_size n = both
 -- ---- writers: the place after, and every octet of the output
 
 module _ (xs : List ℕ) (at : ℕ) {p q : ℕ} {ys zs : List ℕ} where
-  pub only-put-word : (k n : ℕ) → PutWord xs at k n p ys → PutWord xs at k n q zs → (p ≡ q) × (ys ≡ zs)
-  only-put-word k n = only_puts
+  pub only_put_word : (k n : ℕ) → PutWord xs at k n p ys → PutWord xs at k n q zs → (p ≡ q) × (ys ≡ zs)
+  only_put_word k n = only_puts
 
-  pub only-put-head : (tag n : ℕ) → PutHead xs at tag n p ys → PutHead xs at tag n q zs → (p ≡ q) × (ys ≡ zs)
-  only-put-head tag n = only_puts
+  pub only_put_head : (tag n : ℕ) → PutHead xs at tag n p ys → PutHead xs at tag n q zs → (p ≡ q) × (ys ≡ zs)
+  only_put_head tag n = only_puts
 
-  pub only-put-all : (ws : List ℕ) → PutAll xs at ws p ys → PutAll xs at ws q zs → (p ≡ q) × (ys ≡ zs)
-  only-put-all ws = only_puts
+  pub only_put_all : (ws : List ℕ) → PutAll xs at ws p ys → PutAll xs at ws q zs → (p ≡ q) × (ys ≡ zs)
+  only_put_all ws = only_puts

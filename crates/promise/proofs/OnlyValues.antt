@@ -13,12 +13,12 @@ use Rattle.values.specs.declared.ident.Ident.{Ident}
 -- ---- readers: the answer
 
 module _ (depth : ℕ) (s : List ℕ) (at end : ℕ) where
-  pub only-enumerated-at :
+  pub only_enumerated_at :
       {a b : Enumerated} → EnumeratedAt depth s at end a → EnumeratedAt depth s at end b → a ≡ b
-  only-enumerated-at = both
+  only_enumerated_at = both
 
-  pub only-ident-at : {a b : Ident} → IdentAt depth s at end a → IdentAt depth s at end b → a ≡ b
-  only-ident-at = both
+  pub only_ident_at : {a b : Ident} → IdentAt depth s at end a → IdentAt depth s at end b → a ≡ b
+  only_ident_at = both
 
 pub only_ident_size : (z : ℤ) {a b : ℕ} → IdentSize z a → IdentSize z b → a ≡ b
 only_ident_size z = both
@@ -26,9 +26,9 @@ only_ident_size z = both
 -- ---- writers: the place after, and every octet of the output
 
 module _ (xs : List ℕ) (at : ℕ) {p q : ℕ} {ys zs : List ℕ} where
-  pub only-put-enumerated :
+  pub only_put_enumerated :
       (v : ℕ) → PutEnumerated xs at v p ys → PutEnumerated xs at v q zs → (p ≡ q) × (ys ≡ zs)
-  only-put-enumerated v = only_puts
+  only_put_enumerated v = only_puts
 
-  pub only-put-ident : (z : ℤ) → PutIdent xs at z p ys → PutIdent xs at z q zs → (p ≡ q) × (ys ≡ zs)
-  only-put-ident z = only_puts
+  pub only_put_ident : (z : ℤ) → PutIdent xs at z p ys → PutIdent xs at z q zs → (p ≡ q) × (ys ≡ zs)
+  only_put_ident z = only_puts

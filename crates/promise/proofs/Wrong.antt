@@ -23,18 +23,18 @@ use Rattle.exchange.specs.Table.{table_of, table_good, fresh_table}
 use Rattle.exchange.specs.Arrive.{Done, done, Arrives}
 use Rattle.exchange.specs.declared.table.Table.{Table}
 use Rattle.exchange.specs.declared.arrive.Arrived.{Arrived}
-use Rattle.exchange.proofs.Arrivals.{done-long, done-profile, done-table, done-answers}
+use Rattle.exchange.proofs.Arrivals.{done_long, done_profile, done_table, done_answers}
 use Rattle.calls.specs.declared.diverting.Onward.{Onward}
 use Rattle.end.specs.Sending.{sends}
 use Rattle.end.specs.Taking.{Moves, took, takes, MovesBy}
 use Rattle.end.specs.Shown.{shown, entries_shown, seen_known}
 use Rattle.end.specs.declared.end.End.{End}
 use Rattle.end.specs.declared.take.Moved.{Moved}
-use Rattle.end.proofs.Steps.{takes-ind}
+use Rattle.end.proofs.Steps.{takes_ind}
 use Rattle.end.proofs.Ends.{mark_doubt}
 use Rattle.end.proofs.Shows.{known_by}
 use Rattle.demand.specs.Machine.{handles, after, still}
-use Rattle.demand.proofs.Stays.{heard-end}
+use Rattle.demand.proofs.Stays.{heard_end}
 use Rattle.promise.specs.Samples.{arrives, Says, sample_access, access_with, call_with, activated_table}
 use Rattle.promise.specs.Samples.{activation_octets, activated_octets, duplicate_octets, fresh_octets, activation_of_cfb}
 use Rattle.promise.specs.Samples.{end_at, interrogating_end, activating_end, activated_instances}
@@ -58,32 +58,32 @@ done_roomy access t s size room =
     by_bool Same (ltb component_most (length s))
     (λ h.
     let long = ltb-true component_most (length s) h in
-    both (done-long access t s size room long) (done-long access t s output_least least long))
+    both (done_long access t s size room long) (done_long access t s output_least least long))
     (λ h.
     let fair = ltb-false component_most (length s) h in
     by_bool Same (access_read access).ok
     (λ ok.
     by_bool Same (table_good instances_most (access_read access).profile t)
-    (λ good. both (done-answers access t s size room fair ok good) (done-answers access t s output_least least fair ok good))
-    (λ bad. both (done-table access t s size room fair ok bad) (done-table access t s output_least least fair ok bad)))
-    (λ bad. both (done-profile access t s size room fair bad) (done-profile access t s output_least least fair bad)))
+    (λ good. both (done_answers access t s size room fair ok good) (done_answers access t s output_least least fair ok good))
+    (λ bad. both (done_table access t s size room fair ok bad) (done_table access t s output_least least fair ok bad)))
+    (λ bad. both (done_profile access t s size room fair bad) (done_profile access t s output_least least fair bad)))
 
 -- what the promise says at a sample
 module _
     (t : Table) (s octets : List ℕ) (next : Table) (is : Says (arrives sample_access t s octets next)) (xs : List ℕ)
     (room : output_least ≤ length xs) {r : Arrived} {ys : List ℕ} (k : Arrives sample_access t s xs r ys)
   where
-    sample-table : r.table ≡ next
-    sample-table = k.table ∙ ap (λ (d : Done). d.table) (done_roomy sample_access t s (length xs) room) ∙ is.1
+    sample_table : r.table ≡ next
+    sample_table = k.table ∙ ap (λ (d : Done). d.table) (done_roomy sample_access t s (length xs) room) ∙ is.1
 
-    sample-octets : (done sample_access t s (length xs)).octets ≡ octets
-    sample-octets = ap (λ (d : Done). d.octets) (done_roomy sample_access t s (length xs) room) ∙ is.0
+    sample_octets : (done sample_access t s (length xs)).octets ≡ octets
+    sample_octets = ap (λ (d : Done). d.octets) (done_roomy sample_access t s (length xs) room) ∙ is.0
 
-    sample-count : r.count ≡ length octets
-    sample-count = k.count ∙ ap length sample-octets
+    sample_count : r.count ≡ length octets
+    sample_count = k.count ∙ ap length sample_octets
 
-    sample-lent : ys ≡ over xs 0 octets
-    sample-lent = k.lent ∙ ap (over xs 0) sample-octets
+    sample_lent : ys ≡ over xs 0 octets
+    sample_lent = k.lent ∙ ap (over xs 0) sample_octets
 
 activates : Says (arrives sample_access fresh_table activation_octets activated_octets activated_table)
 activates = (row 27).0
@@ -96,7 +96,7 @@ pub shut_out_refusing_everything :
     (refusal : Refusal) (xs : List ℕ) → output_least ≤ length xs →
     ArrivesBy (refuses_all refusal) sample_access fresh_table activation_octets xs → ⊥
 shut_out_refusing_everything refusal xs room k =
-    let z = sample-count fresh_table activation_octets activated_octets activated_table activates xs room k in
+    let z = sample_count fresh_table activation_octets activated_octets activated_table activates xs room k in
     omega (arith, z)
 
 -- "one fixed reply": no octets are both the activation sample's reply and that to "the latter again"
@@ -107,9 +107,9 @@ pub shut_out_one_fixed_reply :
     ⊥
 shut_out_one_fixed_reply octets answers xs room a b =
     let first : over xs 0 octets ≡ over xs 0 activated_octets =
-    sample-lent fresh_table activation_octets activated_octets activated_table activates xs room a in
+    sample_lent fresh_table activation_octets activated_octets activated_table activates xs room a in
     let second : over xs 0 octets ≡ over xs 0 duplicate_octets =
-    sample-lent activated_table activation_octets duplicate_octets activated_table again xs room b in
+    sample_lent activated_table activation_octets duplicate_octets activated_table again xs room b in
     let head : List ℕ → ℕ = λ l. get_or l 0 0 in
     let z : ◌≡◌ {A = ℕ} 0xA2 0xA4 =
     sym (ap head (over_eq xs 0 activated_octets (omega (arith, room)))) ∙ ap head (sym first ∙ second)
@@ -122,7 +122,7 @@ pub shut_out_table_untouched :
     ArrivesBy (table_untouched x) sample_access fresh_table activation_octets xs → ⊥
 shut_out_table_untouched x xs room k =
     let z : ◌≡◌ {A = ℕ} 0 2 =
-    ap (λ (t : Table). t.last) (sample-table fresh_table activation_octets activated_octets activated_table activates xs room k) in
+    ap (λ (t : Table). t.last) (sample_table fresh_table activation_octets activated_octets activated_table activates xs room k) in
     omega (arith, z)
 
 -- ---- calls
@@ -184,7 +184,7 @@ pub keeping_interrogations :
     FirstReplyBy x access
 keeping_interrogations x keeps access ok counted w run size a h v q quiet =
     let known = (demand_3 access ok counted).known w run size a h v q quiet in
-    let same = (keeps access v.end a).end ∙ sym (heard-end (machine access) v a known.0) in (
+    let same = (keeps access v.end a).end ∙ sym (heard_end (machine access) v a known.0) in (
       known.1,
       ap (λ (e : End). shown access e w.end.request.procedure) same ∙ known.2,
     )
@@ -202,55 +202,55 @@ none_held =
 
 module _ (x : Taker) (keeps : Keeps x) where
   -- it tracks its first request
-  tracks-first : (access : List ℕ) (e : End) (s : List ℕ) → e.used ≤ 1 → TakesBy (pretends x) access e s
-  tracks-first access e s first = rw (le-leb e.used 1 first) (keeps access e s)
+  tracks_first : (access : List ℕ) (e : End) (s : List ℕ) → e.used ≤ 1 → TakesBy (pretends x) access e s
+  tracks_first access e s first = rw (le-leb e.used 1 first) (keeps access e s)
 
-  first-heard : (first_heard (pretends x)).end ≡ end_at 1 []
-  first-heard =
+  first_heard_lem : (first_heard (pretends x)).end ≡ end_at 1 []
+  first_heard_lem =
       at_first (λ e s. (pretends x sample_access e s).end)
       ∙ (keeps sample_access interrogating_end fresh_octets).end
       ∙ (row 40).0
 
-  second-sent : (second_sent (pretends x)).end ≡ activating_end
-  second-sent =
-      ap (λ (e : End). (sends sample_access activation activation_of_cfb e output_least).end) first-heard
+  second_sent_lem : (second_sent (pretends x)).end ≡ activating_end
+  second_sent_lem =
+      ap (λ (e : End). (sends sample_access activation activation_of_cfb e output_least).end) first_heard_lem
       ∙ (row 42).0.1
 
   at_second :
       {A : Type 0} (f : End → List ℕ → A) → f (second_sent (pretends x)).end first_answer.octets ≡ f activating_end fresh_octets
-  at_second f = ap (λ (e : End). f e first_answer.octets) second-sent ∙ ap (f activating_end) first_answer_lem
+  at_second f = ap (λ (e : End). f e first_answer.octets) second_sent_lem ∙ ap (f activating_end) first_answer_lem
 
   -- it takes the first reply for the second, and shows the instance as known
-  second-heard : (second_heard (pretends x)).end ≡ end_at 2 activated_instances
-  second-heard =
+  second_heard_lem : (second_heard (pretends x)).end ≡ end_at 2 activated_instances
+  second_heard_lem =
       at_second (λ e s. (pretends x sample_access e s).end)
       ∙ ap (all_marked (mark_no known))
       ((keeps sample_access activating_end (result_for activating_end)).end
       ∙ ap (λ (s : List ℕ). (takes sample_access activating_end s).end) (row 15).0
       ∙ (row 44).0)
 
-  second-shown : shown sample_access (second_heard (pretends x)).end cfb ≡ tells (seen_known 1)
-  second-shown = ap (λ (e : End). shown sample_access e cfb) second-heard ∙ (row 45).0
+  second_shown : shown sample_access (second_heard (pretends x)).end cfb ≡ tells (seen_known 1)
+  second_shown = ap (λ (e : End). shown sample_access e cfb) second_heard_lem ∙ (row 45).0
 
-  second-differs :
+  second_differs :
       entries_shown (access_read sample_access).profile (second_heard (pretends x)).end cfb
       ≡ entries_held sample_access first_answer.table cfb → ⊥
-  second-differs same =
-      omega (arith, (known_by sample_access (second_heard (pretends x)).end cfb 1 second-shown).entries, ap length same, none_held)
+  second_differs same =
+      omega (arith, (known_by sample_access (second_heard (pretends x)).end cfb 1 second_shown).entries, ap length same, none_held)
 
   -- "an end that tracks its first request and afterwards pretends", made of an end that keeps the promise: it does keep it for the first
   -- request; then what it shows as known is not what the table has; "Anything else that arrives is dropped"
-  pub shut-out-pretending :
+  pub shut_out_pretending :
       ((access : List ℕ) (e : End) (s : List ℕ) → e.used ≤ 1 → TakesBy (pretends x) access e s)
       × KnownWrong (second_heard (pretends x)).end first_answer.table
       × (TakesBy (pretends x) sample_access (second_sent (pretends x)).end first_answer.octets → ⊥)
-  shut-out-pretending = (
-    tracks-first,
-    record { count = 1; known = second-shown; differs = second-differs },
+  shut_out_pretending = (
+    tracks_first,
+    record { count = 1; known = second_shown; differs = second_differs },
     λ k.
         let z : ◌≡◌ {A = ℕ} 1 0 =
         ap (λ (e : End). get_or e.marks cfb 0)
-        (sym second-heard ∙ k.end ∙ at_second (λ e s. (takes sample_access e s).end) ∙ (row 43).0) in
+        (sym second_heard_lem ∙ k.end ∙ at_second (λ e s. (takes sample_access e s).end) ∙ (row 43).0) in
         omega (arith, z),
   )
 
@@ -268,7 +268,7 @@ keeping_end = record { taker = λ access e s. (each access e s).by; keeps = λ a
   where
     each : (access : List ℕ) (e : End) (s : List ℕ) → Kept (takes access e s)
     each access e s =
-        takes-ind access e s Kept
+        takes_ind access e s Kept
         (λ refusal. record { by = record { end = e; outcome = handling.Refuses refusal }; kept = record { end = refl; told = refl } })
         (λ _ _ _. record {
           by = record { end = took (access_read access).profile e s; outcome = handling.Done };

@@ -1,7 +1,7 @@
 -- What is told names what came of it. Assumes nothing.
 use Prim.Native.Nat.{ℕ}
 use mathlib.Core.Path.{◌≡◌, refl, sym, ap, ◌∙◌}
-use Rattle.refusals.proofs.Refusals.{refusal_same, refuses-same, refuses-not}
+use Rattle.refusals.proofs.Refusals.{refusal_same, refuses_same, refuses_not}
 use Rattle.refusals.specs.Handling.{handling_told}
 use Rattle.refusals.specs.declared.handling.Handling.{Handling}
 use Rattle.refusals.specs.declared.handling.Handling.TheVariants.{Refuses, Done}
@@ -9,9 +9,9 @@ use Rattle.refusals.specs.declared.handling.Written.{Written}
 
 -- two of which the same is told are the same
 pub handling_same : (a b : Handling) → handling_told a ≡ handling_told b → a ≡ b
-handling_same (Refuses x) (Refuses y) h = ap Refuses (refusal_same x y (refuses-same _ _ h))
-handling_same (Refuses x) Done h = absurd (refuses-not _ tt h)
-handling_same Done (Refuses y) h = absurd (refuses-not _ tt (sym h))
+handling_same (Refuses x) (Refuses y) h = ap Refuses (refusal_same x y (refuses_same _ _ h))
+handling_same (Refuses x) Done h = absurd (refuses_not _ tt h)
+handling_same Done (Refuses y) h = absurd (refuses_not _ tt (sym h))
 handling_same Done Done h = refl
 
 abbrev written_of : Handling → ℕ → Written

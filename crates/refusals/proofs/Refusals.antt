@@ -49,13 +49,13 @@ module _ {A : Type 0} where
   part_of a (tells b) = b
 
   -- two refusals that are told alike have one number
-  pub refuses-same : (m n : ℕ) → ◌≡◌ {A = Told A} (refuses m) (refuses n) → m ≡ n
-  refuses-same m n h = ap number_of h
+  pub refuses_same : (m n : ℕ) → ◌≡◌ {A = Told A} (refuses m) (refuses n) → m ≡ n
+  refuses_same m n h = ap number_of h
 
   -- two answers that are told alike are the same
-  pub tells-same : (a b : A) → ◌≡◌ {A = Told A} (tells a) (tells b) → a ≡ b
-  tells-same a b h = ap (part_of a) h
+  pub tells_same : (a b : A) → ◌≡◌ {A = Told A} (tells a) (tells b) → a ≡ b
+  tells_same a b h = ap (part_of a) h
 
   -- a refusal is no answer
-  pub refuses-not : (n : ℕ) (a : A) → ◌≡◌ {A = Told A} (refuses n) (tells a) → ⊥
-  refuses-not n a h = omega (arith, ap kind_of h)
+  pub refuses_not : (n : ℕ) (a : A) → ◌≡◌ {A = Told A} (refuses n) (tells a) → ⊥
+  refuses_not n a h = omega (arith, ap kind_of h)

@@ -3,14 +3,14 @@ ghost use Rattle.refusals.specs.Handling.{NotWritten};
 
 use crate::refusal::Refusal;
 
-#[derive(Drop)]
+#[derive(Clone, Copy)]
 pub enum Handling {
     Refuses { refusal: Refusal },
     Done,
 }
 
 // The same, and how many octets were written.
-#[derive(Drop)]
+#[derive(Clone, Copy)]
 pub struct Written {
     pub outcome: Handling,
     pub count: usize,

@@ -1,7 +1,7 @@
 // Why something is refused, with document 01's words, in the order of the numbers (document 01, "Local refusals").
 ghost use Rattle.refusals.specs.Refusal.{RefusalNo};
 
-#[derive(Drop)]
+#[derive(Clone, Copy)]
 pub enum Refusal {
     // "lent output under 707 octets (any component) or 1,613 (sheet)"
     ShortOutput,

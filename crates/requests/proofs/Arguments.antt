@@ -184,19 +184,19 @@ module _ (operation : ℕ) (r : Request) (s : List ℕ) (at end : ℕ) {ws : Lis
   after = c + length k.served
 
   module _ (fits : after ≤ end) where
-    procedure-read : code_at procedure_code argument_depth s at end ≡ got r.procedure a
-    procedure-read =
+    procedure_read : code_at procedure_code argument_depth s at end ≡ got r.procedure a
+    procedure_read =
         code_back procedure_code argument_depth r.procedure s at end k.procedures (λ e. omega arith) l.first (omega arith) in-s
 
-    last-read :
+    last_read :
         (to : Forwarded) →
         last_in r.procedure r.service to s c end
         ≡ only_if (privates s after end) (got (request_of r.procedure r.service to r.served) end)
-    last-read to = last_back r.procedure r.service to s c end k.serveds l.fourth fits in-s
+    last_read to = last_back r.procedure r.service to s c end k.serveds l.fourth fits in-s
 
     -- a service that must be there
-    given-read : (operation ≡ interrogation → ⊥) → code_at service_code argument_depth s a end ≡ got r.service b
-    given-read other =
+    given_read : (operation ≡ interrogation → ⊥) → code_at service_code argument_depth s a end ≡ got r.service b
+    given_read other =
         code_back service_code argument_depth r.service s a end (given_service operation other k.services) (λ e. omega arith)
         (stands_left s a k.service (k.to ++ k.served) l.second) (omega arith) in-s
 
@@ -208,30 +208,30 @@ module _ (operation : ℕ) (r : Request) (s : List ℕ) (at end : ℕ) {ws : Lis
         let none = given_nowhere operation other k.tos in
         let here : c ≡ b = omega (arith, ap length none.1) in
         ap (λ (x : ℕ). last_in r.procedure r.service no_forwarded s x end) (sym here)
-        ∙ last-read no_forwarded
+        ∙ last_read no_forwarded
         ∙ ap (λ (to : Forwarded). only_if (privates s after end) (got (request_of r.procedure r.service to r.served) end))
         (sym none.0)
 
-    contents-by : Known operation → contents_in operation s at end ≡ only_if (privates s after end) (got r end)
+    contents_by : Known operation → contents_in operation s at end ≡ only_if (privates s after end) (got r end)
     unfolding contents_in activation_in deactivation_in interrogation_in
-    contents-by (activation_is e) =
+    contents_by (activation_is e) =
         rw (
           eq-eqb operation activation e,
-          procedure-read,
-          given-read (λ z. omega arith),
+          procedure_read,
+          given_read (λ z. omega arith),
           address_spelt_back argument_depth s b end (given_address operation e k.tos) (omega arith) l.third (omega arith) in-s,
         )
-        (last-read r.to)
-    contents-by (deactivation_is e) =
+        (last_read r.to)
+    contents_by (deactivation_is e) =
         let other : operation ≡ activation → ⊥ = λ z. omega arith in
         rw (
           ne_eqb operation activation other,
           eq-eqb operation deactivation e,
-          procedure-read,
-          given-read (λ z. omega arith),
+          procedure_read,
+          given_read (λ z. omega arith),
         )
         (last_here other)
-    contents-by (interrogation_is e) =
+    contents_by (interrogation_is e) =
         let other : operation ≡ activation → ⊥ = λ z. omega arith in
         let before : k.to ++ k.served ≡ k.served =
         ap (λ (ws : List ℕ). ws ++ k.served) (given_nowhere operation other k.tos).1 in
@@ -239,7 +239,7 @@ module _ (operation : ℕ) (r : Request) (s : List ℕ) (at end : ℕ) {ws : Lis
           ne_eqb operation activation other,
           ne_eqb operation deactivation (λ z. omega arith),
           eq-eqb operation interrogation e,
-          procedure-read,
+          procedure_read,
           service_back argument_depth operation k.service k.served s a end k.services k.serveds (λ z. omega arith)
               (rw before at l.second) (omega arith) in-s,
         )
@@ -259,7 +259,7 @@ contents_then operation r s at end {ws} known k st fit in-s =
     let long : at + length p + length q + length t + length v ≡ at + length ws =
     omega (arith, ap length k.is, length-append p (q ++ (t ++ v)), length-append q (t ++ v), length-append t v) in
     rw long at
-    (contents-by operation r s at end k (laid s at p q t v (rw k.is at st)) in-s (omega arith) known)
+    (contents_by operation r s at end k (laid s at p q t v (rw k.is at st)) in-s (omega arith) known)
 
 -- ---- the argument
 

@@ -19,7 +19,7 @@ use Rattle.requests.specs.Spelt.{Known, KnownSpelt, PrivatesSpelt}
 use Rattle.requests.specs.declared.heard.Heard.TheVariants.{Asks}
 use Rattle.requests.specs.declared.request.Request.{Request}
 use Rattle.requests.proofs.Goods.{Readable, known_most}
-use Rattle.requests.proofs.Privates.{privates-only}
+use Rattle.requests.proofs.Privates.{privates_only}
 use Rattle.requests.proofs.Arguments.{contents_then}
 use Rattle.requests.proofs.Written.{contents_spells}
 use Rattle.requests.proofs.Trips.{Invoked, invoked, ReadAs, ReadsBack, contents_reads}
@@ -33,18 +33,18 @@ pub record Refused (identifier : ℤ) (operation : ℕ) (s : List ℕ) : Type 0 
 -- an argument whose contents are the known elements of a request, and then the octets ps
 module _ {identifier : ℤ} {operation : ℕ} {r : Request} {ws : List ℕ} (ps : List ℕ) {s : List ℕ}
     (i : Invoked identifier operation (ws ++ ps) s) (known : Known operation) (k : KnownSpelt operation r ws) where
-  pub followed-skipped : PrivatesSpelt ps → ReadAs identifier operation r s
-  followed-skipped run =
+  pub followed_skipped : PrivatesSpelt ps → ReadAs identifier operation r s
+  followed_skipped run =
       contents_reads i known (record { first = ws; rest = ps; is = refl; knowns = k; privates = run })
 
-  pub followed-refused : ((j : ℕ) → get_or s j 0 < 256) → (PrivatesSpelt ps → ⊥) → Refused identifier operation s
-  followed-refused small others =
+  pub followed_refused : ((j : ℕ) → get_or s j 0 < 256) → (PrivatesSpelt ps → ⊥) → Refused identifier operation s
+  followed_refused small others =
       let at : ℕ = i.start + length ws in
       let ends : at + length ps ≡ length s = omega (arith, i.fits, length-append ws ps) in
       let here : slice at (length s) s ≡ ps =
       rw ends at (slice_stands s at ps (stands_right s i.start ws ps i.stands) (omega (arith, ends))) in
       by_bool (Refused identifier operation s) (privates s at (length s))
-      (λ e. absurd (others (rw here at (privates-only s small at (length s) (omega (arith, ends)) (omega arith) e))))
+      (λ e. absurd (others (rw here at (privates_only s small at (length s) (omega (arith, ends)) (omega arith) e))))
       (λ e. record {
         at = i.at;
         hears = i.hears;
@@ -67,14 +67,14 @@ module _ (identifier : ℤ) (operation : ℕ) (r : Request) (ps : List ℕ) (ran
       invoked identifier operation (contents_octets operation r ++ ps) range (omega (arith, known_most g.known)) fits
 
   -- private elements, however many, change nothing
-  pub privates-skipped :
+  pub privates_skipped :
       PrivatesSpelt ps →
       ReadsBack identifier operation r (invoke_octets identifier operation (contents_octets operation r ++ ps))
-  privates-skipped = followed-skipped ps component g.known (contents_spells operation r g)
+  privates_skipped = followed_skipped ps component g.known (contents_spells operation r g)
 
   -- anything else makes the argument wrong
-  pub privates-refused :
+  pub privates_refused :
       ((j : ℕ) → get_or (invoke_octets identifier operation (contents_octets operation r ++ ps)) j 0 < 256) →
       (PrivatesSpelt ps → ⊥) →
       Refused identifier operation (invoke_octets identifier operation (contents_octets operation r ++ ps))
-  privates-refused = followed-refused ps component g.known (contents_spells operation r g)
+  privates_refused = followed_refused ps component g.known (contents_spells operation r g)

@@ -17,8 +17,8 @@ use Rattle.octets.specs.Head.{head_at}
 use Rattle.octets.specs.Spelt.{Spells}
 use Rattle.octets.specs.declared.head.Head.{Head}
 use Rattle.octets.specs.declared.head.Head.TheVariants as head
-use Rattle.octets.proofs.Spellings.{head-only, spells_back}
-use Rattle.octets.proofs.Bads.{head-past, head-ones}
+use Rattle.octets.proofs.Spellings.{head_only, spells_back}
+use Rattle.octets.proofs.Bads.{head_past, head_ones}
 use Rattle.octets.proofs.Firsts.{spells_first}
 use Rattle.skip.specs.Depth.{component_depth}
 use Rattle.requests.specs.Heard.{reply_tag, heard_in, heard}
@@ -29,26 +29,26 @@ use Rattle.requests.proofs.Tags.{no_reply_tag}
 
 module _ (s : List ℕ) where
   -- no element
-  pub heard-bad : head_at component_depth s 0 (length s) ≡ head.Bad → heard s ≡ NotOne
+  pub heard_bad : head_at component_depth s 0 (length s) ≡ head.Bad → heard s ≡ NotOne
   unfolding heard
-  heard-bad e = rw e
+  heard_bad e = rw e
 
   -- one that does not fill them
-  heard-part :
+  heard_part :
       {tag start stop next : ℕ} → head_at component_depth s 0 (length s) ≡ head.Is tag start stop next →
       (next ≡ length s → ⊥) → heard s ≡ NotOne
   unfolding heard
-  heard-part {next = next} e other = rw (e, ne_eqb next (length s) other)
+  heard_part {next = next} e other = rw (e, ne_eqb next (length s) other)
 
   -- one that does
-  heard-filled :
+  heard_filled :
       {tag start stop next : ℕ} → head_at component_depth s 0 (length s) ≡ head.Is tag start stop next → next ≡ length s →
       heard s ≡ heard_in s (record { tag = tag; start = start; stop = stop })
   unfolding heard
-  heard-filled {next = next} e all = rw (e, eq-eqb next (length s) all)
+  heard_filled {next = next} e all = rw (e, eq-eqb next (length s) all)
 
 pub heard_empty : heard [] ≡ NotOne
-heard_empty = heard-bad [] (head-past component_depth [] 0 0 (omega arith))
+heard_empty = heard_bad [] (head_past component_depth [] 0 0 (omega arith))
 
 -- octets after an element
 pub heard_more :
@@ -58,9 +58,9 @@ heard_more {tag} {contents} {ws} sp o os =
     let st : Stands s 0 ws = stands_left s 0 ws (o ∷ os) (stands_whole s) in
     let long = length-append ws (o ∷ os) in
     by_bool (heard s ≡ NotOne) (eqb (tag % 32) 31)
-    (λ e. heard-bad s (head-ones component_depth s 0 (length s) (rw (spells_first s 0 sp st) (eqb-true (tag % 32) 31 e))))
+    (λ e. heard_bad s (head_ones component_depth s 0 (length s) (rw (spells_first s 0 sp st) (eqb-true (tag % 32) 31 e))))
     (λ e.
-    heard-part s
+    heard_part s
     (spells_back component_depth s 0 (length s) sp (λ z. omega arith) (eqb-false (tag % 32) 31 e) st (omega arith) (omega arith))
     (λ all. omega arith))
 
@@ -68,41 +68,41 @@ heard_more {tag} {contents} {ws} sp o os =
 pub heard_not_one :
     (s : List ℕ) → ((i : ℕ) → get_or s i 0 < 256) →
     ((tag : ℕ) (contents : List ℕ) → (tag % 32 ≡ 31 → ⊥) → Spells tag contents s → ⊥) → heard s ≡ NotOne
-heard_not_one s small none = by-head (head_at component_depth s 0 (length s)) refl
+heard_not_one s small none = by_head (head_at component_depth s 0 (length s)) refl
   where
     whole : slice 0 (length s) s ≡ s
     whole = take-length s
 
-    by-head : (x : Head) → head_at component_depth s 0 (length s) ≡ x → heard s ≡ NotOne
-    by-head (head.Is tag start stop next) e =
-        let found = head-only s small component_depth 0 (length s) e in
+    by_head : (x : Head) → head_at component_depth s 0 (length s) ≡ x → heard s ≡ NotOne
+    by_head (head.Is tag start stop next) e =
+        let found = head_only s small component_depth 0 (length s) e in
         by_bool (heard s ≡ NotOne) (eqb next (length s))
         (λ all.
         absurd (none tag (slice start stop s) found.low
         (rw (eqb-true next (length s) all, whole) at found.spells)))
-        (λ other. heard-part s e (eqb-false next (length s) other))
-    by-head head.Bad e = heard-bad s e
+        (λ other. heard_part s e (eqb-false next (length s) other))
+    by_head head.Bad e = heard_bad s e
 
 -- ---- the outer tag
 
 module _ {tag : ℕ} {contents s : List ℕ} (sp : Spells tag contents s) where
   -- what is heard of one element is heard in it
-  pub heard-within :
+  pub heard_within :
       (tag % 32 ≡ 31 → ⊥) →
       heard s ≡ heard_in s (record { tag = tag; start = suc (suc sp.k); stop = length s })
-  heard-within low =
+  heard_within low =
       let e = spells_back component_depth s 0 (length s) sp (λ z. omega arith) low (stands_whole s) (omega arith) (omega arith) in
-      heard-filled s (rw (zero-add (length s), zero-add (suc (suc sp.k))) at e) refl
+      heard_filled s (rw (zero-add (length s), zero-add (suc (suc sp.k))) at e) refl
 
   -- "outer tag A2, A3, A4": whatever it holds
-  pub heard-silent : reply_tag tag ≡ true → heard s ≡ Silent
-  heard-silent reply =
-      heard-within
+  pub heard_silent : reply_tag tag ≡ true → heard s ≡ Silent
+  heard_silent reply =
+      heard_within
       (λ ones.
       false≢true
       (sym (no_reply_tag tag (λ e. omega arith) (λ e. omega arith) (λ e. omega arith)) ∙ reply))
       ∙ rw reply
 
   -- "another outer tag but A1"
-  pub heard-other : (tag % 32 ≡ 31 → ⊥) → reply_tag tag ≡ false → (tag ≡ 0xA1 → ⊥) → heard s ≡ OtherTag
-  heard-other low reply other = heard-within low ∙ rw (reply, ne_eqb tag 0xA1 other)
+  pub heard_other : (tag % 32 ≡ 31 → ⊥) → reply_tag tag ≡ false → (tag ≡ 0xA1 → ⊥) → heard s ≡ OtherTag
+  heard_other low reply other = heard_within low ∙ rw (reply, ne_eqb tag 0xA1 other)

@@ -19,12 +19,12 @@ use Rattle.values.specs.Ident.{ident_tag, ident_at}
 use Rattle.values.specs.declared.ident.Ident.{Ident}
 use Rattle.values.specs.declared.ident.Ident.TheVariants as ident
 use Rattle.values.proofs.Idents.{ident_range, ident_within, ident_spells_back}
-use Rattle.values.proofs.Spellings.{ident-only}
+use Rattle.values.proofs.Spellings.{ident_only}
 use Rattle.skip.specs.Depth.{inside_depth}
 use Rattle.requests.specs.Heard.{local, reply_tag, operation_at, identifier_at, heard}
 use Rattle.requests.specs.Spelt.{SignedSpelt, NoneFirst}
 use Rattle.requests.specs.declared.heard.Heard.TheVariants.{NoIdentifier, NoOperation, Asks}
-use Rattle.requests.proofs.Heards.{heard-within}
+use Rattle.requests.proofs.Heards.{heard_within}
 
 -- ---- a value that stands first, or none
 
@@ -41,25 +41,25 @@ pub signed_only :
     ident_at inside_depth s at end ≡ ident.Is z next → SignedSpelt z (slice at next s)
 signed_only s small at end e = record {
   range = rw e at (ident_range inside_depth s at end);
-  spells = ident-only s small inside_depth at end e;
+  spells = ident_only s small inside_depth at end e;
 }
 
 -- where none stands first, none is read
 none_read :
     (s : List ℕ) → ((i : ℕ) → get_or s i 0 < 256) → (at : ℕ) (ws : List ℕ) → NoneFirst ws → Stands s at ws →
     at + length ws ≤ length s → ident_at inside_depth s at (at + length ws) ≡ ident.Unreadable
-none_read s small at ws none st in-s = by-ident (ident_at inside_depth s at end) refl
+none_read s small at ws none st in-s = by_ident (ident_at inside_depth s at end) refl
   where
     end : ℕ
     end = at + length ws
 
-    by-ident : (x : Ident) → ident_at inside_depth s at end ≡ x → x ≡ ident.Unreadable
-    by-ident (ident.Is z next) e =
+    by_ident : (x : Ident) → ident_at inside_depth s at end ≡ x → x ≡ ident.Unreadable
+    by_ident (ident.Is z next) e =
         let lies = ident_within inside_depth s at end e in
         let parts : ws ≡ slice at next s ++ slice next end s =
         sym (slice_stands s at ws st in-s) ∙ sym (slice_join at next end s (omega (arith, lies.0)) lies.1) in
         absurd (none z (slice at next s) (slice next end s) parts (signed_only s small at end e))
-    by-ident ident.Unreadable e = refl
+    by_ident ident.Unreadable e = refl
 
 -- an element of another tag
 pub other_first :
@@ -84,7 +84,7 @@ pub holds : {contents s : List ℕ} → Spells 0xA1 contents s → Holds content
 unfolding reply_tag
 holds {contents} {s} sp = record {
   start = suc (suc sp.k);
-  says = heard-within sp (λ e. omega arith);
+  says = heard_within sp (λ e. omega arith);
   stands = rw (zero-add (suc (suc sp.k))) at (spells_contents s 0 sp (stands_whole s));
   ends = omega (arith, spells_length sp);
 }
@@ -107,9 +107,9 @@ heard_null rest small sp =
 
 module _ (identifier : ℤ) (first rest s : List ℕ) (v : SignedSpelt identifier first) (i : Holds (first ++ rest) s) where
   -- a readable identifier, and what follows it
-  after-identifier : heard s ≡ operation_at identifier s (i.start + length first) (length s)
+  after_identifier : heard s ≡ operation_at identifier s (i.start + length first) (length s)
   unfolding identifier_at
-  after-identifier =
+  after_identifier =
       i.says
       ∙ rw (signed_back identifier first s i.start (length s) v (stands_left s i.start first rest i.stands)
       (omega (arith, i.ends, length-append first rest)) (omega arith))
@@ -117,8 +117,8 @@ module _ (identifier : ℤ) (first rest s : List ℕ) (v : SignedSpelt identifie
   follows : Stands s (i.start + length first) rest
   follows = stands_right s i.start first rest i.stands
 
-  follows-ends : i.start + length first + length rest ≡ length s
-  follows-ends = omega (arith, i.ends, length-append first rest)
+  follows_ends : i.start + length first + length rest ≡ length s
+  follows_ends = omega (arith, i.ends, length-append first rest)
 
 -- "operation unreadable (a linked identifier too)"
 pub heard_no_operation :
@@ -127,8 +127,8 @@ pub heard_no_operation :
 unfolding operation_at
 heard_no_operation identifier first rest {s} small sp v none =
     let i = holds sp in
-    let ends = follows-ends identifier first rest s v i in
-    after-identifier identifier first rest s v i
+    let ends = follows_ends identifier first rest s v i in
+    after_identifier identifier first rest s v i
     ∙ rw (rw ends at
     (none_read s small (i.start + length first) rest none (follows identifier first rest s v i) (omega (arith, ends))))
 
@@ -148,7 +148,7 @@ pub heard_asks :
 unfolding operation_at
 heard_asks identifier value first second rest s v w i =
     let at : ℕ = i.start + length first in
-    after-identifier identifier first (second ++ rest) s v i
+    after_identifier identifier first (second ++ rest) s v i
     ∙ rw (signed_back value second s at (length s) w
     (stands_left s at second rest (follows identifier first (second ++ rest) s v i))
-    (omega (arith, follows-ends identifier first (second ++ rest) s v i, length-append second rest)) (omega arith))
+    (omega (arith, follows_ends identifier first (second ++ rest) s v i, length-append second rest)) (omega arith))

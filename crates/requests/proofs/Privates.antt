@@ -15,8 +15,8 @@ use Rattle.skip.specs.Skip.{skip_depth}
 use Rattle.skip.specs.declared.skip.Skip.{Skip}
 use Rattle.skip.specs.declared.skip.Skip.TheVariants.{To}
 use Rattle.skip.proofs.Skips.{Further, further}
-use Rattle.skip.proofs.Runs.{run-fills, run_only}
-use Rattle.skip.proofs.Spellings.{skip_back, skippable_some, skip-only, apart}
+use Rattle.skip.proofs.Runs.{run_fills, run_only}
+use Rattle.skip.proofs.Spellings.{skip_back, skippable_some, skip_only, apart}
 use Rattle.requests.specs.Request.{private_at, privates}
 use Rattle.requests.specs.Spelt.{PrivateSpelt, PrivatesSpelt}
 use Rattle.requests.proofs.Readers.{private_further}
@@ -41,24 +41,24 @@ pub privates_back :
     privates s at end ≡ true
 unfolding privates
 privates_back s ps at end run st fit in-s =
-    run-fills PrivateSpelt (λ a. private_at s a end) s end (λ a. private_further s a end) (private_back s end in-s) run at st fit
+    run_fills PrivateSpelt (λ a. private_at s a end) s end (λ a. private_further s a end) (private_back s end in-s) run at st fit
 
 module _ (s : List ℕ) (small : (i : ℕ) → get_or s i 0 < 256) where
-  private-only : (end at next : ℕ) → end ≤ length s → private_at s at end ≡ To next → PrivateSpelt (slice at next s)
+  private_only : (end at next : ℕ) → end ≤ length s → private_at s at end ≡ To next → PrivateSpelt (slice at next s)
   unfolding private_at
-  private-only end at next in-s =
+  private_only end at next in-s =
       pick_ind (λ (x : Skip). x ≡ To next → PrivateSpelt (slice at next s)) (eqb (get_or s at 0 / 64) 3)
       (λ e h.
       let on : Further at end (To next) = rw h at (further skip_depth s at end) in
       let first : get_or (slice at next s) 0 0 ≡ get_or s at 0 =
       ap (λ (l : List ℕ). get_or l 0 0) (slice-cons at next s 0 on.0 (omega (arith, on.1))) in
-      record { class = rw first (eqb-true (get_or s at 0 / 64) 3 e); skipped = skip-only s small skip_depth at end next h })
+      record { class = rw first (eqb-true (get_or s at 0 / 64) 3 e); skipped = skip_only s small skip_depth at end next h })
       (λ _ h. absurd (apart h))
 
   -- nothing else is
-  pub privates-only :
+  pub privates_only :
       (at end : ℕ) → at ≤ end → end ≤ length s → privates s at end ≡ true → PrivatesSpelt (slice at end s)
   unfolding privates
-  privates-only at end le in-s h =
+  privates_only at end le in-s h =
       run_only PrivateSpelt (λ a. private_at s a end) s end (λ a. private_further s a end)
-      (λ a next e. private-only end a next in-s e) at le h
+      (λ a next e. private_only end a next in-s e) at le h

@@ -17,7 +17,7 @@ use Rattle.octets.specs.Head.{head_at}
 use Rattle.octets.specs.Spelt.{Spells}
 use Rattle.octets.specs.Part.{Part, part_at, last_at, tag_is}
 use Rattle.octets.proofs.Slices.{slice_join}
-use Rattle.octets.proofs.Spellings.{head-only}
+use Rattle.octets.proofs.Spellings.{head_only}
 use Rattle.values.specs.Ident.{ident_at, signed_at}
 use Rattle.values.proofs.Idents.{ident_within}
 use Rattle.skip.specs.Depth.{inside_depth, component_depth}
@@ -31,7 +31,7 @@ use Rattle.requests.specs.declared.request.Request.{Request}
 use Rattle.requests.proofs.Founds.{same_found, none_found, both_found, test_found, signed_from, part_from}
 use Rattle.requests.proofs.Ranges.{or_else_lem}
 use Rattle.requests.proofs.Invokes.{signed_only}
-use Rattle.requests.proofs.ContentsOnly.{contents-only}
+use Rattle.requests.proofs.ContentsOnly.{contents_only}
 
 -- ---- what was heard
 
@@ -74,9 +74,9 @@ pub record AsksSpelt (s : List ℕ) (identifier : ℤ) (operation : Operation) (
   pub spells : Spells 0xA1 (first ++ (second ++ slice at end s)) s
 
 module _ (s : List ℕ) (small : (i : ℕ) → get_or s i 0 < 256) where
-  identifier-only : (start stop : ℕ) → WhenAsks (AsksFrom s start stop) (identifier_at s start stop)
+  identifier_only : (start stop : ℕ) → WhenAsks (AsksFrom s start stop) (identifier_at s start stop)
   unfolding identifier_at operation_at
-  identifier-only start stop =
+  identifier_only start stop =
       let P : Heard → Type 0 = WhenAsks (AsksFrom s start stop) in
       or_else_lem P NoIdentifier (signed_at inside_depth s start stop) _ tt (λ identifier middle e.
       or_else_lem P (NoOperation identifier) (signed_at inside_depth s middle stop) _ tt (λ value at f.
@@ -95,10 +95,10 @@ module _ (s : List ℕ) (small : (i : ℕ) → get_or s i 0 < 256) where
       }))
 
   -- they are the whole contents of the component
-  asks-whole :
+  asks_whole :
       (start stop : ℕ) → Spells 0xA1 (slice start stop s) s → (identifier : ℤ) (operation : Operation) (at end : ℕ) →
       AsksFrom s start stop identifier operation at end → AsksSpelt s identifier operation at end
-  asks-whole start stop sp identifier operation at end a =
+  asks_whole start stop sp identifier operation at end a =
       let m : ℕ = a.middle in
       let parts : slice start stop s ≡ slice start m s ++ (slice m at s ++ slice at stop s) =
       sym (ap (λ (ws : List ℕ). slice start m s ++ ws) (slice_join m at stop s a.second a.third)
@@ -111,59 +111,59 @@ module _ (s : List ℕ) (small : (i : ℕ) → get_or s i 0 < 256) where
         spells = rw (← a.ends) (rw parts at sp);
       }
 
-  component-only :
+  component_only :
       (component : Part) (next : ℕ) → part_at component_depth s 0 (length s) ≡ got component next → next ≡ length s →
       WhenAsks (AsksSpelt s) (heard_in s component)
-  component-only component next e all =
+  component_only component next e all =
       let P : Heard → Type 0 = WhenAsks (AsksSpelt s) in
-      let h = head-only s small component_depth 0 (length s) (part_from (head_at component_depth s 0 (length s)) e) in
+      let h = head_only s small component_depth 0 (length s) (part_from (head_at component_depth s 0 (length s)) e) in
       let whole : slice 0 next s ≡ s = rw all (take-length s) in
       pick_ind P (reply_tag component.tag) (λ _. tt) (λ _.
       pick_ind P (eqb component.tag 0xA1)
       (λ t.
       when_asks
-      (asks-whole component.start component.stop (rw (eqb-true component.tag 0xA1 t, whole) at h.spells))
-      (identifier_at s component.start component.stop) (identifier-only component.start component.stop))
+      (asks_whole component.start component.stop (rw (eqb-true component.tag 0xA1 t, whole) at h.spells))
+      (identifier_at s component.start component.stop) (identifier_only component.start component.stop))
       (λ _. tt))
 
-  heard-if : WhenAsks (AsksSpelt s) (heard s)
+  heard_if : WhenAsks (AsksSpelt s) (heard s)
   unfolding heard
-  heard-if =
+  heard_if =
       or_else_lem (WhenAsks (AsksSpelt s)) NotOne (part_at component_depth s 0 (length s)) _ tt (λ component next e.
       pick_ind (λ (g : Got Heard). WhenAsks (AsksSpelt s) (or_else NotOne g)) (eqb next (length s))
-      (λ all. component-only component next e (eqb-true next (length s) all)) (λ _. tt))
+      (λ all. component_only component next e (eqb-true next (length s) all)) (λ _. tt))
 
   -- what is heard to ask is spelt so
-  pub heard-only :
+  pub heard_only :
       {identifier : ℤ} {operation : Operation} {at end : ℕ} → heard s ≡ Asks identifier operation at end →
       AsksSpelt s identifier operation at end
-  heard-only e = rw e at heard-if
+  heard_only e = rw e at heard_if
 
   -- ---- the argument
 
   -- an element of this tag that is the last
-  last-only :
+  last_only :
       (tag at end : ℕ) {part : Part} {next : ℕ} → last_at (tag_is tag) inside_depth s at end ≡ got part next →
       Spells tag (slice part.start part.stop s) (slice at end s)
-  last-only tag at end e =
+  last_only tag at end e =
       let p = both_found (part_at inside_depth s at end) _ e in
       let t = test_found (all (eqb p.at end ∷ eqb p.found.tag tag ∷ [])) (got p.found p.at) p.second in
       let tests = both_hold (eqb p.at end) (eqb p.found.tag tag) t.0 in
-      let h = head-only s small inside_depth at end (part_from (head_at inside_depth s at end) p.first) in
+      let h = head_only s small inside_depth at end (part_from (head_at inside_depth s at end) p.first) in
       subst (λ (x : Part). Spells tag (slice x.start x.stop s) (slice at end s)) (same_found t.1).0
       (rw (eqb-true p.at end tests.0, eqb-true p.found.tag tag tests.1) at h.spells)
 
-  argument-only :
+  argument_only :
       (operation at end : ℕ) {r : Request} {next : ℕ} → argument_in operation s at end ≡ got r next →
       ArgumentSpelt operation r (slice at end s)
-  argument-only operation at end e =
+  argument_only operation at end e =
       let a = both_found (last_at (tag_is 0x30) inside_depth s at end) _ e in
-      let c = contents-only s small a.found.start a.found.stop operation a.second in
+      let c = contents_only s small a.found.start a.found.stop operation a.second in
       record {
         known = c.0;
         contents = slice a.found.start a.found.stop s;
         inside = c.1;
-        spells = last-only 0x30 at end a.first;
+        spells = last_only 0x30 at end a.first;
       }
 
 -- ---- the whole
@@ -186,7 +186,7 @@ accepted s small identifier (pos code) at end a e = record {
     third = slice at end s;
     identifiers = a.identifiers;
     operations = a.operations;
-    arguments = argument-only s small code at end e;
+    arguments = argument_only s small code at end e;
     spells = a.spells;
   };
 }
@@ -200,4 +200,4 @@ pub request_only :
     Accepted identifier operation r s
 unfolding argument_at
 request_only s small {identifier} {operation} {at} {end} e f =
-    accepted s small identifier operation.value at end (heard-only s small e) f
+    accepted s small identifier operation.value at end (heard_only s small e) f

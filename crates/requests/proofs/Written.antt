@@ -13,7 +13,7 @@ use Rattle.laws.proofs.Picks.{by_bool}
 use Rattle.octets.proofs.Spellings.{element_spells}
 use Rattle.values.specs.Enumerated.{enumerated_tag, enumerated_octets}
 use Rattle.values.specs.Ident.{ident_tag, ident_fewest, ident_with, ident_octets}
-use Rattle.values.proofs.Idents.{fewest-two, length_ident}
+use Rattle.values.proofs.Idents.{fewest_two, length_ident}
 use Rattle.codes.specs.Codes.{procedure_code, service_code, activation, interrogation}
 use Rattle.numbers.specs.Number.{tidy_number}
 use Rattle.numbers.specs.declared.address.Forwarded.{Forwarded}
@@ -33,7 +33,7 @@ signed_spells z range = record {
   range = range;
   spells =
       element_spells ident_tag (ident_with (ident_fewest z) z)
-      (omega (arith, length_ident (ident_fewest z) z, fewest-two z range));
+      (omega (arith, length_ident (ident_fewest z) z, fewest_two z range));
 }
 
 code_spells : (good : ℕ → Bool) (code : ℕ) → good code ≡ true → CodeSpelt good code (enumerated_octets code)

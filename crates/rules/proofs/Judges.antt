@@ -30,7 +30,7 @@ use Rattle.rules.specs.Judge.{selected_same, fits, afterwards, every_tests, acti
 use Rattle.rules.specs.Judge.{renews_by, passing, only_renews, JudgedBy}
 use Rattle.rules.specs.declared.verdict.Verdict.{Verdict}
 use Rattle.rules.specs.declared.verdict.Verdict.TheVariants.{Passes, Fails}
-use Rattle.rules.proofs.Selections.{selection-procedure, selection-number}
+use Rattle.rules.proofs.Selections.{selection_procedure, selection_number}
 
 -- ---- tests one after the other
 
@@ -117,16 +117,16 @@ not_not false h = absurd (false≢true (sym h))
 
 module _ (p : Profile) (procedure : ℕ) where
   -- the flag of a procedure that the profile has
-  pub subscribed-flag : is_subscribed p procedure ≡ true → get_or p.subscribed procedure 0 ≡ 0 → ⊥
+  pub subscribed_flag : is_subscribed p procedure ≡ true → get_or p.subscribed procedure 0 ≡ 0 → ⊥
   unfolding is_subscribed
-  subscribed-flag h =
+  subscribed_flag h =
       let flag : ℕ = get_or p.subscribed procedure 0 in
       eqb-false flag 0 (not_passed (eqb flag 0) h)
 
   -- past the array there is no procedure
-  pub subscribed-past : length p.subscribed ≤ procedure → false ≡ is_subscribed p procedure
+  pub subscribed_past : length p.subscribed ≤ procedure → false ≡ is_subscribed p procedure
   unfolding is_subscribed
-  subscribed-past h = rw (get_or-eq_default p.subscribed 0 h)
+  subscribed_past h = rw (get_or-eq_default p.subscribed 0 h)
 
 -- a number that is not of another kind, as the test says
 pub kind_known : (n : Number) → other_kind n ≡ false → n.form ≡ other → ⊥
@@ -135,22 +135,22 @@ kind_known n h e = false≢true (sym h ∙ rw (eq-eqb _ _ e))
 
 module _ (most : ℕ) (p : Profile) (count : ℕ) where
   -- as many as fit are within the limit
-  pub fits-few : fits most p count ≡ true → count ≤ most
+  pub fits_few : fits most p count ≡ true → count ≤ most
   unfolding fits
-  fits-few h = leb-true count most h
+  fits_few h = leb-true count most h
 
 module _ (p : Profile) (r : Request) (is : List Instance) (sel : Selection) (same : sel ≡ selection_of p r) where
   -- how many there are afterwards, as they are counted before
-  pub count-afterwards :
+  pub count_afterwards :
       (count : ℕ) → count ≡ length (places_of p sel) + count_of sel.procedure (deactivated sel is) →
       count ≡ afterwards p r is
   unfolding afterwards
-  count-afterwards count e =
+  count_afterwards count e =
       let mine = selection_of p r in
       e
       ∙ sym (count_activated p sel r.to.address is)
       ∙ ap (λ (x : Selection). count_of x.procedure (activated p x r.to.address is)) same
-      ∙ ap (λ (q : ℕ). count_of q (activated p mine r.to.address is)) (selection-procedure p r)
+      ∙ ap (λ (q : ℕ). count_of q (activated p mine r.to.address is)) (selection_procedure p r)
 
 -- ---- the verdict, and what it tells
 
@@ -160,36 +160,36 @@ pub record EveryPasses (p : Profile) (r : Request) : Type 0 where
   pub served : served_invalid p r ≡ false
 
 module _ (most : ℕ) (p : Profile) (operation : ℕ) (r : Request) (is : List Instance) where
-  both-tests : judge most p operation r is ≡ or_else (first_error (every_tests p r)) (first_error (tests_of most p operation r is))
+  both_tests : judge most p operation r is ≡ or_else (first_error (every_tests p r)) (first_error (tests_of most p operation r is))
   unfolding judge
-  both-tests = first_append (every_tests p r) (tests_of most p operation r is)
+  both_tests = first_append (every_tests p r) (tests_of most p operation r is)
 
   -- an error of every request is the verdict
-  pub judge-fails : (e : ℕ) → first_error (every_tests p r) ≡ some e → judge most p operation r is ≡ some e
-  judge-fails e h = rw (both-tests, h)
+  pub judge_fails : (e : ℕ) → first_error (every_tests p r) ≡ some e → judge most p operation r is ≡ some e
+  judge_fails e h = rw (both_tests, h)
 
   -- where there is none, the tests of the operation decide
-  pub judge-rest :
+  pub judge_rest :
       first_error (every_tests p r) ≡ none → judge most p operation r is ≡ first_error (tests_of most p operation r is)
-  judge-rest h = rw (both-tests, h)
+  judge_rest h = rw (both_tests, h)
 
   -- an operation with no tests of its own
-  pub judge-interrogation :
+  pub judge_interrogation :
       (operation ≡ activation → ⊥) → (operation ≡ deactivation → ⊥) →
       judge most p operation r is ≡ first_error (every_tests p r)
   unfolding judge
-  judge-interrogation activates deactivates = rw (ne_eqb _ _ activates, ne_eqb _ _ deactivates)
+  judge_interrogation activates deactivates = rw (ne_eqb _ _ activates, ne_eqb _ _ deactivates)
 
-  pub judge-subscribed : judge most p operation r is ≡ none → EveryPasses p r
+  pub judge_subscribed : judge most p operation r is ≡ none → EveryPasses p r
   unfolding judge
-  judge-subscribed h =
+  judge_subscribed h =
       let t = passed (every_tests p r ++ tests_of most p operation r is) h in
       record { used = t.0; subscribed = not_not (is_subscribed p r.procedure) t.1.0; served = t.1.1.0 }
 
   -- each error fits an octet
-  pub judge-errors : (e : ℕ) → judge most p operation r is ≡ some e → e < 256
+  pub judge_errors : (e : ℕ) → judge most p operation r is ≡ some e → e < 256
   unfolding judge
-  judge-errors e h =
+  judge_errors e h =
       subst (BelowIf 256) h
       (first_below 256 (every_tests p r ++ tests_of most p operation r is)
       (pick_ind (λ ts. below 256 ts ≡ true) (eqb operation activation)
@@ -217,47 +217,47 @@ module _
     (most : ℕ) (p : Profile) (operation : ℕ) (r : Request) (is : List Instance) (sel : Selection)
     (every : first_error (every_tests p r) ≡ none) (same : sel ≡ selection_of p r)
   where
-    judge-put :
+    judge_put :
         (after : ℕ) → operation ≡ activation →
         after ≡ length (places_of p sel) + count_of sel.procedure (deactivated sel is) →
         first_error (activation_tests most p r sel.number after) ≡ judge most p operation r is
-    judge-put after activates e =
+    judge_put after activates e =
         rw (
-          judge-rest most p operation r is every,
+          judge_rest most p operation r is every,
           eq-eqb operation activation activates,
-          ap (λ (x : Selection). x.number) same ∙ selection-number p r,
-          count-afterwards p r is sel same after e,
+          ap (λ (x : Selection). x.number) same ∙ selection_number p r,
+          count_afterwards p r is sel same after e,
         )
 
     -- and whether it renews
-    pub judged-put :
+    pub judged_put :
         (after : After) → operation ≡ activation →
         after.count ≡ length (places_of p sel) + count_of sel.procedure (deactivated sel is) →
         after.renews ≡ renews p sel is →
         (v : Verdict) → JudgedBy (first_error (activation_tests most p r sel.number after.count)) after.renews v →
         JudgedBy (judge most p operation r is) (only_renews p operation r is) v
     unfolding only_renews
-    judged-put after activates e n v h =
+    judged_put after activates e n v h =
         let same-renews : after.renews ≡ renews p (selection_of p r) is = n ∙ ap (λ (x : Selection). renews p x is) same in
-        rw (← judge-put after.count activates e, eq-eqb operation activation activates, ← same-renews, pick_last after.renews) h
+        rw (← judge_put after.count activates e, eq-eqb operation activation activates, ← same-renews, pick_last after.renews) h
 
-    judge-clear :
+    judge_clear :
         (count : ℕ) → (operation ≡ activation → ⊥) → operation ≡ deactivation → count ≡ length (listed sel is) →
         first_error (deactivation_tests count) ≡ judge most p operation r is
-    judge-clear count activates deactivates e =
+    judge_clear count activates deactivates e =
         rw (
-          judge-rest most p operation r is every,
+          judge_rest most p operation r is every,
           ne_eqb operation activation activates,
           eq-eqb operation deactivation deactivates,
           e ∙ ap (λ (x : Selection). length (listed x is)) same,
         )
 
-    pub judged-clear :
+    pub judged_clear :
         (count : ℕ) → (operation ≡ activation → ⊥) → operation ≡ deactivation → count ≡ length (listed sel is) →
         (v : Verdict) → JudgedBy (first_error (deactivation_tests count)) false v →
         JudgedBy (judge most p operation r is) (only_renews p operation r is) v
-    judged-clear count activates deactivates e v h =
-        rw (← judge-clear count activates deactivates e, renews_other p operation r is activates) h
+    judged_clear count activates deactivates e v h =
+        rw (← judge_clear count activates deactivates e, renews_other p operation r is activates) h
 
 module _ (most : ℕ) (p : Profile) (r : Request) (is : List Instance) where
   pub record ActivationPasses : Type 0 where
@@ -268,9 +268,9 @@ module _ (most : ℕ) (p : Profile) (r : Request) (is : List Instance) where
     pub own : selected_same p (number_asked p r.served) r.to.address.number 0 (served_numbers p) ≡ false
     pub room : afterwards p r is ≤ most
 
-  pub judge-activation : judge most p activation r is ≡ none → ActivationPasses
+  pub judge_activation : judge most p activation r is ≡ none → ActivationPasses
   unfolding judge
-  judge-activation h =
+  judge_activation h =
       let t = (passed (every_tests p r ++ activation_tests most p r (number_asked p r.served) (afterwards p r is)) h).1.1.1 in
       record {
         provided = t.0;
@@ -278,40 +278,40 @@ module _ (most : ℕ) (p : Profile) (r : Request) (is : List Instance) where
         kind = t.1.1.0;
         prefix = t.1.1.1.0;
         own = t.1.1.1.1.0;
-        room = fits-few most p (afterwards p r is) (not_not (fits most p (afterwards p r is)) t.1.1.1.1.1.0);
+        room = fits_few most p (afterwards p r is) (not_not (fits most p (afterwards p r is)) t.1.1.1.1.1.0);
       }
 
   -- how many active instances are selected
   abbrev active : ℕ
   active = length (listed (selection_of p r) is)
 
-  pub judge-deactivation : judge most p deactivation r is ≡ none → 0 < length (listed (selection_of p r) is)
+  pub judge_deactivation : judge most p deactivation r is ≡ none → 0 < length (listed (selection_of p r) is)
   unfolding judge
-  judge-deactivation h =
+  judge_deactivation h =
       let t = (passed (every_tests p r ++ deactivation_tests active) h).1.1.1 in
       let some : active ≡ 0 → ⊥ = eqb-false active 0 t.0 in
       omega arith
 
   -- "error 46 exactly if there's none"
-  pub none-fails :
+  pub none_fails :
       first_error (every_tests p r) ≡ none → length (listed (selection_of p r) is) ≡ 0 →
       judge most p deactivation r is ≡ some 46
-  none-fails every nothing = rw (judge-rest most p deactivation r is every, eq-eqb active 0 nothing)
+  none_fails every nothing = rw (judge_rest most p deactivation r is every, eq-eqb active 0 nothing)
 
   -- every request's own errors are others
-  passes-every :
+  passes_every :
       (v : Option ℕ) → first_error (every_tests p r) ≡ v → judge most p deactivation r is ≡ some 46 → v ≡ none
-  passes-every none every h = refl
-  passes-every (some e) every h =
-      let same : first_error (every_tests p r) ≡ some 46 = every ∙ sym (judge-fails most p deactivation r is e every) ∙ h in
+  passes_every none every h = refl
+  passes_every (some e) every h =
+      let same : first_error (every_tests p r) ≡ some 46 = every ∙ sym (judge_fails most p deactivation r is e every) ∙ h in
       let other : 46 < 46 = subst (BelowIf 46) same (first_below 46 (every_tests p r) refl) in
       absurd (omega arith)
 
-  pub fails-none :
+  pub fails_none :
       judge most p deactivation r is ≡ some 46 →
       (first_error (every_tests p r) ≡ none) × (length (listed (selection_of p r) is) ≡ 0)
-  fails-none h =
-      let every = passes-every (first_error (every_tests p r)) refl h in
+  fails_none h =
+      let every = passes_every (first_error (every_tests p r)) refl h in
       let b : Bool = eqb active 0 in
-      let e : pick {A = Option ℕ} b (some 46) none ≡ some 46 = sym (judge-rest most p deactivation r is every) ∙ h in
+      let e : pick {A = Option ℕ} b (some 46) none ≡ some 46 = sym (judge_rest most p deactivation r is every) ∙ h in
       (every, eqb-true active 0 (pick_first {A = Option ℕ} b (some 46) none (λ q. apart 46 (sym q ∙ e))))

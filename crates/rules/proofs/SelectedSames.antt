@@ -11,13 +11,13 @@ use Rattle.instances.specs.Instance.{every_number, named}
 use Rattle.rules.specs.Judge.{selected_same}
 
 module _ (p : Profile) (asked : ℕ) (to : Number) (from : ℕ) where
-  pub selected-none : selected_same p asked to from [] ≡ false
+  pub selected_none : selected_same p asked to from [] ≡ false
   unfolding selected_same
-  selected-none = refl
+  selected_none = refl
 
-  pub selected-more :
+  pub selected_more :
       (n : Number) (ns : List Number) →
       selected_same p asked to from (n ∷ ns)
       ≡ any (all (named every_number asked from ∷ same p n to ∷ []) ∷ selected_same p asked to (1 + from) ns ∷ [])
   unfolding selected_same
-  selected-more n ns = refl
+  selected_more n ns = refl

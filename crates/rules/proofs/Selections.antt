@@ -11,30 +11,30 @@ use Rattle.rules.specs.Selection.{number_asked, selection_of}
 -- ---- what is selected
 
 module _ (p : Profile) (r : Request) where
-  pub selection-procedure : (selection_of p r).procedure ≡ r.procedure
+  pub selection_procedure : (selection_of p r).procedure ≡ r.procedure
   unfolding selection_of
-  selection-procedure = refl
+  selection_procedure = refl
 
-  pub selection-number : (selection_of p r).number ≡ number_asked p r.served
+  pub selection_number : (selection_of p r).number ≡ number_asked p r.served
   unfolding selection_of
-  selection-number = refl
+  selection_number = refl
 
-  pub selection-service : (selection_of p r).service ≡ r.service
+  pub selection_service : (selection_of p r).service ≡ r.service
   unfolding selection_of
-  selection-service = refl
+  selection_service = refl
 
 -- ---- the number that is asked for
 
 module _ (p : Profile) (s : Served) where
-  pub number-ignored : p.msn ≡ 0 → number_asked p s ≡ every_number
+  pub number_ignored : p.msn ≡ 0 → number_asked p s ≡ every_number
   unfolding number_asked
-  number-ignored ignored = rw (eq-eqb p.msn 0 ignored)
+  number_ignored ignored = rw (eq-eqb p.msn 0 ignored)
 
-  pub number-all : (p.msn ≡ 0 → ⊥) → s.all ≡ 1 → number_asked p s ≡ every_number
+  pub number_all : (p.msn ≡ 0 → ⊥) → s.all ≡ 1 → number_asked p s ≡ every_number
   unfolding number_asked
-  number-all msn all = rw (ne_eqb p.msn 0 msn, eq-eqb s.all 1 all)
+  number_all msn all = rw (ne_eqb p.msn 0 msn, eq-eqb s.all 1 all)
 
-  pub number-one :
+  pub number_one :
       (p.msn ≡ 0 → ⊥) → (s.all ≡ 1 → ⊥) → number_asked p s ≡ place_in p s.number (served_numbers p)
   unfolding number_asked
-  number-one msn one = rw (ne_eqb p.msn 0 msn, ne_eqb s.all 1 one)
+  number_one msn one = rw (ne_eqb p.msn 0 msn, ne_eqb s.all 1 one)

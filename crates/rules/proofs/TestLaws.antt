@@ -6,7 +6,7 @@ use mathlib.Core.List.{List, [], ◌∷◌}
 use native.Mathlib.Numerals.{add-one, one-add}
 use lib.ListN.{length, take, drop, get_or}
 use Rattle.laws.specs.Tests.{all, any}
-use Rattle.laws.proofs.Lefts.{left-cons, left-none}
+use Rattle.laws.proofs.Lefts.{left_cons, left_none}
 use Rattle.laws.proofs.Picks.{pick_last}
 use Rattle.numbers.specs.declared.number.Number.{Number}
 use Rattle.profile.specs.Profile.{same, no_number}
@@ -16,44 +16,44 @@ use Rattle.rules.specs.Judge.{selected_same}
 
 module _ (p : Profile) (asked count : ℕ) (numbers : List Number) (to : Number) where
   -- whether one of the numbers from the place k on was asked for and is the same
-  abbrev sameFrom : ℕ → Bool
-  sameFrom k = selected_same p asked to k (drop k (take count numbers))
+  abbrev same_from : ℕ → Bool
+  same_from k = selected_same p asked to k (drop k (take count numbers))
 
   abbrev whole : Bool
   whole = selected_same p asked to 0 (take count numbers)
 
   -- what is left of the numbers decides
   abbrev pub Compared : ℕ → Type 0
-  Compared k = whole ≡ sameFrom k
+  Compared k = whole ≡ same_from k
 
-  abbrev isSame : ℕ → Bool
-  isSame k = same p (get_or numbers k no_number) to
+  abbrev is_same : ℕ → Bool
+  is_same k = same p (get_or numbers k no_number) to
 
   -- one number more
   compare :
       (k : ℕ) → k < count → k < length numbers →
-      sameFrom k ≡ any (all (named every_number asked k ∷ isSame k ∷ []) ∷ sameFrom (k + 1) ∷ [])
+      same_from k ≡ any (all (named every_number asked k ∷ is_same k ∷ []) ∷ same_from (k + 1) ∷ [])
   unfolding selected_same
-  compare k h long = rw (left-cons count numbers k no_number h long, one-add, add-one)
+  compare k h long = rw (left_cons count numbers k no_number h long, one-add, add-one)
 
   -- a number that was asked for is the same
-  pub compared-here :
-      (k : ℕ) → k < count → k < length numbers → named every_number asked k ≡ true → isSame k ≡ true → Compared k →
+  pub compared_here :
+      (k : ℕ) → k < count → k < length numbers → named every_number asked k ≡ true → is_same k ≡ true → Compared k →
       true ≡ whole
-  compared-here k h long chosen alike so = sym (so ∙ rw (compare k h long, chosen, alike))
+  compared_here k h long chosen alike so = sym (so ∙ rw (compare k h long, chosen, alike))
 
   -- one that was not asked for
-  pub compared-skip :
+  pub compared_skip :
       (k : ℕ) → k < count → k < length numbers → named every_number asked k ≡ false → Compared k → Compared (k + 1)
-  compared-skip k h long chosen so = so ∙ rw (compare k h long, chosen, pick_last)
+  compared_skip k h long chosen so = so ∙ rw (compare k h long, chosen, pick_last)
 
   -- another number
-  pub compared-other :
-      (k : ℕ) → k < count → k < length numbers → named every_number asked k ≡ true → isSame k ≡ false → Compared k →
+  pub compared_other :
+      (k : ℕ) → k < count → k < length numbers → named every_number asked k ≡ true → is_same k ≡ false → Compared k →
       Compared (k + 1)
-  compared-other k h long chosen alike so = so ∙ rw (compare k h long, chosen, alike, pick_last)
+  compared_other k h long chosen alike so = so ∙ rw (compare k h long, chosen, alike, pick_last)
 
   -- there are no more numbers
-  pub compared-none : (k : ℕ) → min count (length numbers) ≤ k → Compared k → false ≡ whole
+  pub compared_none : (k : ℕ) → min count (length numbers) ≤ k → Compared k → false ≡ whole
   unfolding selected_same
-  compared-none k h so = rw (so, left-none count numbers k h)
+  compared_none k h so = rw (so, left_none count numbers k h)

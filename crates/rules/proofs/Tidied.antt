@@ -18,7 +18,7 @@ use Rattle.numbers.specs.declared.number.Number.{Number}
 use Rattle.numbers.proofs.Goods.{good_address}
 use Rattle.profile.specs.Profile.{barred, served_numbers, place_in}
 use Rattle.profile.specs.declared.profile.Profile.{Profile}
-use Rattle.profile.proofs.Tidied.{digits_tidied, count-tidied, same-tidied, place-tidied}
+use Rattle.profile.proofs.Tidied.{digits_tidied, count_tidied, same_tidied, place_tidied}
 use Rattle.requests.specs.Sent.{sendable, tidy_served, tidy_request}
 use Rattle.requests.specs.declared.request.Request.{Request}
 use Rattle.requests.specs.declared.request.Served.{Served}
@@ -31,33 +31,33 @@ use Rattle.rules.specs.Prefix.{begins_any}
 use Rattle.rules.specs.Selection.{number_asked, selection_of}
 use Rattle.rules.specs.Judge.{first_error, every_tests, not_in_use, is_subscribed, has_all_numbers, served_invalid, not_provided}
 use Rattle.rules.specs.Judge.{user_specified, other_kind, selected_same, afterwards, tests_of, judge}
-use Rattle.rules.proofs.Judges.{count-afterwards}
+use Rattle.rules.proofs.Judges.{count_afterwards}
 
 -- ---- numbers
 
 module _ (n : Number) (good : number_good n ≡ true) (long : length n.digits ≡ most) where
-  kind-tidied : other_kind (tidy_number n) ≡ other_kind n
+  kind_tidied : other_kind (tidy_number n) ≡ other_kind n
   unfolding other_kind
-  kind-tidied = rw (count-tidied n good long)
+  kind_tidied = rw (count_tidied n good long)
 
-  selected-tidied :
+  selected_tidied :
       (p : Profile) (asked from : ℕ) (ns : List Number) → selected_same p asked (tidy_number n) from ns ≡ selected_same p asked n from ns
   unfolding selected_same
-  selected-tidied p asked from [] = refl
-  selected-tidied p asked from (x ∷ ns) = rw (same-tidied n good long p x, selected-tidied p asked (1 + from) ns)
+  selected_tidied p asked from [] = refl
+  selected_tidied p asked from (x ∷ ns) = rw (same_tidied n good long p x, selected_tidied p asked (1 + from) ns)
 
 -- ---- the served number
 
 module _ (p : Profile) (served : Served) (good : ServedIs served) (long : length served.number.digits ≡ most) where
-  one-good : (served.all ≡ 1 → ⊥) → number_good served.number ≡ true
-  one-good other = ⊎_elim (λ e. absurd (other e)) (λ e. e.1) good
+  one_good : (served.all ≡ 1 → ⊥) → number_good served.number ≡ true
+  one_good other = ⊎_elim (λ e. absurd (other e)) (λ e. e.1) good
 
-  asked-tidied : number_asked p (tidy_served served) ≡ number_asked p served
+  asked_tidied : number_asked p (tidy_served served) ≡ number_asked p served
   unfolding number_asked
-  asked-tidied =
+  asked_tidied =
       by_bool _ (eqb served.all 1)
       (λ e. rw e)
-      (λ e. rw (e, place-tidied served.number (one-good (eqb-false served.all 1 e)) long p (served_numbers p)))
+      (λ e. rw (e, place_tidied served.number (one_good (eqb-false served.all 1 e)) long p (served_numbers p)))
 
   -- whether it is invalid
   abbrev invalid : Served → Bool
@@ -67,11 +67,11 @@ module _ (p : Profile) (served : Served) (good : ServedIs served) (long : length
       ∷ not (pick (eqb s.all 1) (has_all_numbers p) (ltb (place_in p s.number (served_numbers p)) p.numbercount))
       ∷ [])
 
-  invalid-tidied : invalid (tidy_served served) ≡ invalid served
-  invalid-tidied =
+  invalid_tidied : invalid (tidy_served served) ≡ invalid served
+  invalid_tidied =
       by_bool _ (eqb served.all 1)
       (λ e. rw e)
-      (λ e. rw (e, place-tidied served.number (one-good (eqb-false served.all 1 e)) long p (served_numbers p)))
+      (λ e. rw (e, place_tidied served.number (one_good (eqb-false served.all 1 e)) long p (served_numbers p)))
 
 -- ---- the request
 
@@ -102,70 +102,70 @@ module _ (p : Profile) (operation : ℕ) (r : Request) (goes : sendable operatio
   abbrev r' : Request
   r' = tidy_request operation r
 
-  served-is : ServedIs r.served
-  served-is = good_served r.served (good_request operation r goes).served
+  served_is : ServedIs r.served
+  served_is = good_served r.served (good_request operation r goes).served
 
-  pub selection-tidied : selection_of p (tidy_request operation r) ≡ selection_of p r
+  pub selection_tidied : selection_of p (tidy_request operation r) ≡ selection_of p r
   unfolding selection_of
-  selection-tidied =
-      ap (λ (k : ℕ). with_number k) (asked-tidied p r.served served-is sizes.0)
+  selection_tidied =
+      ap (λ (k : ℕ). with_number k) (asked_tidied p r.served served_is sizes.0)
     where
       with_number : ℕ → Selection
       with_number k = record { procedure = r.procedure; number = k; service = r.service }
 
-  served-tidied : served_invalid p r' ≡ served_invalid p r
+  served_tidied : served_invalid p r' ≡ served_invalid p r
   unfolding served_invalid
-  served-tidied = invalid-tidied p r.served served-is sizes.0
+  served_tidied = invalid_tidied p r.served served_is sizes.0
 
-  provided-tidied : not_provided p r' ≡ not_provided p r
+  provided_tidied : not_provided p r' ≡ not_provided p r
   unfolding not_provided
-  provided-tidied = refl
+  provided_tidied = refl
 
-  after-tidied : (is : List Instance) → afterwards p r' is ≡ afterwards p r is
-  after-tidied is =
+  after_tidied : (is : List Instance) → afterwards p r' is ≡ afterwards p r is
+  after_tidied is =
       let count : Selection → ℕ = λ sel. length (places_of p sel) + count_of sel.procedure (deactivated sel is) in
-      sym (count-afterwards p r' is (selection_of p r') refl (count (selection_of p r')) refl)
-      ∙ (ap count selection-tidied ∙ count-afterwards p r is (selection_of p r) refl (count (selection_of p r)) refl)
+      sym (count_afterwards p r' is (selection_of p r') refl (count (selection_of p r')) refl)
+      ∙ (ap count selection_tidied ∙ count_afterwards p r is (selection_of p r) refl (count (selection_of p r)) refl)
 
   to_number : eqb operation activation ≡ true → number_good r.to.address.number ≡ true
   to_number e =
       (good_address r.to.address (good_to r.to ((good_request operation r goes).to (eqb-true operation activation e))).address).number
 
-  user-tidied : eqb operation activation ≡ true → user_specified r' ≡ user_specified r
-  user-tidied e = rw (e, (good_to r.to ((good_request operation r goes).to (eqb-true operation activation e))).user)
+  user_tidied : eqb operation activation ≡ true → user_specified r' ≡ user_specified r
+  user_tidied e = rw (e, (good_to r.to ((good_request operation r goes).to (eqb-true operation activation e))).user)
 
-  kind-alike : eqb operation activation ≡ true → other_kind r'.to.address.number ≡ other_kind r.to.address.number
-  kind-alike e = rw e (kind-tidied r.to.address.number (to_number e) sizes.1)
+  kind_alike : eqb operation activation ≡ true → other_kind r'.to.address.number ≡ other_kind r.to.address.number
+  kind_alike e = rw e (kind_tidied r.to.address.number (to_number e) sizes.1)
 
-  begins-alike :
+  begins_alike :
       eqb operation activation ≡ true →
       begins_any (barred p) (digits_of r'.to.address.number) ≡ begins_any (barred p) (digits_of r.to.address.number)
-  begins-alike e = rw e (ap (begins_any (barred p)) (digits_tidied r.to.address.number))
+  begins_alike e = rw e (ap (begins_any (barred p)) (digits_tidied r.to.address.number))
 
-  selects-alike :
+  selects_alike :
       eqb operation activation ≡ true →
       selected_same p (number_asked p r'.served) r'.to.address.number 0 (served_numbers p)
       ≡ selected_same p (number_asked p r.served) r.to.address.number 0 (served_numbers p)
-  selects-alike e =
-      ap (λ k. selected_same p k r'.to.address.number 0 (served_numbers p)) (asked-tidied p r.served served-is sizes.0)
-      ∙ rw e (selected-tidied r.to.address.number (to_number e) sizes.1 p (number_asked p r.served) 0 (served_numbers p))
+  selects_alike e =
+      ap (λ k. selected_same p k r'.to.address.number 0 (served_numbers p)) (asked_tidied p r.served served_is sizes.0)
+      ∙ rw e (selected_tidied r.to.address.number (to_number e) sizes.1 p (number_asked p r.served) 0 (served_numbers p))
 
-  tests-tidied : (limit : ℕ) (is : List Instance) → first_error (tests_of limit p operation r' is) ≡ first_error (tests_of limit p operation r is)
-  tests-tidied limit is =
+  tests_tidied : (limit : ℕ) (is : List Instance) → first_error (tests_of limit p operation r' is) ≡ first_error (tests_of limit p operation r is)
+  tests_tidied limit is =
       tests_alike limit p operation r' r is
       (λ e. record {
-        provided = provided-tidied;
-        user = user-tidied e;
-        kind = kind-alike e;
-        begins = begins-alike e;
-        selects = selects-alike e;
-        after = after-tidied is;
+        provided = provided_tidied;
+        user = user_tidied e;
+        kind = kind_alike e;
+        begins = begins_alike e;
+        selects = selects_alike e;
+        after = after_tidied is;
       })
-      selection-tidied
+      selection_tidied
 
-  pub judge-tidied : (limit : ℕ) (is : List Instance) → judge limit p operation (tidy_request operation r) is ≡ judge limit p operation r is
+  pub judge_tidied : (limit : ℕ) (is : List Instance) → judge limit p operation (tidy_request operation r) is ≡ judge limit p operation r is
   unfolding judge
-  judge-tidied limit is = rw (served-tidied, tests-tidied limit is)
+  judge_tidied limit is = rw (served_tidied, tests_tidied limit is)
 
 -- ---- a whole interrogation
 

@@ -172,6 +172,6 @@ JudgeRequest p operation r run v =
 abbrev pub ApplyRequest : Profile → ℕ → Request → Run → Run → Type 0
 ApplyRequest p operation r run next = next ≡ applied p operation r run
 
--- what `renew_request` promises: where it only renews instances that break no rule, that is what they become (`renew-applied`)
+-- what `renew_request` promises: where it only renews instances that break no rule, that is what they become (`renew_applied`)
 abbrev pub RenewRequest : Profile → Request → Run → Run → Type 0
 RenewRequest p r run next = next ≡ packed (map (renewed (selection_of p r) r.to.address) (instances_of run))

@@ -10,7 +10,7 @@ use refusals::refusal_no;
 
 // The number of the refusal, 0 where the component is answered; how many octets the reply has; and the next table.
 #[repr(C)]
-#[derive(Drop)]
+#[derive(Clone, Copy)]
 pub struct Arrival {
     pub refusal: u8,
     pub count: usize,

@@ -19,7 +19,7 @@ const NOCOUNT: usize = 255;
 
 // The number of the refusal, 0 where the request is sent; how many octets its component has; and the next end.
 #[repr(C)]
-#[derive(Drop)]
+#[derive(Clone, Copy)]
 pub struct Sending {
     pub refusal: u8,
     pub count: usize,
@@ -28,7 +28,7 @@ pub struct Sending {
 
 // The number of the refusal, 0 where there is none; and the next end.
 #[repr(C)]
-#[derive(Drop)]
+#[derive(Clone, Copy)]
 pub struct Moving {
     pub refusal: u8,
     pub end: End,
@@ -36,7 +36,7 @@ pub struct Moving {
 
 // The number of the refusal, 0 where there is none; the mark; and how many entries a known procedure has, else 255.
 #[repr(C)]
-#[derive(Drop)]
+#[derive(Clone, Copy)]
 pub struct Page {
     pub refusal: u8,
     pub mark: u8,
@@ -45,7 +45,7 @@ pub struct Page {
 
 // A page, and the entry.
 #[repr(C)]
-#[derive(Drop)]
+#[derive(Clone, Copy)]
 pub struct PageEntry {
     pub page: Page,
     pub entry: Entry,

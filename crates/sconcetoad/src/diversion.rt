@@ -10,7 +10,7 @@ use refusals::refusal_no;
 
 // The numbers of the refusal, of the reason and of the notice, each 0 where there is none; and the call that goes on.
 #[repr(C)]
-#[derive(Drop)]
+#[derive(Clone, Copy)]
 pub struct Diverted {
     pub refusal: u8,
     pub reason: u8,
@@ -20,7 +20,7 @@ pub struct Diverted {
 
 // What becomes of the call, told as above; how many digits the original number has that it hands on; and how many were written.
 #[repr(C)]
-#[derive(Drop)]
+#[derive(Clone, Copy)]
 pub struct HandedOn {
     pub refusal: u8,
     pub reason: u8,
@@ -29,7 +29,7 @@ pub struct HandedOn {
 }
 
 // The numbers that C is told of a call, whether or not it asks for the original number.
-#[derive(Drop)]
+#[derive(Clone, Copy)]
 struct CallTold {
     refusal: u8,
     reason: u8,

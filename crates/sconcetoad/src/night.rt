@@ -8,7 +8,7 @@ use sheets::{read_sheet, write_sheet};
 
 // The number of the refusal, and the table that was read; a fresh one where the sheet is refused.
 #[repr(C)]
-#[derive(Drop)]
+#[derive(Clone, Copy)]
 pub struct SheetTaken {
     pub refusal: u8,
     pub table: Table,

@@ -23,7 +23,7 @@ const NOLIST: u8 = 255;
 
 // The kind of a reply, the value of an error, and the entries of a list.
 #[repr(C)]
-#[derive(Drop)]
+#[derive(Clone, Copy)]
 pub struct Replied {
     pub kind: u8,
     pub value: i16,

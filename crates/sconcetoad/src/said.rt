@@ -7,7 +7,7 @@ use requests::{Heard, Request, argument_at, blank_request, hear};
 // What a component says: at which row of document 01's table reading stops, 6 where it has an identifier and an operation; these, 0 where they were
 // not read; and whether it is a request that can be read, and which.
 #[repr(C)]
-#[derive(Drop)]
+#[derive(Clone, Copy)]
 pub struct Said {
     pub row: u8,
     pub asks: u8,

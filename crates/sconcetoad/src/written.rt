@@ -11,7 +11,7 @@ use requests::Request;
 
 // The number of the refusal, 0 where there is none; and how many octets were written.
 #[repr(C)]
-#[derive(Drop)]
+#[derive(Clone, Copy)]
 pub struct Octets {
     pub refusal: u8,
     pub count: usize,

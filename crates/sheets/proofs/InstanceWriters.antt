@@ -19,7 +19,7 @@ use Rattle.forms.specs.Sheet.{sheet_octets}
 use Rattle.forms.proofs.Octets.{octets_none, octets_one, octets_both, sheet_octets_lem}
 use Rattle.forms.proofs.Sizes.{head_most}
 use Rattle.sheets.specs.inner.Write.{Room, Space, WroteInstances, Writable, AllWritable}
-use Rattle.sheets.proofs.Writers.{field_room, field-wrote, field_last}
+use Rattle.sheets.proofs.Writers.{field_room, field_wrote, field_last}
 
 -- ---- an instance
 
@@ -32,22 +32,22 @@ module _ (x : Instance) (small : length (all_groups (instance_fields x)) ≤ ins
   whole : Room xs at (all_groups (instance_fields x))
   whole = omega (arith, space, small)
 
-  second-room : Room ys p (all_groups (x.number ∷ x.service ∷ address_fields x.address))
-  second-room = field_room x.procedure _ whole first
+  second_room : Room ys p (all_groups (x.number ∷ x.service ∷ address_fields x.address))
+  second_room = field_room x.procedure _ whole first
 
-  third-room : Room zs q (all_groups (x.service ∷ address_fields x.address))
-  third-room = field_room x.number _ second-room second
+  third_room : Room zs q (all_groups (x.service ∷ address_fields x.address))
+  third_room = field_room x.number _ second_room second
 
   -- there is room for the address, and with it the instance is written
-  pub instance-room : Room us k (all_groups (address_fields x.address))
-  instance-room = field_room x.service _ third-room third
+  pub instance_room : Room us k (all_groups (address_fields x.address))
+  instance_room = field_room x.service _ third_room third
 
-  pub instance-wrote :
+  pub instance_wrote :
       {n : ℕ} {rs : List ℕ} → Wrote us k (all_groups (address_fields x.address)) n rs → WroteInstances xs at (x ∷ []) n rs
-  instance-wrote address =
+  instance_wrote address =
       let all =
-      field-wrote x.procedure _ whole first
-      (field-wrote x.number _ second-room second (field-wrote x.service _ third-room third address)) in
+      field_wrote x.procedure _ whole first
+      (field_wrote x.number _ second_room second (field_wrote x.service _ third_room third address)) in
       record {
         holds = rw (octets_one x) all;
         within = omega (arith, all.moved, small);
@@ -62,20 +62,20 @@ writable_at (x ∷ l) h (suc i) d lt = writable_at l h.1 i d (omega arith)
 
 -- the first i of them were written
 module _ (l : List Instance) (xs : List ℕ) (at : ℕ) where
-  pub run-first : WroteInstances xs at (take 0 l) at xs
-  run-first = record { holds = rw octets_none wrote_none; within = omega arith }
+  pub run_first : WroteInstances xs at (take 0 l) at xs
+  run_first = record { holds = rw octets_none wrote_none; within = omega arith }
 
   module _ {i p : ℕ} {ys : List ℕ} (so : WroteInstances xs at (take i l) p ys) where
-    pub run-all : length l ≤ i → WroteInstances xs at l p ys
-    run-all h = rw (take_all i l h) at so
+    pub run_all : length l ≤ i → WroteInstances xs at l p ys
+    run_all h = rw (take_all i l h) at so
 
     -- there is space for one more, which is written
     module _ (more : i < length l) (x d : Instance) (is : get_or l i d ≡ x) where
-      pub run-space : Space xs at l → Space ys p (x ∷ [])
-      run-space fits = omega (arith, fits, so.within, wrote_length so.holds, length-take i l)
+      pub run_space : Space xs at l → Space ys p (x ∷ [])
+      run_space fits = omega (arith, fits, so.within, wrote_length so.holds, length-take i l)
 
-      pub run-next : {q : ℕ} {zs : List ℕ} → WroteInstances ys p (x ∷ []) q zs → WroteInstances xs at (take (i + 1) l) q zs
-      run-next next =
+      pub run_next : {q : ℕ} {zs : List ℕ} → WroteInstances ys p (x ∷ []) q zs → WroteInstances xs at (take (i + 1) l) q zs
+      run_next next =
           rw (add-one i, take-suc l i d more, is) (record {
             holds = rw (octets_both (take i l) (x ∷ [])) (then so.holds next.holds);
             within = omega (arith, so.within, next.within, length-append (take i l) (x ∷ []));
@@ -89,8 +89,8 @@ module _ (run : Run) (i : ℕ) where
   pub met_all : run.count ≤ i → length (instances_of run) ≤ i
   met_all h = omega (arith, length-take run.count run.run)
 
-  pub met-whole : length run.run ≤ i → length (instances_of run) ≤ i
-  met-whole h = omega (arith, length-take run.count run.run)
+  pub met_whole : length run.run ≤ i → length (instances_of run) ≤ i
+  met_whole h = omega (arith, length-take run.count run.run)
 
 -- ---- the sheet
 
@@ -100,23 +100,23 @@ module _ (form : Form) (last : ℕ) (is : List Instance) (small : form.code < 12
     (first : PutGroups xs 0 form.code p ys)
     (second : PutGroups ys p last q zs)
     (third : PutGroups zs q (length is) k us) where
-  head-wrote : Wrote xs 0 (all_groups (form.code ∷ last ∷ length is ∷ [])) k us
-  head-wrote =
+  head_wrote : Wrote xs 0 (all_groups (form.code ∷ last ∷ length is ∷ [])) k us
+  head_wrote =
       let whole : Room xs 0 (all_groups (form.code ∷ last ∷ length is ∷ [])) =
       omega (arith, room, head_most form.code last (length is) small few least) in
       let rest = field_room form.code _ whole first in
-      field-wrote form.code _ whole first
-      (field-wrote last _ rest second (field_last (length is) (field_room last _ rest second) third))
+      field_wrote form.code _ whole first
+      (field_wrote last _ rest second (field_last (length is) (field_room last _ rest second) third))
 
-  pub sheet-space : Space us k is
-  sheet-space =
+  pub sheet_space : Space us k is
+  sheet_space =
       omega (
         arith,
         room,
-        head-wrote.moved,
-        wrote_length head-wrote,
+        head_wrote.moved,
+        wrote_length head_wrote,
         head_most form.code last (length is) small few least,
       )
 
-  pub sheet-wrote : {n : ℕ} {rs : List ℕ} → WroteInstances us k is n rs → Wrote xs 0 (sheet_octets form last is) n rs
-  sheet-wrote instances = rw (sheet_octets_lem form last is) (then head-wrote instances.holds)
+  pub sheet_wrote : {n : ℕ} {rs : List ℕ} → WroteInstances us k is n rs → Wrote xs 0 (sheet_octets form last is) n rs
+  sheet_wrote instances = rw (sheet_octets_lem form last is) (then head_wrote instances.holds)

@@ -12,7 +12,7 @@ use Rattle.laws.proofs.Over.{take_over}
 use Rattle.laws.proofs.Picks.{by_bool}
 use Rattle.laws.proofs.Eaches.{Each}
 use Rattle.refusals.specs.Refusal.{tells}
-use Rattle.refusals.proofs.Refusals.{refuses-not}
+use Rattle.refusals.proofs.Refusals.{refuses_not}
 use Rattle.profile.specs.Access.{access_read}
 use Rattle.lists.specs.Entries.{instances_most}
 use Rattle.exchange.specs.Table.{table_good}
@@ -28,41 +28,41 @@ use Rattle.instances.specs.Run.{instances_of}
 use Rattle.sheets.specs.Sheets.{wrote_sheet, WritesSheet, read_sheet, ReadsSheet}
 use Rattle.sheets.specs.declared.read.SheetRead.{SheetRead}
 use Rattle.sheets.proofs.WrittenTables.{Arrays}
-use Rattle.sheets.proofs.WrittenSheets.{writes_short, writes-profile, writes-table, writes_sheet, sheet_written_most}
-use Rattle.sheets.proofs.ReadTables.{read_ok, accepted-table, accepted-size, read_good}
+use Rattle.sheets.proofs.WrittenSheets.{writes_short, writes_profile, writes_table, writes_sheet, sheet_written_most}
+use Rattle.sheets.proofs.ReadTables.{read_ok, accepted_table, accepted_size, read_good}
 use Rattle.sheets.proofs.TableTrips.{SameInstances, ReadsAs, table_back}
 
 -- a table that is written: there was room, and neither the profile nor the table was refused
 module _ (access : List ℕ) (t : Table) (size : ℕ) (done : (wrote_sheet access t size).told ≡ tells tt) where
-  written-room : sheet_most form1 ≤ size
-  written-room =
+  written_room : sheet_most form1 ≤ size
+  written_room =
       by_bool (sheet_most form1 ≤ size) (ltb size (sheet_most form1))
-      (λ e. absurd (refuses-not _ tt
+      (λ e. absurd (refuses_not _ tt
       (sym (ap (λ (w : Made). w.told) (writes_short access t size (ltb-true size (sheet_most form1) e))) ∙ done)))
       (λ e. ltb-false size (sheet_most form1) e)
 
-  written-ok : (access_read access).ok ≡ true
-  written-ok =
+  written_ok : (access_read access).ok ≡ true
+  written_ok =
       by_bool ((access_read access).ok ≡ true) (access_read access).ok (λ e. e)
-      (λ e. absurd (refuses-not _ tt (sym (ap (λ (w : Made). w.told) (writes-profile access t size written-room e)) ∙ done)))
+      (λ e. absurd (refuses_not _ tt (sym (ap (λ (w : Made). w.told) (writes_profile access t size written_room e)) ∙ done)))
 
-  written-good : table_good instances_most (access_read access).profile t ≡ true
-  written-good =
+  written_good : table_good instances_most (access_read access).profile t ≡ true
+  written_good =
       by_bool (table_good instances_most (access_read access).profile t ≡ true) (table_good instances_most (access_read access).profile t)
       (λ e. e)
-      (λ e. absurd (refuses-not _ tt (sym (ap (λ (w : Made). w.told) (writes-table access t size written-room written-ok e)) ∙ done)))
+      (λ e. absurd (refuses_not _ tt (sym (ap (λ (w : Made). w.told) (writes_table access t size written_room written_ok e)) ∙ done)))
 
-  written-octets : (wrote_sheet access t size).octets ≡ sheet_octets form1 t.last (instances_of t.run)
-  written-octets = ap (λ (w : Made). w.octets) (writes_sheet access t size written-room written-ok written-good)
+  written_octets : (wrote_sheet access t size).octets ≡ sheet_octets form1 t.last (instances_of t.run)
+  written_octets = ap (λ (w : Made). w.octets) (writes_sheet access t size written_room written_ok written_good)
 
   module _ (arrays : Each Arrays (instances_of t.run)) where
     -- there was room for the sheet
-    written-fits : length (wrote_sheet access t size).octets ≤ size
-    written-fits = omega (arith, written-room, sheet_written_most access t size arrays)
+    written_fits : length (wrote_sheet access t size).octets ≤ size
+    written_fits = omega (arith, written_room, sheet_written_most access t size arrays)
 
     -- its octets are read as that table
     pub octets_back : ReadsAs access (wrote_sheet access t size).octets t
-    octets_back = rw written-octets (table_back access t written-ok written-good arrays)
+    octets_back = rw written_octets (table_back access t written_ok written_good arrays)
 
 -- what `write_sheet` wrote, `read_sheet` reads back as a table that holds the same
 module _ (access : List ℕ) (t : Table) (arrays : Each Arrays (instances_of t.run)) (xs : List ℕ) (w : Written) (ys : List ℕ)
@@ -73,13 +73,13 @@ module _ (access : List ℕ) (t : Table) (arrays : Each Arrays (instances_of t.r
   told : (wrote_sheet access t (length xs)).told ≡ tells tt
   told = sym wrote.told ∙ ap handling_told done
 
-  sheet-is : take w.count ys ≡ s
-  sheet-is = rw (wrote.count, wrote.lent) (take_over xs s (written-fits access t (length xs) told arrays))
+  sheet_is : take w.count ys ≡ s
+  sheet_is = rw (wrote.count, wrote.lent) (take_over xs s (written_fits access t (length xs) told arrays))
 
   pub written_back : (r : SheetRead) → ReadsSheet access (take w.count ys) r → (r.outcome ≡ Done) × SameInstances t r.table
   written_back r read =
       let back = octets_back access t (length xs) told arrays in
-      let same : read_sheet access (take w.count ys) ≡ read_sheet access s = ap (read_sheet access) sheet-is in (
+      let same : read_sheet access (take w.count ys) ≡ read_sheet access s = ap (read_sheet access) sheet_is in (
         handling_same r.outcome Done (read.told ∙ ap (λ q. q.told) same ∙ back.accepted),
         rw (read.table, same) back.alike,
       )
@@ -90,12 +90,12 @@ pub accepted_written :
     wrote_sheet access (read_sheet access s).table size ≡ made s
 accepted_written access s small told size room =
     writes_sheet access (read_sheet access s).table size room (read_ok access s told) (read_good access s told)
-    ∙ ap made (sym (accepted-table access s told small))
+    ∙ ap made (sym (accepted_table access s told small))
 
 -- what `read_sheet` accepts has at most 1,613 octets
 pub sheet_accepted :
     (access s : List ℕ) → ((i : ℕ) → get_or s i 0 < 256) → (r : SheetRead) → ReadsSheet access s r → r.outcome ≡ Done → length s ≤ 1613
-sheet_accepted access s small r read done = accepted-size access s (sym read.told ∙ ap handling_told done) small
+sheet_accepted access s small r read done = accepted_size access s (sym read.told ∙ ap handling_told done) small
 
 -- what `read_sheet` accepted, `write_sheet` writes again, octet for octet
 pub accepted_again :

@@ -19,18 +19,18 @@ use Rattle.instances.specs.Instance.{instance_good}
 use Rattle.instances.specs.Run.{instances_of, packed, instances_good}
 use Rattle.instances.specs.declared.instance.Instance.{Instance}
 use Rattle.instances.proofs.Keys.{up_of}
-use Rattle.instances.proofs.Fits.{fits-of, fits-is}
+use Rattle.instances.proofs.Fits.{fits_of, fits_is}
 use Rattle.instances.proofs.Goods.{few_of, list_good_lem}
 use Rattle.exchange.specs.Table.{table_of, table_good}
 use Rattle.exchange.specs.declared.table.Table.{Table}
-use Rattle.exchange.proofs.Tables.{table-good}
+use Rattle.exchange.proofs.Tables.{table_good_lem}
 use Rattle.forms.specs.Form.{form1}
 use Rattle.forms.specs.Sheet.{Sheet, sheet_octets, sheet_in}
 use Rattle.forms.proofs.Fits.{FieldsFit, tidy_instance, order_of, form1_short}
-use Rattle.forms.proofs.Sheets.{Allowed, sheet_allowed_lem, allowed-packed}
-use Rattle.forms.proofs.Trips.{sheet-back}
+use Rattle.forms.proofs.Sheets.{Allowed, sheet_allowed_lem, allowed_packed}
+use Rattle.forms.proofs.Trips.{sheet_back}
 use Rattle.sheets.specs.Sheets.{TableRead, read_sheet}
-use Rattle.sheets.proofs.WrittenTables.{Arrays, table-list, table_fits, table-order}
+use Rattle.sheets.proofs.WrittenTables.{Arrays, table_list, table_fits, table_order}
 
 -- an instance of the profile is one with zeros past its digits and octets too
 tidy_good :
@@ -38,8 +38,8 @@ tidy_good :
     Each (λ x. instance_good p x ≡ true) (map tidy_instance is)
 tidy_good p [] h fits = tt
 tidy_good p (x ∷ is) h fits =
-    let so = fits-of p.subscribed p.numbercount (subscribed_services p) x h.0 in (
-      fits-is p.subscribed p.numbercount (subscribed_services p) (tidy_instance x) (record {
+    let so = fits_of p.subscribed p.numbercount (subscribed_services p) x h.0 in (
+      fits_is p.subscribed p.numbercount (subscribed_services p) (tidy_instance x) (record {
         procedure = so.procedure;
         subscribes = so.subscribes;
         number = so.number;
@@ -61,23 +61,23 @@ module _ (p : Profile) (t : Table) (good : table_good instances_most p t ≡ tru
 
   found : sheet_in form1 octets ≡ got again (length octets)
   found =
-      sheet-back form1 form1_short t.last (instances_of t.run) octets (table-good instances_most p t good).0
-      (table_fits p t good profile arrays) (table-order p t good profile arrays) (stands_whole octets) refl
+      sheet_back form1 form1_short t.last (instances_of t.run) octets (table_good_lem instances_most p t good).0
+      (table_fits p t good profile arrays) (table_order p t good profile arrays) (stands_whole octets) refl
 
   allowed : Allowed form1 again
   allowed = found_is (Allowed form1) found (sheet_allowed_lem form1 octets)
 
-  again-good : instances_good instances_most p again.instances ≡ true
-  again-good =
+  again_good : instances_good instances_most p again.instances ≡ true
+  again_good =
       let so = order_of form1 again.instances allowed.order in
       list_good_lem p instances_most again.instances (record {
         ascends = up_of 0 again.instances so.0;
-        each = tidy_good p (instances_of t.run) (table-list p t good).each allowed.each;
+        each = tidy_good p (instances_of t.run) (table_list p t good).each allowed.each;
         few = few_of instances_most again.instances so.1;
       })
 
   all_there : instances_of (packed again.instances) ≡ again.instances
-  all_there = allowed-packed form1 form1_short again allowed
+  all_there = allowed_packed form1 form1_short again allowed
 
 -- ---- tables that hold the same
 
@@ -104,7 +104,7 @@ table_back access t ok good arrays =
     let s : List ℕ = sheet_octets form1 t.last (instances_of t.run) in
     let same : Table = table_of t.last (packed (map tidy_instance (instances_of t.run))) in
     let is : read_sheet access s ≡ record { told = tells tt; table = same } =
-    rw (ok, found p t good profile arrays, again-good p t good profile arrays) in
+    rw (ok, found p t good profile arrays, again_good p t good profile arrays) in
     let table : (read_sheet access s).table ≡ same = ap (λ (r : TableRead). r.table) is in
     record {
       accepted = ap (λ (r : TableRead). r.told) is;

@@ -22,7 +22,7 @@ use Rattle.forms.specs.Formed.{ReadForm}
 use Rattle.refusals.specs.declared.handling.Handling.TheVariants.{Done}
 use Rattle.forms.specs.declared.sheet.FormRead.{FormRead}
 use Rattle.forms.proofs.Fits.{form1_short}
-use Rattle.forms.proofs.Sheets.{allowed-packed, FormFound, form_found, form_none}
+use Rattle.forms.proofs.Sheets.{allowed_packed, FormFound, form_found, form_none}
 use Rattle.sheets.specs.Sheets.{sheet_allowed, table_in, TableRead, not_read, read_sheet, ReadsSheet}
 use Rattle.sheets.specs.inner.Refused.{sheet_refused}
 use Rattle.sheets.specs.declared.read.SheetRead.{SheetRead}
@@ -52,19 +52,19 @@ module _ (access s : List ℕ) (a : AccessRead) (read : a ≡ access_read access
   is_ok : (t : Bool) → a.ok ≡ t → (access_read access).ok ≡ t
   is_ok t h = sym (ap (λ (x : AccessRead). x.ok) read) ∙ h
 
-  pub reads-profile : a.ok ≡ false → (r : SheetRead) → r ≡ sheet_refused BadProfile → ReadsSheet access s r
+  pub reads_profile : a.ok ≡ false → (r : SheetRead) → r ≡ sheet_refused BadProfile → ReadsSheet access s r
   unfolding read_sheet
-  reads-profile h r e = record { told = rw (e, is_ok false h); table = rw (e, is_ok false h) }
+  reads_profile h r e = record { told = rw (e, is_ok false h); table = rw (e, is_ok false h) }
 
   module _ (ok : a.ok ≡ true) (f : FormRead) (told : ReadForm s f) where
-    reads-from : (g : Got Sheet) → sheet_in form1 s ≡ g → read_sheet access s ≡ table_from a.profile g
+    reads_from : (g : Got Sheet) → sheet_in form1 s ≡ g → read_sheet access s ≡ table_from a.profile g
     unfolding read_sheet
-    reads-from g e = rw (is_ok true ok, e, ← read)
+    reads_from g e = rw (is_ok true ok, e, ← read)
 
     -- no sheet
-    pub reads-form : f.ok ≡ false → (r : SheetRead) → r ≡ sheet_refused BadSheet → ReadsSheet access s r
-    reads-form h r e =
-        let none = reads-from wrong (form_none s f told h) in record { told = rw (e, none); table = rw (e, none) }
+    pub reads_form : f.ok ≡ false → (r : SheetRead) → r ≡ sheet_refused BadSheet → ReadsSheet access s r
+    reads_form h r e =
+        let none = reads_from wrong (form_none s f told h) in record { told = rw (e, none); table = rw (e, none) }
 
     module _ (whole : f.ok ≡ true) where
       was : FormFound s f
@@ -75,23 +75,23 @@ module _ (access s : List ℕ) (a : AccessRead) (read : a ≡ access_read access
 
       run_is : (t : Bool) → run_good instances_most a.profile f.run ≡ t → instances_good instances_most a.profile is ≡ t
       run_is t h =
-          sym (run_same a.profile is (allowed-packed form1 form1_short was.sheet was.allowed))
+          sym (run_same a.profile is (allowed_packed form1 form1_short was.sheet was.allowed))
           ∙ ap (run_good instances_most a.profile) (sym was.run)
           ∙ h
 
       read_is : read_sheet access s ≡ table_from a.profile (got was.sheet was.next)
-      read_is = reads-from (got was.sheet was.next) was.is
+      read_is = reads_from (got was.sheet was.next) was.is
 
       -- one that breaks a rule of the profile
-      pub reads-outside :
+      pub reads_outside :
           run_good instances_most a.profile f.run ≡ false → (r : SheetRead) → r ≡ sheet_refused BadSheet → ReadsSheet access s r
-      reads-outside h r e = record { told = rw (e, read_is, run_is false h); table = rw (e, read_is, run_is false h) }
+      reads_outside h r e = record { told = rw (e, read_is, run_is false h); table = rw (e, read_is, run_is false h) }
 
       -- one that breaks none
-      pub reads-table :
+      pub reads_table :
           run_good instances_most a.profile f.run ≡ true →
           ReadsSheet access s (record { outcome = Done; table = table_of f.last f.run })
-      reads-table h = record {
+      reads_table h = record {
         told = rw (read_is, run_is true h);
         table = rw (read_is, run_is true h)
             (ap (λ (last : ℕ). table_of last f.run) was.last ∙ ap (table_of was.sheet.last) was.run);

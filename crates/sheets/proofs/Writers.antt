@@ -12,7 +12,7 @@ use lib.Seq.{take-suc, get_or-take}
 use Rattle.laws.specs.Places.{gathered}
 use Rattle.laws.specs.Over.{Wrote}
 use Rattle.laws.proofs.Over.{wrote_length, then, wrote_none, puts_then, room_then, room_after}
-use Rattle.laws.proofs.Walks.{gathered_none, gathered-more}
+use Rattle.laws.proofs.Walks.{gathered_none, gathered_more}
 use Rattle.groups.specs.Groups.{PutGroups}
 use Rattle.numbers.specs.Number.{most, digits_of}
 use Rattle.numbers.specs.Address.{address_good}
@@ -28,14 +28,14 @@ module _ {xs : List ℕ} {at : ℕ} (n : ℕ) (ns : List ℕ) {p : ℕ} {ys : Li
   pub field_room : Room ys p (all_groups ns)
   field_room = room_after (all_groups ns) (rw (fields_more n ns) at fits) put
 
-  pub field-wrote : {q : ℕ} {zs : List ℕ} → Wrote ys p (all_groups ns) q zs → Wrote xs at (all_groups (n ∷ ns)) q zs
-  field-wrote rest = rw (fields_more n ns) (puts_then (rw (fields_more n ns) at fits) put (λ _. rest))
+  pub field_wrote : {q : ℕ} {zs : List ℕ} → Wrote ys p (all_groups ns) q zs → Wrote xs at (all_groups (n ∷ ns)) q zs
+  field_wrote rest = rw (fields_more n ns) (puts_then (rw (fields_more n ns) at fits) put (λ _. rest))
 
 -- and it was the last
 pub field_last :
     {xs : List ℕ} {at : ℕ} (n : ℕ) {p : ℕ} {ys : List ℕ} → Room xs at (all_groups (n ∷ [])) → PutGroups xs at n p ys →
     Wrote xs at (all_groups (n ∷ [])) p ys
-field_last n fits put = field-wrote n [] fits put (rw fields_none wrote_none)
+field_last n fits put = field_wrote n [] fits put (rw fields_none wrote_none)
 
 -- ---- what the places of an array give, one after the other
 
@@ -46,7 +46,7 @@ pub gathered_grows :
 gathered_grows size both f zero j h = absurd (omega arith)
 gathered_grows size both f (suc n) j h =
     let more : size (gathered f (suc n)) ≡ size (gathered f n) + size (f n) =
-    ap size (gathered-more f n) ∙ both (gathered f n) (f n) in
+    ap size (gathered_more f n) ∙ both (gathered f n) (f n) in
     ⊎_elim
     (λ (last : j ≡ n). rw last (omega (arith, more)))
     (λ (lt : j < n). omega (arith, more, gathered_grows size both f n j lt))
@@ -65,7 +65,7 @@ above_gathered base octets (suc n) h =
       take-suc octets n 0 h,
       map-append (λ c. c - base) (take n octets) (get_or octets n 0 ∷ []),
       above_gathered base octets n (omega arith),
-      gathered-more (above_at base octets) n,
+      gathered_more (above_at base octets) n,
     )
 
 above_zero : (octets : List ℕ) → map (λ c. c - 0) octets ≡ octets
@@ -77,16 +77,16 @@ abbrev pub Come : ℕ → List ℕ → List ℕ → ℕ → ℕ → ℕ → List
 Come base octets xs at i p ys = Wrote xs at (all_groups (gathered (above_at base octets) i)) p ys
 
 module _ (base : ℕ) (octets xs : List ℕ) (at : ℕ) where
-  pub come-first : Come base octets xs at 0 at xs
-  come-first = rw (gathered_none (above_at base octets), fields_none) wrote_none
+  pub come_first : Come base octets xs at 0 at xs
+  come_first = rw (gathered_none (above_at base octets), fields_none) wrote_none
 
   module _ {i p : ℕ} {ys : List ℕ} (so : Come base octets xs at i p ys) where
     -- there is room for one more, which is written
-    pub come-next :
+    pub come_next :
         (count : ℕ) {q : ℕ} {zs : List ℕ} → i < count → count ≤ length octets →
         Room xs at (all_groups (above base count octets)) → PutGroups ys p (get_or octets i 0 - base) q zs →
         Come base octets xs at (i + 1) q zs
-    come-next count more long fits put =
+    come_next count more long fits put =
         let f = above_at base octets in
         let size : List ℕ → ℕ = λ ns. length (all_groups ns) in
         let grows =
@@ -99,10 +99,10 @@ module _ (base : ℕ) (octets xs : List ℕ) (at : ℕ) where
           so.moved,
           wrote_length so,
         ) in
-        rw (add-one i, gathered-more f i, fields_both (gathered f i) (f i)) (then so (field_last (get_or octets i 0 - base) room put))
+        rw (add-one i, gathered_more f i, fields_both (gathered f i) (f i)) (then so (field_last (get_or octets i 0 - base) room put))
 
-    pub come-all : (count : ℕ) → i ≡ count → count ≤ length octets → Wrote xs at (all_groups (above base count octets)) p ys
-    come-all count e long = rw (above_gathered base octets count long, ← e) so
+    pub come_all : (count : ℕ) → i ≡ count → count ≤ length octets → Wrote xs at (all_groups (above base count octets)) p ys
+    come_all count e long = rw (above_gathered base octets count long, ← e) so
 
 -- ---- an address
 
@@ -131,26 +131,26 @@ module _ (a : Address) where
     abbrev after : List ℕ
     after = a.subcount ∷ take a.subcount a.sub
 
-    number-room : Room us k (all_groups (digits ++ after))
-    number-room = field_room a.number.count _ (field_room a.number.kind _ (field_room a.number.form _ fits form) kind) count
+    number_room : Room us k (all_groups (digits ++ after))
+    number_room = field_room a.number.count _ (field_room a.number.kind _ (field_room a.number.form _ fits form) kind) count
 
-    pub digits-room : Room us k (all_groups digits)
-    digits-room = omega (arith, number-room, ap length (fields_both digits after), length-append (all_groups digits) (all_groups after))
+    pub digits_room : Room us k (all_groups digits)
+    digits_room = omega (arith, number_room, ap length (fields_both digits after), length-append (all_groups digits) (all_groups after))
 
     module _ {m : ℕ} {vs : List ℕ} {t : ℕ} {ws : List ℕ} (wrote-digits : Wrote us k (all_groups digits) m vs)
         (subcount : PutGroups vs m a.subcount t ws) where
-      after-room : Room vs m (all_groups after)
-      after-room = room_then (all_groups after) (rw (fields_both digits after) at number-room) wrote-digits
+      after_room : Room vs m (all_groups after)
+      after_room = room_then (all_groups after) (rw (fields_both digits after) at number_room) wrote-digits
 
-      pub sub-room : Room ws t (all_groups sub)
-      sub-room = rw (above_zero (take a.subcount a.sub)) (field_room a.subcount _ after-room subcount)
+      pub sub_room : Room ws t (all_groups sub)
+      sub_room = rw (above_zero (take a.subcount a.sub)) (field_room a.subcount _ after_room subcount)
 
       pub address_wrote :
           {n : ℕ} {rs : List ℕ} → Wrote ws t (all_groups sub) n rs → Wrote xs at (all_groups (address_fields a)) n rs
       address_wrote wrote-sub =
-          let last = field-wrote a.subcount _ after-room subcount (rw (above_zero (take a.subcount a.sub)) at wrote-sub) in
+          let last = field_wrote a.subcount _ after_room subcount (rw (above_zero (take a.subcount a.sub)) at wrote-sub) in
           let second = field_room a.number.form _ fits form in
           let third = field_room a.number.kind _ second kind in
-          field-wrote a.number.form _ fits form
-          (field-wrote a.number.kind _ second kind
-          (field-wrote a.number.count _ third count (rw (fields_both digits after) (then wrote-digits last))))
+          field_wrote a.number.form _ fits form
+          (field_wrote a.number.kind _ second kind
+          (field_wrote a.number.count _ third count (rw (fields_both digits after) (then wrote-digits last))))

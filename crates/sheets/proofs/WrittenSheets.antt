@@ -21,7 +21,7 @@ use Rattle.instances.specs.Places.{run_most}
 use Rattle.instances.specs.Run.{instances_of}
 use Rattle.exchange.specs.Table.{last_most, table_good}
 use Rattle.exchange.specs.declared.table.Table.{Table}
-use Rattle.exchange.proofs.Tables.{table-good}
+use Rattle.exchange.proofs.Tables.{table_good_lem}
 use Rattle.forms.specs.Form.{form1}
 use Rattle.forms.specs.Size.{sheet_most}
 use Rattle.forms.specs.Sheet.{sheet_octets}
@@ -30,7 +30,7 @@ use Rattle.refusals.specs.declared.handling.Handling.TheVariants.{Done}
 use Rattle.refusals.specs.declared.handling.Written.{Written}
 use Rattle.sheets.specs.Sheets.{wrote_sheet, WritesSheet}
 use Rattle.sheets.specs.inner.Write.{Space, AllWritable}
-use Rattle.sheets.proofs.WrittenTables.{Arrays, instances-few, instances-count, table-writable, sheet-fits}
+use Rattle.sheets.proofs.WrittenTables.{Arrays, instances_few, instances_count, table_writable, sheet_fits}
 
 module _ (access : List ℕ) (t : Table) (size : ℕ) where
   pub writes_short : size < sheet_most form1 → wrote_sheet access t size ≡ not_made ShortOutput
@@ -38,15 +38,15 @@ module _ (access : List ℕ) (t : Table) (size : ℕ) where
   writes_short short = rw (lt-ltb size (sheet_most form1) short)
 
   module _ (enough : sheet_most form1 ≤ size) where
-    pub writes-profile : (access_read access).ok ≡ false → wrote_sheet access t size ≡ not_made BadProfile
+    pub writes_profile : (access_read access).ok ≡ false → wrote_sheet access t size ≡ not_made BadProfile
     unfolding wrote_sheet
-    writes-profile bad = rw (le-ltb size (sheet_most form1) enough, bad)
+    writes_profile bad = rw (le-ltb size (sheet_most form1) enough, bad)
 
     module _ (ok : (access_read access).ok ≡ true) where
-      pub writes-table :
+      pub writes_table :
           table_good instances_most (access_read access).profile t ≡ false → wrote_sheet access t size ≡ not_made BadTable
       unfolding wrote_sheet
-      writes-table bad = rw (le-ltb size (sheet_most form1) enough, ok, bad)
+      writes_table bad = rw (le-ltb size (sheet_most form1) enough, ok, bad)
 
       pub writes_sheet :
           table_good instances_most (access_read access).profile t ≡ true →
@@ -65,7 +65,7 @@ sheet_written_most access t size arrays =
     pick_ind P (ltb size (sheet_most form1)) (λ _. omega arith) (λ _.
     pick_ind P (not (access_read access).ok) (λ _. omega arith) (λ ok.
     pick_ind P (not (table_good instances_most p t)) (λ _. omega arith) (λ good.
-    sheet-fits p t (not-false _ good) (access_good access (not-false _ ok)) arrays)))
+    sheet_fits p t (not-false _ good) (access_good access (not-false _ ok)) arrays)))
 
 -- what is refused writes nothing
 pub refused_writes :
@@ -108,11 +108,11 @@ pub ready :
     Ready t xs
 ready access t xs enough ok good long =
     let p = (access_read access).profile in
-    let few = instances-few p t good in
+    let few = instances_few p t good in
     record {
-      last = (table-good instances_most p t good).0;
-      count = instances-count p t good long;
+      last = (table_good_lem instances_most p t good).0;
+      count = instances_count p t good long;
       few = omega (arith, few);
       space = omega (arith, few, enough);
-      writable = table-writable p t good (access_good access ok);
+      writable = table_writable p t good (access_good access ok);
     }

@@ -21,17 +21,17 @@ use Rattle.instances.specs.Run.{instances_of, run_good}
 use Rattle.instances.specs.declared.instance.Instance.{Instance}
 use Rattle.instances.proofs.Orders.{too_long}
 use Rattle.instances.proofs.Keys.{up_ascending}
-use Rattle.instances.proofs.Fits.{among_known, fits-of}
+use Rattle.instances.proofs.Fits.{among_known, fits_of}
 use Rattle.instances.proofs.Goods.{GoodList, good_short, run_good_lem, few_is}
 use Rattle.exchange.specs.Table.{table_good}
 use Rattle.exchange.specs.declared.table.Table.{Table}
-use Rattle.exchange.proofs.Tables.{table-good}
+use Rattle.exchange.proofs.Tables.{table_good_lem}
 use Rattle.forms.specs.Size.{instance_most, sheet_most}
 use Rattle.forms.specs.Form.{form1}
 use Rattle.forms.specs.Instance.{all_groups, instance_fields}
 use Rattle.forms.specs.Sheet.{sheet_octets, in_order}
 use Rattle.forms.proofs.Fits.{held_is, FieldsFit, order_is, form1_short}
-use Rattle.forms.proofs.Sizes.{instance-most, sheet-most}
+use Rattle.forms.proofs.Sizes.{instance_most_lem, sheet_most_lem}
 use Rattle.sheets.specs.inner.Write.{Writable, AllWritable}
 
 -- ---- an instance
@@ -52,13 +52,13 @@ writable_fits x so arrays = record {
 }
 
 pub writable_most : (x : Instance) → Writable x → Arrays x → length (all_groups (instance_fields x)) ≤ instance_most
-writable_most x so arrays = instance-most form1 form1_short x (writable_fits x so arrays)
+writable_most x so arrays = instance_most_lem form1 form1_short x (writable_fits x so arrays)
 
 -- an instance of a profile is one that a sheet may hold
 good_writable : (p : Profile) → profile_good p ≡ true → (x : Instance) → instance_good p x ≡ true → Writable x
 good_writable p profile x h =
     let rules = good_profile p profile in
-    let so = fits-of p.subscribed p.numbercount (subscribed_services p) x h in
+    let so = fits_of p.subscribed p.numbercount (subscribed_services p) x h in
     let code = among_known 0 x.service (subscribed_services p) rules.rises so.service in
     record {
       procedure = so.procedure;
@@ -80,26 +80,26 @@ each_writable p profile (x ∷ l) h = (good_writable p profile x h.0, each_writa
 
 module _ (p : Profile) (t : Table) (good : table_good instances_most p t ≡ true) where
   good_run : run_good instances_most p t.run ≡ true
-  good_run = (table-good instances_most p t good).1
+  good_run = (table_good_lem instances_most p t good).1
 
-  pub table-list : GoodList p instances_most (instances_of t.run)
-  table-list = run_good_lem p instances_most t.run good_run
+  pub table_list : GoodList p instances_most (instances_of t.run)
+  table_list = run_good_lem p instances_most t.run good_run
 
   -- "at most 8 for each procedure": at most 24
-  pub instances-few : length (instances_of t.run) ≤ run_most
-  instances-few = good_short p (instances_of t.run) table-list
+  pub instances_few : length (instances_of t.run) ≤ run_most
+  instances_few = good_short p (instances_of t.run) table_list
 
   -- what it counts is in its array
-  pub instances-count : length t.run.run ≡ run_most → length (instances_of t.run) ≡ t.run.count
-  instances-count long =
+  pub instances_count : length t.run.run ≡ run_most → length (instances_of t.run) ≡ t.run.count
+  instances_count long =
       let few : t.run.count ≤ run_most =
       by_bool (t.run.count ≤ run_most) (leb t.run.count run_most)
       (λ e. leb-true t.run.count run_most e)
       (λ e. absurd (false≢true (sym (too_long p t.run instances_most e) ∙ good_run))) in
       omega (arith, few, long, length-take t.run.count t.run.run)
 
-  pub table-writable : profile_good p ≡ true → AllWritable (instances_of t.run)
-  table-writable profile = each_writable p profile (instances_of t.run) table-list.each
+  pub table_writable : profile_good p ≡ true → AllWritable (instances_of t.run)
+  table_writable profile = each_writable p profile (instances_of t.run) table_list.each
 
 -- ---- and whose arrays are as a machine's
 
@@ -114,13 +114,13 @@ module _ (p : Profile) (t : Table) (good : table_good instances_most p t ≡ tru
 
   -- its instances are such as a sheet may hold
   pub table_fits : Each (FieldsFit form1) is
-  table_fits = all_fit is (table-writable p t good profile) arrays
+  table_fits = all_fit is (table_writable p t good profile) arrays
 
-  pub table-order : in_order form1 is ≡ true
-  table-order =
-      let so = table-list p t good in
+  pub table_order : in_order form1 is ≡ true
+  table_order =
+      let so = table_list p t good in
       order_is form1 is (up_ascending 0 is so.ascends) (few_is instances_most is so.few)
 
   -- "under .. 1,613 (sheet)": every sheet fits there
-  pub sheet-fits : length (sheet_octets form1 t.last is) ≤ sheet_most form1
-  sheet-fits = sheet-most form1 form1_short t.last is (table-good instances_most p t good).0 table_fits (instances-few p t good)
+  pub sheet_fits : length (sheet_octets form1 t.last is) ≤ sheet_most form1
+  sheet_fits = sheet_most_lem form1 form1_short t.last is (table_good_lem instances_most p t good).0 table_fits (instances_few p t good)

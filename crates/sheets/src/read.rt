@@ -9,7 +9,7 @@ use profile::read_access;
 use refusals::{Handling, Refusal};
 
 // The table that was read; where the sheet is refused, that of a new access, which says nothing of the sheet.
-#[derive(Drop)]
+#[derive(Clone, Copy)]
 pub struct SheetRead {
     pub outcome: Handling,
     pub table: Table,

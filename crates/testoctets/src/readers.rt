@@ -6,7 +6,7 @@ use skip::Skip;
 use values::{Enumerated, Ident};
 
 // What is read.
-#[derive(Drop)]
+#[derive(Clone, Copy)]
 pub(crate) enum Reader {
     Element,
     Enumerated,

@@ -3,7 +3,7 @@ use crate::say;
 use testtext::{all_outside, find, last_identifier, last_number, octet_of};
 
 // What is written.
-#[derive(Drop)]
+#[derive(Clone, Copy)]
 pub(crate) enum Writer {
     Head,
     Enumerated,

@@ -21,9 +21,9 @@ pub record Going (s : List ℕ) (at : ℕ) (xs : List ℕ) (n i : ℕ) (ys : Lis
   pub wrote : Wrote xs 0 (octets_of s at n) n ys
 
 module _ (s : List ℕ) (at : ℕ) (xs : List ℕ) where
-  pub going-none : Going s at xs 0 at xs
+  pub going_none : Going s at xs 0 at xs
   unfolding octets_of
-  going-none = record { place = omega arith; there = omega arith; few = omega arith; long = refl; wrote = wrote_none }
+  going_none = record { place = omega arith; there = omega arith; few = omega arith; long = refl; wrote = wrote_none }
 
   module _ {n i : ℕ} {ys : List ℕ} (g : Going s at xs n i ys) where
     put : Wrote xs 0 (octets_of s at (suc n)) (n + 1) (set ys n (word_octet s i))
@@ -44,16 +44,16 @@ module _ (s : List ℕ) (at : ℕ) (xs : List ℕ) where
     ended : words_from s at (length xs) ≡ n → OctetsFrom s at xs n ys
     ended e = record { wrote = rw e g.wrote; within = g.few }
 
-    pub going-full : length xs ≤ n → OctetsFrom s at xs n ys
+    pub going_full : length xs ≤ n → OctetsFrom s at xs n ys
     unfolding words_from
-    going-full full =
+    going_full full =
         ended
         (pick_ind (λ k. k ≡ n) (leb (length xs) ((length s - at) / 3)) (λ _. omega (arith, g.few))
         (λ e. omega (arith, g.few, g.there, leb-false (length xs) ((length s - at) / 3) e)))
 
-    pub going-short : length s - i < 3 → OctetsFrom s at xs n ys
+    pub going_short : length s - i < 3 → OctetsFrom s at xs n ys
     unfolding words_from
-    going-short short =
+    going_short short =
         let words : (length s - at) / 3 ≡ n = omega (arith, g.place, g.there) in
         ended
         (pick_ind (λ k. k ≡ n) (leb (length xs) ((length s - at) / 3))

@@ -26,5 +26,5 @@ module _ (z : ℤ) (fits : SFits w16 z) where
   pub unsigned_negative : lt_z (to_z w16 (of_z w16 z)) (pos 0) ≡ true → mag z + 1 ≡ unsigned z
   unsigned_negative e = below z (rw (to_z-of_z fits) at e)
 
-  pub unsigned-positive : lt_z (to_z w16 (of_z w16 z)) (pos 0) ≡ false → mag z ≡ unsigned z
-  unsigned-positive e = above z (rw (to_z-of_z fits) at e)
+  pub unsigned_positive : lt_z (to_z w16 (of_z w16 z)) (pos 0) ≡ false → mag z ≡ unsigned z
+  unsigned_positive e = above z (rw (to_z-of_z fits) at e)

@@ -14,22 +14,22 @@ use borrow.Author.Tests.{ltb-true, ltb-false, leb-true, eqb-true}
 use Rattle.laws.specs.Tests.{all}
 use Rattle.laws.proofs.Picks.{pick_ind, pick_then, not_passed}
 use Rattle.laws.proofs.Tests.{both_hold}
-use Rattle.laws.proofs.Fewest.{fewest-least}
+use Rattle.laws.proofs.Fewest.{fewest_least}
 use Rattle.octets.specs.Word.{word_at, word_octets}
 use Rattle.octets.specs.Head.{head_at}
 use Rattle.octets.specs.Spelt.{Spells}
 use Rattle.octets.specs.declared.head.Head.{Head}
 use Rattle.octets.specs.declared.head.Head.TheVariants as head
 use Rattle.octets.proofs.Slices.{slice_one}
-use Rattle.octets.proofs.Spellings.{HeadSpelt, head-only, word_small, word-only}
+use Rattle.octets.proofs.Spellings.{HeadSpelt, head_only, word_small, word_only}
 use Rattle.values.specs.Ident.{ident_tag, ident_most, half, twos, ident_holds, shortest, ident_in, ident_of, ident_at, ident_fewest, ident_with}
 use Rattle.values.specs.Enumerated.{enumerated_tag, enumerated_of, enumerated_at}
 use Rattle.values.specs.declared.ident.Ident.{Ident}
 use Rattle.values.specs.declared.ident.Ident.TheVariants as ident
 use Rattle.values.specs.declared.enumerated.Enumerated.{Enumerated}
 use Rattle.values.specs.declared.enumerated.Enumerated.TheVariants as enumerated
-use Rattle.values.proofs.Signs.{half_some, half_most, half_rises, bits-twos}
-use Rattle.values.proofs.Idents.{fewest-magnitude}
+use Rattle.values.proofs.Signs.{half_some, half_most, half_rises, bits_twos}
+use Rattle.values.proofs.Idents.{fewest_magnitude}
 
 -- ---- enumerated values
 
@@ -38,23 +38,23 @@ EnumeratedIf s at (enumerated.Is v next) = Spells enumerated_tag (v ∷ []) (sli
 EnumeratedIf s at enumerated.Unreadable = Unit {0}
 
 module _ (s : List ℕ) (small : (i : ℕ) → get_or s i 0 < 256) (depth at end : ℕ) where
-  enumerated-head : (h : Head) → head_at depth s at end ≡ h → EnumeratedIf s at (enumerated_of s h)
-  enumerated-head (head.Is tag start stop next) e =
+  enumerated_head : (h : Head) → head_at depth s at end ≡ h → EnumeratedIf s at (enumerated_of s h)
+  enumerated_head (head.Is tag start stop next) e =
       pick_ind (EnumeratedIf s at) (all (eqb tag enumerated_tag ∷ eqb (stop - start) 1 ∷ []))
       (λ both.
       let b = both_hold (eqb tag enumerated_tag) (eqb (stop - start) 1) both in
-      let h : HeadSpelt depth s at end tag start stop next = head-only s small depth at end e in
+      let h : HeadSpelt depth s at end tag start stop next = head_only s small depth at end e in
       let one : stop ≡ suc start = omega (arith, eqb-true (stop - start) 1 b.1, h.stops) in
       rw (sym (eqb-true tag enumerated_tag b.0), sym (slice_one start s (omega (arith, h.nexts, h.ends, h.inside))), sym one)
       h.spells)
       (λ _. tt)
-  enumerated-head head.Bad e = tt
+  enumerated_head head.Bad e = tt
 
   -- what is accepted as an enumerated value spells it
-  pub enumerated-only :
+  pub enumerated_only :
       {v next : ℕ} → enumerated_at depth s at end ≡ enumerated.Is v next → Spells enumerated_tag (v ∷ []) (slice at next s)
   unfolding enumerated_at
-  enumerated-only e = rw e at (enumerated-head (head_at depth s at end) refl)
+  enumerated_only e = rw e at (enumerated_head (head_at depth s at end) refl)
 
 -- ---- identifiers
 
@@ -71,9 +71,9 @@ shortest_only w z h =
     let holds : mag z < half w = ltb-true (mag z) (half w) tests.0 in
     let less : half (w - 1) ≤ mag z = ltb-false (mag z) (half (w - 1)) (not_passed (ident_holds z (w - 1)) tests.1) in
     let range : mag z < 32768 = omega (arith, half_most w (leb-true w ident_most most.0)) in
-    let least : ident_fewest z ≤ w = fewest-least (ident_holds z) ident_most w tests.0 in
+    let least : ident_fewest z ≤ w = fewest_least (ident_holds z) ident_most w tests.0 in
     let more : ident_fewest z ≤ w - 1 → ⊥ =
-    λ le. omega (arith, less, half_rises (ident_fewest z) (w - 1) le, fewest-magnitude z range) in
+    λ le. omega (arith, less, half_rises (ident_fewest z) (w - 1) le, fewest_magnitude z range) in
     record { some = half_some w (mag z) holds; is = omega (arith, more, least) }
 
 abbrev IdentIf : List ℕ → ℕ → Ident → Type 0
@@ -82,38 +82,38 @@ IdentIf s at ident.Unreadable = Unit {0}
 
 module _ (s : List ℕ) (small : (i : ℕ) → get_or s i 0 < 256) where
   -- the octets of a number that is shortest in them are those that are written for it
-  contents-only :
+  contents_only :
       (w start : ℕ) → start + w ≤ length s → shortest w (twos w (word_at w s start)) ≡ true →
       slice start (start + w) s
       ≡ ident_with (ident_fewest (twos w (word_at w s start))) (twos w (word_at w s start))
-  contents-only w start room h =
+  contents_only w start room h =
       let u : ℕ = word_at w s start in
       let z : ℤ = twos w u in
       let sh : InFewest w z = shortest_only w z h in
-      word-only s small w start room
-      ∙ ap (word_octets w) (sym (bits-twos w u sh.some (word_small s small w start)))
+      word_only s small w start room
+      ∙ ap (word_octets w) (sym (bits_twos w u sh.some (word_small s small w start)))
       ∙ ap (λ (k : ℕ). ident_with k z) sh.is
 
   module _ (depth at end : ℕ) where
-    ident-head : (h : Head) → head_at depth s at end ≡ h → IdentIf s at (ident_of s h)
+    ident_head : (h : Head) → head_at depth s at end ≡ h → IdentIf s at (ident_of s h)
     unfolding ident_in
-    ident-head (head.Is tag start stop next) e =
+    ident_head (head.Is tag start stop next) e =
         let w : ℕ = stop - start in
         pick_ind (IdentIf s at) (eqb tag ident_tag)
         (λ t.
         pick_ind (IdentIf s at) (shortest w (twos w (word_at w s start)))
         (λ short.
-        let h : HeadSpelt depth s at end tag start stop next = head-only s small depth at end e in
+        let h : HeadSpelt depth s at end tag start stop next = head_only s small depth at end e in
         let all : start + w ≡ stop = omega (arith, h.stops) in
-        rw (sym (eqb-true tag ident_tag t), sym (contents-only w start (omega (arith, h.nexts, h.ends, h.inside)) short), all)
+        rw (sym (eqb-true tag ident_tag t), sym (contents_only w start (omega (arith, h.nexts, h.ends, h.inside)) short), all)
         h.spells)
         (λ _. tt))
         (λ _. tt)
-    ident-head head.Bad e = tt
+    ident_head head.Bad e = tt
 
     -- what is accepted as an identifier spells it: its contents are the shortest form, which is the one that is written
-    pub ident-only :
+    pub ident_only :
         {z : ℤ} {next : ℕ} → ident_at depth s at end ≡ ident.Is z next →
         Spells ident_tag (ident_with (ident_fewest z) z) (slice at next s)
     unfolding ident_at
-    ident-only e = rw e at (ident-head (head_at depth s at end) refl)
+    ident_only e = rw e at (ident_head (head_at depth s at end) refl)

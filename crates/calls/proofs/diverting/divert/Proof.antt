@@ -1,6 +1,6 @@
 use Rattle.calls.proofs.Records.{good_call}
 use Rattle.calls.proofs.Options.{options_most}
-use Rattle.calls.proofs.Comings.{comes-profile, comes-table, comes-call, comes-by}
+use Rattle.calls.proofs.Comings.{comes_profile, comes_table, comes_call, comes_by}
 use Rattle.profile.specs.declared.access.AccessRead.{AccessRead}
 use Rattle.profile.proofs.Profiles.{good_profile}
 use Rattle.profile.proofs.Records.{access_good}
@@ -21,7 +21,7 @@ returns : tie.Need-returns
 returns c =
     let a = c.before.before.before.before.before.before.args in
     let read = c.before.before.before.read-access.ensures in
-    rw (comes-profile a.access.now a.table a.call.now
+    rw (comes_profile a.access.now a.table a.call.now
     (ap (λ (r : AccessRead). r.ok) (sym read) ∙ not-true _ c.before.if1.true))
     c.refuses.ensures
 
@@ -36,7 +36,7 @@ returns_2 c =
     let a = c.before.before.before.before.before.before.before.before.before.args in
     let read = c.before.before.before.before.before.before.read-access.ensures in
     let ok = ap (λ (r : AccessRead). r.ok) (sym read) ∙ not-false _ c.before.before.before.before.if1.false in
-    rw (comes-table a.access.now a.table a.call.now ok
+    rw (comes_table a.access.now a.table a.call.now ok
     (rw read at (sym c.before.before.good2.ensures ∙ not-true _ c.before.if2.true)))
     c.refuses2.ensures
 
@@ -52,7 +52,7 @@ returns-3 c =
     let read = c.before.before.before.before.before.before.before.before.read-access.ensures in
     let ok = ap (λ (r : AccessRead). r.ok) (sym read) ∙ not-false _ c.before.before.before.before.before.before.if1.false in
     let good = rw read at (sym c.before.before.before.before.good2.ensures ∙ not-false _ c.before.before.before.if2.false) in
-    rw (comes-call a.access.now a.table a.call.now ok good
+    rw (comes_call a.access.now a.table a.call.now ok good
     (rw read at (sym c.before.before.call-good.ensures ∙ not-true _ c.before.if3.true)))
     c.refuses3.ensures
 
@@ -80,7 +80,7 @@ returns-4 c =
     ∙ not-false _ c.before.before.before.before.before.before.before.before.if1.false in
     let good = rw read at (sym c.before.before.before.before.before.before.good2.ensures
     ∙ not-false _ c.before.before.before.before.before.if2.false) in
-    rw (comes-by a.access.now a.table a.call.now ok good
+    rw (comes_by a.access.now a.table a.call.now ok good
     (rw read at (sym c.before.before.before.before.call-good.ensures ∙ not-false _ c.before.before.before.if3.false)))
     (rw (read, c.before.before.call-of.ensures) at c.divert-by.ensures)
 

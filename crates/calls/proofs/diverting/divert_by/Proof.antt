@@ -1,5 +1,5 @@
 use Rattle.instances.specs.Run.{instances_of}
-use Rattle.calls.proofs.Instances.{applying-unused, found_none, found_some}
+use Rattle.calls.proofs.Instances.{applying_unused, found_none, found_some}
 use native.Mathlib.Omega.{arith}
 use borrow.Author.Tests.{lt-ltb, le-ltb, not-true, not-false}
 use borrow.Author.Rules.{rules}
@@ -12,7 +12,7 @@ stays-here-requires c κs = search rules
 returns : tie.Need-returns
 returns c =
     let a = c.before.before.before.args in
-    rw (applying-unused a.p (instances_of a.run) a.c c.before.if1.true) c.Stays-here.ensures
+    rw (applying_unused a.p (instances_of a.run) a.c c.before.if1.true) c.Stays-here.ensures
 
 procedure-of-requires : tie.Need-procedure-of-requires
 procedure-of-requires c κs = search rules

@@ -1,5 +1,5 @@
 use Rattle.calls.proofs.Onwards.{goes_on_lem}
-use Rattle.calls.proofs.Options.{option-least}
+use Rattle.calls.proofs.Options.{option_least}
 use native.Mathlib.Omega.{arith}
 use borrow.Author.Rules.{rules}
 use Rattle.calls.proofs.diverting.go_on.Statement.{statement}
@@ -26,7 +26,7 @@ reason-of-requires c κs = search rules
 notice-of-requires : tie.Need-notice-of-requires
 notice-of-requires c κs =
     let k = c.before.before.before.before.before.before in
-    omega (arith, c.before.before.before.before.before.option-after.ensures, option-least k.args.p k.args.c, k.requires.0)
+    omega (arith, c.before.before.before.before.before.option-after.ensures, option_least k.args.p k.args.c, k.requires.0)
 
 add-t16 : tie.Need-overflow-add-t16
 add-t16 c = search rules

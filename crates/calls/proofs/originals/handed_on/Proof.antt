@@ -1,5 +1,5 @@
 use Rattle.calls.proofs.Records.{good_call}
-use Rattle.calls.proofs.Comings.{served_within, original-first, original-later}
+use Rattle.calls.proofs.Comings.{served_within, original_first, original_later}
 use native.Mathlib.Omega.{arith}
 use borrow.Author.Rules.{rules}
 use Rattle.calls.proofs.originals.handed_on.Statement.{statement}
@@ -44,7 +44,7 @@ returns : tie.Need-returns
 returns c =
     let k = c.before.before.before.before.before.before.before.before in
     rw (c.before.before.before.before.before.call-of.ensures, k.requires.redirecting)
-    (original-first k.args.access.now k.args.call.now
+    (original_first k.args.access.now k.args.call.now
     (rw c.before.before.before.before.before.call-of.ensures at c.before.before.before.if1.true))
 
 cast-result-2 : tie.Need-overflow-cast-result-2
@@ -69,7 +69,7 @@ returns_2 : tie.Need-returns-2
 returns_2 c =
     let k = c.before.before.before.before.before.before.before in
     rw c.before.before.before.before.call-of.ensures
-    (original-later k.args.access.now k.args.call.now
+    (original_later k.args.access.now k.args.call.now
     (rw c.before.before.before.before.call-of.ensures at c.before.before.if1.false))
 
 pub handed_on_spec : {M : Type 1} → statement M

@@ -1,6 +1,6 @@
 use Rattle.calls.specs.Original.{goes_on}
 use Rattle.calls.proofs.Comings.{goes_good}
-use Rattle.calls.proofs.HandedOns.{puts-no-digits, puts-digits}
+use Rattle.calls.proofs.HandedOns.{puts_no_digits, puts_digits}
 use mathlib.Core.Path.{sym, ap, ◌∙◌}
 use borrow.Author.Tests.{not-true, not-false}
 use borrow.Author.Rules.{rules}
@@ -16,7 +16,7 @@ goes-on-requires c κs = search rules
 returns : tie.Need-returns
 returns c =
     let a = c.before.before.before.before.before.before.args in
-    puts-no-digits a.access.now a.table a.call.now a.out.now _ c.before.before.divert.ensures.told
+    puts_no_digits a.access.now a.table a.call.now a.out.now _ c.before.before.divert.ensures.told
     (sym c.before.goes_on.ensures ∙ not-true _ c.if1.true)
 
 handed_on-requires : tie.Need-handed_on-requires
@@ -36,7 +36,7 @@ returns_2 : tie.Need-returns-2
 returns_2 c =
     let k = c.before.before.before.before.before.before in
     let a = k.before.before.before.before.before.before.args in
-    puts-digits a.access.now a.table a.call.now a.out.now _ k.before.before.divert.ensures.told
+    puts_digits a.access.now a.table a.call.now a.out.now _ k.before.before.divert.ensures.told
     (sym k.before.goes_on.ensures ∙ not-false _ k.if1.false) _ c.before.before.before.before.handed-on.ensures
     _ _ c.before.before.put_all_lem.ensures
 

@@ -6,7 +6,7 @@ use lib.ListN.{length}
 use borrow.Author.Tests.{not-true, not-false}
 use Rattle.refusals.specs.Refusal.{output_least}
 use Rattle.refusals.specs.declared.refusal.Refusal.TheVariants.{ShortOutput, BadRequest}
-use Rattle.components.proofs.Writings.{request-short, request-unfit, request-fit, refused_made, written_made, request_put}
+use Rattle.components.proofs.Writings.{request_short, request_unfit, request_fit, refused_made, written_made, request_put}
 use borrow.Author.Rules.{rules}
 use Rattle.components.proofs.write.write_request.Statement.{statement}
 use Rattle.components.proofs.write.write_request.Tie as tie
@@ -18,7 +18,7 @@ returns : tie.Need-returns
 returns c =
     let a = c.before.before.before.args in
     refused_made _ a.out.now ShortOutput _
-    (request-short _ a.operation a.r (length a.out.now) (omega (arith, c.before.if1.true))) c.not_written.ensures
+    (request_short _ a.operation a.r (length a.out.now) (omega (arith, c.before.if1.true))) c.not_written.ensures
 
 is-sendable-requires : tie.Need-is-sendable-requires
 is-sendable-requires c κs = search rules
@@ -30,7 +30,7 @@ returns_2 : tie.Need-returns-2
 returns_2 c =
     let a = c.before.before.before.before.before.args in
     refused_made _ a.out.now BadRequest _
-    (request-unfit _ a.operation a.r (length a.out.now) (omega (arith, c.before.before.before.if1.false))
+    (request_unfit _ a.operation a.r (length a.out.now) (omega (arith, c.before.before.before.if1.false))
     (sym c.before.before.is-sendable.ensures ∙ not-true _ c.before.if2.true))
     c.not-written2.ensures
 
@@ -50,7 +50,7 @@ returns-3 c =
     let enough : output_least ≤ length a.out.now = omega (arith, c.before.before.before.before.before.before.before.if1.false) in
     let fit = sym c.before.before.before.before.before.before.is-sendable.ensures
     ∙ not-false _ c.before.before.before.before.before.if2.false in
-    written_made _ a.out.now _ _ _ _ (request-fit _ a.operation a.r (length a.out.now) enough fit) c.done.ensures
+    written_made _ a.out.now _ _ _ _ (request_fit _ a.operation a.r (length a.out.now) enough fit) c.done.ensures
     (request_put a.out.now _ a.operation a.r _ _ range.sfits enough fit
     (rw (to_z-of_z range) at c.before.before.before.put-request.ensures))
 

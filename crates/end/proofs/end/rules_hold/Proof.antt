@@ -1,4 +1,4 @@
-use Rattle.end.proofs.Ends.{waiting_none, waiting-unused, waiting-mark, waiting-sends}
+use Rattle.end.proofs.Ends.{waiting_none, waiting_unused, waiting_mark, waiting_sends}
 use Rattle.requests.specs.Sent.{sendable}
 use borrow.Author.Tests.{le-leb, not-true, not-false}
 use mathlib.Core.Path.{sym, ap, ◌∙◌}
@@ -50,7 +50,7 @@ returns-5 c =
       sym
           c.before.before.before.before.before.marks-good.ensures
           ∙ not-false _ c.before.before.before.before.if3.false,
-      waiting-unused
+      waiting_unused
           c.before.before.before.before.before.before.before.before.before.before.before.args.e c.before.before.if4.false
           c.if5.true,
     )
@@ -64,7 +64,7 @@ returns-6 c =
       sym
           c.before.before.before.before.before.before.before.marks-good.ensures
           ∙ not-false _ c.before.before.before.before.before.before.if3.false,
-      waiting-mark
+      waiting_mark
           c.before.before.before.before.before.before.before.before.before.before.before.before.before.args.e
           c.before.before.before.before.if4.false c.before.before.if5.false c.if6.true,
     )
@@ -81,7 +81,7 @@ returns-7 c =
       le-leb _ _ c.before.before.before.before.before.before.before.before.before.before.if2.false,
       sym c.before.before.before.before.before.before.before.before.marks-good.ensures
           ∙ not-false _ c.before.before.before.before.before.before.before.if3.false,
-      waiting-sends a.e c.before.before.before.before.before.if4.false c.before.before.before.if5.false c.before.if6.false,
+      waiting_sends a.e c.before.before.before.before.before.if4.false c.before.before.before.if5.false c.before.if6.false,
     )
     (c.is-sendable.ensures ∙ ap (sendable a.e.operation) start.requires ∙ sym (pick_last (sendable a.e.operation a.e.request)))
 

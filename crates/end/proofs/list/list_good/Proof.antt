@@ -6,9 +6,9 @@ use lib.ListN.{length, length-take}
 use Rattle.laws.proofs.Parts.{unmapped}
 use Rattle.profile.specs.Profile.{subscribed_services, services_most}
 use Rattle.end.specs.inner.Listed.{address_held}
-use Rattle.end.proofs.Replaced.{Met, met_next, met-good}
+use Rattle.end.proofs.Replaced.{Met, met_next, met_good}
 use Rattle.instances.proofs.Choices.{among_place, place_among}
-use Rattle.end.proofs.Judged.{Judged, met_first, judged-unfair, judged-low, judged-on, judged-all}
+use Rattle.end.proofs.Judged.{Judged, met_first, judged_unfair, judged_low, judged_on, judged_all}
 use Rattle.end.proofs.list.list_good.Statement.{statement}
 use Rattle.end.proofs.list.list_good.Tie as tie
 
@@ -27,14 +27,14 @@ returns c =
     let k = c.before.before in
     let a = k.args in
     let met = met_first a.t3 _ c.before.stored.ensures k.requires.0 (search (unmapped, rules)) in
-    sym (judged-all a.p a.procedure a.t3 _ 0 0 met k.requires.0 refl (omega arith))
+    sym (judged_all a.p a.procedure a.t3 _ 0 0 met k.requires.0 refl (omega arith))
 
 returns_2 : tie.Need-returns-2 invariant-loop decreases-loop
 returns_2 c =
     let k = c.before.before.before.before in
     let a = k.args in
     let met = met_first a.t3 _ c.before.before.before.stored.ensures k.requires.0 (search (unmapped, rules)) in
-    sym (judged-unfair a.p a.procedure a.t3 _ 0 0 met k.requires.0 refl (omega arith)
+    sym (judged_unfair a.p a.procedure a.t3 _ 0 0 met k.requires.0 refl (omega arith)
     (λ own fits. omega (arith, own, fits.procedure, c.if2.true)))
 
 array-read-if3 : tie.Need-array-read-if3 invariant-loop decreases-loop
@@ -45,7 +45,7 @@ returns-3 c =
     let k = c.before.before.before.before.before in
     let a = k.args in
     let met = met_first a.t3 _ c.before.before.before.before.stored.ensures k.requires.0 (search (unmapped, rules)) in
-    sym (judged-unfair a.p a.procedure a.t3 _ 0 0 met k.requires.0 refl (omega arith)
+    sym (judged_unfair a.p a.procedure a.t3 _ 0 0 met k.requires.0 refl (omega arith)
     (λ own fits. c.if3.true (rw own at fits.subscribes)))
 
 stored-requires-2 : tie.Need-stored-requires-2 invariant-loop decreases-loop
@@ -74,7 +74,7 @@ returns-4 c =
     let k = turn.before.before.before.before.before.before.before in
     let a = k.args in
     let h = c.before.before.before.loop-test.true in
-    sym (judged-unfair a.p a.procedure a.t3 _ l.i l.below l.invariant.0 k.requires.0 l.invariant.2 h
+    sym (judged_unfair a.p a.procedure a.t3 _ l.i l.below l.invariant.0 k.requires.0 l.invariant.2 h
     (λ own fits. omega (arith, own, c.if4.true)))
 
 key-of-requires : tie.Need-key-of-requires invariant-loop decreases-loop
@@ -87,7 +87,7 @@ returns-5 c =
     let k = turn.before.before.before.before.before.before.before in
     let a = k.args in
     let h = c.before.before.before.before.before.loop-test.true in
-    sym (judged-low a.p a.procedure a.t3 _ l.i l.below l.invariant.0 k.requires.0 l.invariant.2 h
+    sym (judged_low a.p a.procedure a.t3 _ l.i l.below l.invariant.0 k.requires.0 l.invariant.2 h
     (omega (arith, c.before.key_of.ensures, c.if5.true)))
 
 returns-6 : tie.Need-returns-6 invariant-loop decreases-loop
@@ -97,7 +97,7 @@ returns-6 c =
     let k = turn.before.before.before.before.before.before.before in
     let a = k.args in
     let h = c.before.before.before.before.before.before.before.before.loop-test.true in
-    sym (judged-unfair a.p a.procedure a.t3 _ l.i l.below l.invariant.0 k.requires.0 l.invariant.2 h
+    sym (judged_unfair a.p a.procedure a.t3 _ l.i l.below l.invariant.0 k.requires.0 l.invariant.2 h
     (λ own fits. omega (arith, fits.number, c.if6.true)))
 
 service-slot-requires : tie.Need-service-slot-requires invariant-loop decreases-loop
@@ -110,7 +110,7 @@ returns-7 c =
     let k = turn.before.before.before.before.before.before.before in
     let a = k.args in
     let h = c.before.before.before.before.before.before.before.before.before.before.loop-test.true in
-    sym (judged-unfair a.p a.procedure a.t3 _ l.i l.below l.invariant.0 k.requires.0 l.invariant.2 h
+    sym (judged_unfair a.p a.procedure a.t3 _ l.i l.below l.invariant.0 k.requires.0 l.invariant.2 h
     (λ own fits.
     omega (arith, among_place _ _ fits.service, c.before.service-slot.ensures, c.if7.true, l.invariant.1)))
 
@@ -128,9 +128,9 @@ loop-again c =
     let a = k.args in
     let h = c.before.before.before.before.before.before.before.before.before.before.loop-test.true in
     let key = c.before.before.before.before.before.before.key_of.ensures in
-    let address = met-good a.t3 _ l.i l.invariant.0 address_held k.requires.1 h in
+    let address = met_good a.t3 _ l.i l.invariant.0 address_held k.requires.1 h in
     let own = c.before.before.before.before.before.before.before.if4.false in
-    let on = judged-on a.p a.procedure a.t3 _ l.i l.below l.invariant.0 k.requires.0 l.invariant.2 h
+    let on = judged_on a.p a.procedure a.t3 _ l.i l.below l.invariant.0 k.requires.0 l.invariant.2 h
     (omega (arith, key, c.before.before.before.before.before.if5.false)) own record {
       procedure = omega (arith, own, turn.before.before.before.if2.false);
       subscribes = rw own turn.before.before.if3.false;
@@ -146,7 +146,7 @@ returns-8 c =
     let l = turn.loop in
     let k = turn.before.before.before.before.before.before.before in
     let a = k.args in
-    sym (judged-all a.p a.procedure a.t3 _ l.i l.below l.invariant.0 k.requires.0 l.invariant.2 (omega arith))
+    sym (judged_all a.p a.procedure a.t3 _ l.i l.below l.invariant.0 k.requires.0 l.invariant.2 (omega arith))
 
 pub list_good_spec : {M : Type 1} → statement M
 list_good_spec =

@@ -9,7 +9,7 @@ use Rattle.lists.specs.Entries.{instances_most}
 use Rattle.instances.specs.Instance.{blank_instance, key_of}
 use Rattle.instances.specs.Places.{run_most}
 use Rattle.instances.proofs.Runs.{outside}
-use Rattle.end.proofs.Sorted.{Gap, gap-next, gap-closed, array_from, array-none, array-gap, array-done}
+use Rattle.end.proofs.Sorted.{Gap, gap_next, gap_closed, array_from, array_none, array_gap, array_done}
 use Rattle.end.proofs.list.run_from.Statement.{statement}
 use Rattle.end.proofs.list.run_from.Tie as tie
 
@@ -43,7 +43,7 @@ loop-holds c =
     let few = c.stored.ensures in
     let long : length a.t2.entries ≡ instances_most = search (unmapped, rules) in
     let fresh = c.before.fresh-run.ensures in
-    (omega arith, few, long, rw fresh (length-replicate run_most blank_instance), rw fresh (array-none a.p a.t2 _ few long))
+    (omega arith, few, long, rw fresh (length-replicate run_most blank_instance), rw fresh (array_none a.p a.t2 _ few long))
 
 sub-i : tie.Need-overflow-sub-i invariant-loop2 decreases-loop2 invariant-loop decreases-loop
 sub-i c = search rules
@@ -71,7 +71,7 @@ loop2-holds c =
       omega arith,
       l.invariant.3,
       c.key_of.ensures,
-      rw is (array-gap a.p a.t2 _ few l.invariant.2 (l.i - 1) l.i l.next.run (omega arith) l.invariant.0 l.invariant.4),
+      rw is (array_gap a.p a.t2 _ few l.invariant.2 (l.i - 1) l.i l.next.run (omega arith) l.invariant.0 l.invariant.4),
     )
 
 add-loop2 : tie.Need-overflow-add-loop2 invariant-loop2 decreases-loop2 invariant-loop decreases-loop
@@ -109,7 +109,7 @@ loop2-again c =
       omega arith,
       simp length-set l.invariant.3,
       l.invariant.4,
-      gap-next _ _ _ _ l.j l.next.run outside l.invariant.5 (omega arith)
+      gap_next _ _ _ _ l.j l.next.run outside l.invariant.5 (omega arith)
           (omega (arith, l.invariant.4, c.before.key-of2.ensures, c.if1.false)),
     )
 
@@ -126,7 +126,7 @@ loop-again : tie.Need-loop-preserved invariant-loop2 decreases-loop2 invariant-l
 loop-again c =
     let o = c.before.before.before.before.before.before.loop in
     let l = c.before.loop2 in
-    let closed = gap-closed _ _ _ _ l.j l.next.run outside l.invariant.5 in (
+    let closed = gap_closed _ _ _ _ l.j l.next.run outside l.invariant.5 in (
       omega arith,
       o.invariant.1,
       o.invariant.2,
@@ -145,7 +145,7 @@ returns c =
     let a = c.before.before.before.before.args in
     let l = c.before.loop in
     let end : l.i ≡ 0 = omega (arith, c.loop-test.false) in
-    array-done a.p a.t2 _ l.invariant.1 l.invariant.2 l.next.run (rw end at l.invariant.4)
+    array_done a.p a.t2 _ l.invariant.1 l.invariant.2 l.next.run (rw end at l.invariant.4)
 
 pub run_from_spec : {M : Type 1} → statement M
 run_from_spec =

@@ -9,7 +9,7 @@ use Rattle.instances.specs.Instance.{blank_instance}
 use Rattle.instances.specs.Places.{run_most}
 use Rattle.instances.specs.Run.{instances_of}
 use Rattle.end.specs.Listed.{replaced}
-use Rattle.end.proofs.Replaced.{Met, met_next, owned_small, turn-skip, turn-rest, turn-lower, turn-higher, turn_last, answer-done, answer-full}
+use Rattle.end.proofs.Replaced.{Met, met_next, owned_small, turn_skip, turn_rest, turn_lower, turn_higher, turn_last, answer_done, answer_full}
 use Rattle.end.proofs.picture.replaced_by.Statement.{statement}
 use Rattle.end.proofs.picture.replaced_by.Tie as tie
 
@@ -57,7 +57,7 @@ loop-again c =
     let a = c.before.before.before.before.before.before.before.before.before.args in
     let new = l.invariant.0 in
     let old = l.invariant.1 in
-    let turn = turn-skip a.t3 a.t1 a.procedure _ _ l.m l.i new old (omega arith) c.if2.true in
+    let turn = turn_skip a.t3 a.t1 a.procedure _ _ l.m l.i new old (omega arith) c.if2.true in
     (new, met_next _ _ _ old (omega arith), l.invariant.2, rw turn at l.invariant.3)
 
 mul-x-2 : tie.Need-overflow-mul-x-2 invariant-loop decreases-loop
@@ -100,7 +100,7 @@ loop-again-2 c =
     let other = c.before.before.before.if2.false in
     ⊎_elim
     (λ v.
-    let turn = turn-lower a.t3 a.t1 a.procedure _ _ l.m l.i new old (omega arith) other (omega arith) k.requires
+    let turn = turn_lower a.t3 a.t1 a.procedure _ _ l.m l.i new old (omega arith) other (omega arith) k.requires
     (search rules, search rules) v.0.taken in
     rw (v.1, v.2, v.3) (
       new,
@@ -110,7 +110,7 @@ loop-again-2 c =
           (rw turn at l.invariant.3),
     ))
     (λ v.
-    let turn = turn-higher a.t3 a.t1 a.procedure _ _ l.m l.i new old (omega arith) other (omega arith) k.requires
+    let turn = turn_higher a.t3 a.t1 a.procedure _ _ l.m l.i new old (omega arith) other (omega arith) k.requires
     (search (owned_small, rules, k.well-formed.1.1.0)) v.0.left in
     rw (v.2, v.3, v.4) (
       met_next _ _ _ new (omega arith),
@@ -142,7 +142,7 @@ loop-again-3 c =
     let a = c.before.before.before.before.before.before.before.before.before.before.args in
     let new = l.invariant.0 in
     let old = l.invariant.1 in
-    let turn = turn-rest a.t3 a.t1 a.procedure _ _ l.m l.i new old (omega arith) c.before.if2.false (omega arith) in
+    let turn = turn_rest a.t3 a.t1 a.procedure _ _ l.m l.i new old (omega arith) c.before.if2.false (omega arith) in
     (new, met_next _ _ _ old (omega arith), omega arith, filled_next _ _ _ _ _ _ _ (omega arith) (rw turn at l.invariant.3))
 
 mul-next-2 : tie.Need-overflow-mul-next-2 invariant-loop decreases-loop
@@ -184,7 +184,7 @@ returns c =
     let a = c.before.before.before.before.before.before.before.args in
     let new = l.invariant.0 in
     let old = l.invariant.1 in
-    answer-done a.t3 a.t1 a.procedure _ _ l.m l.i new old (omega arith) (omega arith) l.k l.next.run l.invariant.3
+    answer_done a.t3 a.t1 a.procedure _ _ l.m l.i new old (omega arith) (omega arith) l.k l.next.run l.invariant.3
 
 cast-next-2 : tie.Need-overflow-cast-next-2 invariant-loop decreases-loop
 cast-next-2 c = search rules
@@ -195,7 +195,7 @@ returns_2 c =
     let a = c.before.before.before.before.before.args in
     let new = l.invariant.0 in
     let old = l.invariant.1 in
-    answer-full a.t3 a.t1 a.procedure _ _ l.m l.i new old l.k l.next.run (omega arith) l.invariant.3
+    answer_full a.t3 a.t1 a.procedure _ _ l.m l.i new old l.k l.next.run (omega arith) l.invariant.3
 
 pub replaced_by_spec : {M : Type 1} → statement M
 replaced_by_spec =

@@ -16,9 +16,9 @@ use Rattle.profile.specs.declared.profile.Profile.{Profile}
 use Rattle.lists.specs.Entries.{instances_most}
 use Rattle.instances.specs.Run.{run_good}
 use Rattle.end.specs.End.{used_most, end_rules, end_good}
-use Rattle.end.proofs.Ends.{rules_used, rules-fail, rules-pass}
-use Rattle.end.proofs.Sendings.{sends-short, sends-profile, sends-end, sends-waiting, sends-last, sends-unfit, sends-all}
-use Rattle.end.proofs.Sendings.{refused_sends, all_sends, unfit-sends, fit-sends}
+use Rattle.end.proofs.Ends.{rules_used, rules_fail, rules_pass}
+use Rattle.end.proofs.Sendings.{sends_short, sends_profile, sends_end, sends_waiting, sends_last, sends_unfit, sends_all}
+use Rattle.end.proofs.Sendings.{refused_sends, all_sends, unfit_sends, fit_sends}
 use borrow.Author.Rules.{rules}
 use Rattle.end.proofs.send.send.Statement.{statement}
 use Rattle.end.proofs.send.send.Tie as tie
@@ -34,7 +34,7 @@ good :
     (c : tie.Else4) (p : Profile) →
     run_good instances_most p c.before.before.before.before.before.args.e.picture ≡ c.before.before.before.before.before.args.good →
     end_good instances_most p c.before.before.before.before.before.args.e ≡ true
-good c p is = rules-pass instances_most p _ (rules c.before) ∙ is ∙ not-false _ c.if4.false
+good c p is = rules_pass instances_most p _ (rules c.before) ∙ is ∙ not-false _ c.if4.false
 
 below : (c : tie.Else6) → c.before.before.before.before.before.before.before.before.before.args.e.used < used_most
 below c =
@@ -46,14 +46,14 @@ not-written-requires c κs = search rules
 
 returns : tie.Need-returns
 returns c access ok picture =
-    refused_sends _ _ _ ShortOutput _ (sends-short _ _ _ _ _ (omega (arith, c.before.if1.true))) c.not_written.ensures
+    refused_sends _ _ _ ShortOutput _ (sends_short _ _ _ _ _ (omega (arith, c.before.if1.true))) c.not_written.ensures
 
 not-written-requires-2 : tie.Need-not-written-requires-2
 not-written-requires-2 c κs = search rules
 
 returns_2 : tie.Need-returns-2
 returns_2 c access ok picture =
-    refused_sends _ _ _ BadProfile _ (sends-profile _ _ _ _ _ (room c.before.before) (ok ∙ not-true _ c.before.if2.true))
+    refused_sends _ _ _ BadProfile _ (sends_profile _ _ _ _ _ (room c.before.before) (ok ∙ not-true _ c.before.if2.true))
     c.not-written2.ensures
 
 not-written-requires-3 : tie.Need-not-written-requires-3
@@ -62,8 +62,8 @@ not-written-requires-3 c κs = search rules
 returns-3 : tie.Need-returns-3
 returns-3 c access ok picture =
     let d = c.before.before in
-    let bad = rules-fail instances_most _ _ (sym d.before.before.before.requires ∙ not-true _ c.before.if3.true) in
-    refused_sends _ _ _ BadTable _ (sends-end _ _ _ _ _ (room d.before) (ok ∙ not-false _ d.if2.false) bad) c.not-written3.ensures
+    let bad = rules_fail instances_most _ _ (sym d.before.before.before.requires ∙ not-true _ c.before.if3.true) in
+    refused_sends _ _ _ BadTable _ (sends_end _ _ _ _ _ (room d.before) (ok ∙ not-false _ d.if2.false) bad) c.not-written3.ensures
 
 not-written-requires-4 : tie.Need-not-written-requires-4
 not-written-requires-4 c κs = search rules
@@ -71,8 +71,8 @@ not-written-requires-4 c κs = search rules
 returns-4 : tie.Need-returns-4
 returns-4 c access ok picture =
     let d = c.before.before in
-    let bad = rules-pass instances_most _ _ (rules d) ∙ picture ∙ not-true _ c.before.if4.true in
-    refused_sends _ _ _ BadTable _ (sends-end _ _ _ _ _ (room d.before.before) (ok ∙ not-false _ d.before.if2.false) bad)
+    let bad = rules_pass instances_most _ _ (rules d) ∙ picture ∙ not-true _ c.before.if4.true in
+    refused_sends _ _ _ BadTable _ (sends_end _ _ _ _ _ (room d.before.before) (ok ∙ not-false _ d.before.if2.false) bad)
     c.not-written4.ensures
 
 not-written-requires-5 : tie.Need-not-written-requires-5
@@ -83,7 +83,7 @@ returns-5 c access ok picture =
     let d = c.before.before.before in
     let k = d.before.before in
     refused_sends _ _ _ Outstanding _
-    (sends-waiting _ _ _ _ _ (room k.before) (ok ∙ not-false _ k.if2.false) (good d _ picture) c.before.if5.true)
+    (sends_waiting _ _ _ _ _ (room k.before) (ok ∙ not-false _ k.if2.false) (good d _ picture) c.before.if5.true)
     c.not-written5.ensures
 
 not-written-requires-6 : tie.Need-not-written-requires-6
@@ -94,7 +94,7 @@ returns-6 c access ok picture =
     let d = c.before.before.before.before.before in
     let k = d.before.before in
     refused_sends _ _ _ Exhausted _
-    (sends-last _ _ _ _ _ (room k.before) (ok ∙ not-false _ k.if2.false) (good d _ picture) c.before.before.before.if5.false
+    (sends_last _ _ _ _ _ (room k.before) (ok ∙ not-false _ k.if2.false) (good d _ picture) c.before.before.before.if5.false
     c.before.if6.true)
     c.not-written6.ensures
 
@@ -121,10 +121,10 @@ returns-7 c access ok picture =
     let e = d.before.before.before.before.before.args.e in
     let id : SFits w16 (pos (e.used + 1)) = omega (arith, below m) in
     let put = rw (add-one e.used) at (rw (to_z-of_z id) at c.before.before.before.before.put-request.ensures) in
-    let unfit = unfit-sends _ _ e _ _ _ (below m) (room k.before) put c.before.if7.true in
+    let unfit = unfit_sends _ _ e _ _ _ (below m) (room k.before) put c.before.if7.true in
     rw unfit.1
     (refused_sends _ _ _ BadRequest _
-    (sends-unfit _ _ _ _ _ (room k.before) (ok ∙ not-false _ k.if2.false) (good d _ picture) m.before.before.if5.false
+    (sends_unfit _ _ _ _ _ (room k.before) (ok ∙ not-false _ k.if2.false) (good d _ picture) m.before.before.if5.false
     m.if6.false unfit.0)
     c.not-written7.ensures)
 
@@ -139,8 +139,8 @@ returns-8 c access ok picture =
     let e = d.before.before.before.before.before.args.e in
     let id : SFits w16 (pos (e.used + 1)) = omega (arith, below m) in
     let put = rw (add-one e.used) at (rw (to_z-of_z id) at c.before.before.before.put-request.ensures) in
-    let fit = fit-sends _ _ e _ _ _ (below m) (room k.before) put c.if7.false in
-    let is = sends-all _ _ _ _ _ (room k.before) (ok ∙ not-false _ k.if2.false) (good d _ picture) m.before.before.if5.false
+    let fit = fit_sends _ _ e _ _ _ (below m) (room k.before) put c.if7.false in
+    let is = sends_all _ _ _ _ _ (room k.before) (ok ∙ not-false _ k.if2.false) (good d _ picture) m.before.before.if5.false
     m.if6.false fit in
     all_sends _ _ _ _ _ _ _ is (below m) (room k.before) fit put
 

@@ -1,4 +1,4 @@
-use Rattle.end.proofs.Movings.{applied-fails, applied-passes}
+use Rattle.end.proofs.Movings.{applied_fails, applied_passes}
 use mathlib.Core.Path.{◌∙◌}
 use borrow.Author.Rules.{rules}
 use Rattle.end.proofs.take.applied.Statement.{statement}
@@ -26,7 +26,7 @@ returns : tie.Need-returns
 returns c =
     let start = c.before.before.before.before in
     c.doubted.ensures
-    ∙ applied-fails start.args.p start.args.e _
+    ∙ applied_fails start.args.p start.args.e _
     (rw (start.requires.0, start.requires.1) at c.before.before.before.judge-request.ensures.verdict) _
     c.before.enum_told.given.1
 
@@ -34,7 +34,7 @@ returns_2 : tie.Need-returns-2
 returns_2 c =
     let start = c.before.before.before.before.before in
     rw (c.before.apply-request.ensures, start.requires.0, start.requires.1) at c.closed.ensures
-    ∙ applied-passes start.args.p start.args.e _
+    ∙ applied_passes start.args.p start.args.e _
     (rw (start.requires.0, start.requires.1) at c.before.before.before.before.judge-request.ensures.verdict) _
     c.before.before.enum-told2.given.1
 

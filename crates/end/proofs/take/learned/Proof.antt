@@ -1,7 +1,7 @@
 use Rattle.lists.specs.Entries.{instances_most, entries_from}
 use Rattle.lists.proofs.Held.{accepted_held}
-use Rattle.end.proofs.GoodLists.{list-own}
-use Rattle.end.proofs.Learnings.{new-few, new-held, entered, learned-wrong, learned-bad, learned-good}
+use Rattle.end.proofs.GoodLists.{list_own}
+use Rattle.end.proofs.Learnings.{new_few, new_held, entered, learned_wrong, learned_bad, learned_good}
 use Rattle.laws.proofs.Parts.{unmapped}
 use borrow.Author.Tests.{not-true, not-false}
 use lib.ListN.{length}
@@ -26,7 +26,7 @@ list-good-requires c κs =
     let long : length read.result.list.entries ≡ instances_most = search (unmapped, rules, read.type-inv) in
     let held = accepted_held a.s.now a.at a.end read.result read.ensures (not-false _ c.before.before.if1.false) in
     let made = c.run-from.ensures in
-    (new-few a.p read.result.list long _ made, new-held a.p read.result.list long _ made held)
+    (new_few a.p read.result.list long _ made, new_held a.p read.result.list long _ made held)
 
 doubted-requires-2 : tie.Need-doubted-requires-2
 doubted-requires-2 c κs = search rules
@@ -34,7 +34,7 @@ doubted-requires-2 c κs = search rules
 replaced-by-requires : tie.Need-replaced-by-requires
 replaced-by-requires c κs =
     let a = c.before.before.before.before.before.before.before.before.before.args in
-    list-own instances_most a.p a.e.request.procedure _ (sym c.before.before.list_good_lem.ensures ∙ not-false _ c.before.if2.false)
+    list_own instances_most a.p a.e.request.procedure _ (sym c.before.before.list_good_lem.ensures ∙ not-false _ c.before.if2.false)
 
 closed-requires : tie.Need-closed-requires
 closed-requires c κs = search rules
@@ -43,7 +43,7 @@ returns : tie.Need-returns
 returns c =
     let a = c.before.before.before.before.before.args in
     c.doubted.ensures ∙
-    learned-wrong a.p a.e (entries_from instances_most a.s.now a.at a.end) _ c.before.before.before.entries_at.ensures
+    learned_wrong a.p a.e (entries_from instances_most a.s.now a.at a.end) _ c.before.before.before.entries_at.ensures
     (not-true _ c.before.if1.true)
 
 returns_2 : tie.Need-returns-2
@@ -55,7 +55,7 @@ returns_2 c =
     let long : length c.before.before.before.before.before.before.before.entries_at.result.list.entries ≡ instances_most =
     search (unmapped, rules, c.before.before.before.before.before.before.before.entries_at.type-inv) in
     c.doubted2.ensures ∙
-    learned-bad a.p a.e got.es _ got.is long _ c.before.before.before.run-from.ensures
+    learned_bad a.p a.e got.es _ got.is long _ c.before.before.before.run-from.ensures
     (sym c.before.before.list_good_lem.ensures ∙ not-true _ c.before.if2.true) ∙
     got.by
 
@@ -68,7 +68,7 @@ returns-3 c =
     let long : length c.before.before.before.before.before.before.before.before.before.entries_at.result.list.entries ≡ instances_most =
     search (unmapped, rules, c.before.before.before.before.before.before.before.before.before.entries_at.type-inv) in
     c.closed.ensures ∙
-    learned-good a.p a.e got.es _ got.is long _ c.before.before.before.before.before.run-from.ensures
+    learned_good a.p a.e got.es _ got.is long _ c.before.before.before.before.before.run-from.ensures
     (sym c.before.before.before.before.list_good_lem.ensures ∙ not-false _ c.before.before.before.if2.false) _
     c.before.replaced-by.ensures ∙
     got.by

@@ -1,21 +1,21 @@
-use Rattle.exchange.proofs.Questions.{from-zero-fits}
-use Rattle.exchange.proofs.Steps.{machine-below, machine-moves, after_stays}
+use Rattle.exchange.proofs.Questions.{from_zero_fits}
+use Rattle.exchange.proofs.Steps.{machine_below, machine_moves, after_stays}
 use mathlib.Core.Path.{sym}
 use Rattle.exchange.proofs.arrive.last_after.Statement.{statement}
 use Rattle.exchange.proofs.arrive.last_after.Tie as tie
 
 returns : tie.Need-returns
 returns c =
-    let k = c.before in machine-below k.args.p k.args.identifier k.ranges.identifier k.args.last c.if1.true
+    let k = c.before in machine_below k.args.p k.args.identifier k.ranges.identifier k.args.last c.if1.true
 
 cast-result : tie.Need-overflow-cast-result
 cast-result c =
-    let k = c.before.before.before in from-zero-fits k.args.identifier k.ranges.identifier c.before.before.if1.false
+    let k = c.before.before.before in from_zero_fits k.args.identifier k.ranges.identifier c.before.before.if1.false
 
 returns_2 : tie.Need-returns-2
 returns_2 c =
     let k = c.before.before.before in
-    machine-moves k.args.p k.args.identifier k.ranges.identifier k.args.last c.before.before.if1.false c.if2.true
+    machine_moves k.args.p k.args.identifier k.ranges.identifier k.args.last c.before.before.if1.false c.if2.true
 
 returns-3 : tie.Need-returns-3
 returns-3 c =

@@ -1,5 +1,5 @@
 use Rattle.exchange.specs.Question.{invoked}
-use Rattle.exchange.proofs.Questions.{code_fits, code-cast, argued_found, argued_none}
+use Rattle.exchange.proofs.Questions.{code_fits, code_cast, argued_found, argued_none}
 use Rattle.requests.specs.Request.{argument_at}
 use mir.Facts.{to_z-of_z}
 use mir.Val.{SFits}
@@ -77,7 +77,7 @@ returns-4 c =
     let is_known = sym (rw (to_z-of_z operation) at c.before.before.before.before.before.before.before.is_known.ensures)
     ∙ not-false _
     c.before.before.before.before.before.before.if2.false in
-    rw (id, code-cast _ operation is_known, fresh, is_known)
+    rw (id, code_cast _ operation is_known, fresh, is_known)
     (argued_found _ _ (argument_at _ _ _ _) _ c.before.before.before.before.before.argument-at.ensures
     (not-false _ c.before.before.before.if3.false))
 

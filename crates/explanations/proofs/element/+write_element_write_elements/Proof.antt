@@ -5,7 +5,7 @@ use borrow.Author.Rules.{rules}
 use borrow.Author.Tests.{eq-eqb, ne_eqb}
 use Rattle.octets.proofs.Within.{within}
 use Rattle.explanations.specs.Elements.{lines_in}
-use Rattle.explanations.proofs.Pens.{pen_none, pen-then, Going, going_first, going_next, going-last}
+use Rattle.explanations.proofs.Pens.{pen_none, pen_then, Going, going_first, going_next, going_last}
 use Rattle.explanations.proofs.Lines.{further, lines_end, lines_step, element_lines_lem}
 use Prim.Native.Nat.{ℕ, ◌+◌, ◌-◌, ◌*◌, ◌<◌}
 use borrow.Fn.Kinds.{In}
@@ -125,7 +125,7 @@ write_element_returns t c =
     ∙ c.before.before.before.before.before.before.tag.given.1 in
     rw (element_lines_lem a.depth a.s.now a.at a.end, found, eq-eqb _ _ c.if1.true) (
       refl,
-      pen-then
+      pen_then
           c.before.before.before.write-line.ensures pen_none,
     )
 
@@ -223,7 +223,7 @@ write_element_returns_2 t c =
     ∙ c.before.before.before.before.before.before.before.before.before.before.tag.given.1 in
     rw (element_lines_lem a.depth a.s.now a.at a.end, found, ne_eqb _ _ c.before.before.before.before.if1.false) (
       refl,
-      pen-then
+      pen_then
           c.before.before.before.before.before.before.before.write-line.ensures c.before.before.write-elements.ensures,
     )
 
@@ -312,7 +312,7 @@ write_elements_returns : (t : ℕ) → write-elements-lts.Need-returns (
 ) (write_elements_at t) write-elements.Post write_elements_Inv_loop write-elements-μ-loop
 write_elements_returns t c =
     let a = c.before.before.before.before.args in
-    going-last c.before.loop.invariant.1 (lines_end a.depth a.s.now c.before.loop.here a.end c.loop-test.false)
+    going_last c.before.loop.invariant.1 (lines_end a.depth a.s.now c.before.loop.here a.end c.loop-test.false)
 
 pub +write-element-write-elements-spec : {M : Type 1} → statement M
 +write-element-write-elements-spec =

@@ -1,7 +1,7 @@
 use Rattle.laws.proofs.Parts.{part_slice}
 use Rattle.explanations.specs.Elements.{contents_text}
 use borrow.Author.Tests.{eq-eqb, ne_eqb}
-use Rattle.explanations.proofs.Pens.{pen_none, pen-then}
+use Rattle.explanations.proofs.Pens.{pen_none, pen_then}
 use borrow.Author.Rules.{rules}
 use Rattle.explanations.proofs.element.write_contents.Statement.{statement}
 use Rattle.explanations.proofs.element.write_contents.Tie as tie
@@ -42,7 +42,7 @@ returns-3 c =
       eq-eqb _ _ c.before.before.before.before.before.before.before.before.before.before.before.if1.false,
       ne_eqb _ _
           c.before.before.before.before.before.before.before.before.before.before.if2.false,
-    ) (pen-then
+    ) (pen_then
     c.before.before.before.before.before.before.before.write-text.ensures (rw (part_slice
     c.before.before.before.before.before.before.before.before.before.before.before.before.before.before.args.start
     c.before.before.before.before.before.before.before.before.before.before.before.before.before.before.args.stop

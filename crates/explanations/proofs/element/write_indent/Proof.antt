@@ -3,7 +3,7 @@ use mathlib.Core.Path.{◌≡◌, refl}
 use lib.ListN.{length}
 use Rattle.skip.specs.Depth.{component_depth}
 use Rattle.explanations.specs.Elements.{indent}
-use Rattle.explanations.proofs.Pens.{Going, going_first, going_next, going-last}
+use Rattle.explanations.proofs.Pens.{Going, going_first, going_next, going_last}
 use Rattle.explanations.proofs.Lines.{indent_step, indent_none}
 use borrow.Author.Rules.{rules}
 use Rattle.explanations.proofs.element.write_indent.Statement.{statement}
@@ -42,7 +42,7 @@ same_length : tie.Need-same-length invariant-loop decreases-loop
 same_length c = search rules
 
 returns : tie.Need-returns invariant-loop decreases-loop
-returns c = going-last c.before.loop.invariant.1 (indent_none c.before.loop.d c.loop-test.false)
+returns c = going_last c.before.loop.invariant.1 (indent_none c.before.loop.d c.loop-test.false)
 
 pub write_indent_spec : {M : Type 1} → statement M
 write_indent_spec =

@@ -1,7 +1,7 @@
 use Prim.Native.Nat.{◌+◌}
 use Rattle.laws.proofs.Parts.{part_slice}
 use Rattle.explanations.specs.Elements.{element_line}
-use Rattle.explanations.proofs.Pens.{pen-then}
+use Rattle.explanations.proofs.Pens.{pen_then}
 use borrow.Author.Rules.{rules}
 use Rattle.explanations.proofs.element.write_line.Statement.{statement}
 use Rattle.explanations.proofs.element.write_line.Tie as tie
@@ -67,7 +67,7 @@ returns : tie.Need-returns
 unfolding element_line
 returns c =
     let a = c.before.before.before.before.before.before.before.before.before.before.before.before.before.before.before.before.before.before.before.before.before.before.before.before.before.before.before.before.before.before.before.before.before.before.before.args in
-    pen-then (pen-then (pen-then (pen-then (pen-then (pen-then
+    pen_then (pen_then (pen_then (pen_then (pen_then (pen_then
     c.before.before.before.before.before.before.before.before.before.before.before.before.before.before.before.before.before.before.before.before.before.before.before.before.before.before.before.before.before.before.before.write-indent.ensures
     c.before.before.before.before.before.before.before.before.before.before.before.before.before.before.before.before.before.before.before.before.before.before.before.before.before.before.write-text.ensures)
     (rw (part_slice a.at (a.at + 1) a.s.now) at

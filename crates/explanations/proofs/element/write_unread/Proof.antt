@@ -1,6 +1,6 @@
 use Rattle.laws.proofs.Parts.{part_slice}
 use Rattle.explanations.specs.Elements.{unread_line}
-use Rattle.explanations.proofs.Pens.{pen-then}
+use Rattle.explanations.proofs.Pens.{pen_then}
 use borrow.Author.Rules.{rules}
 use Rattle.explanations.proofs.element.write_unread.Statement.{statement}
 use Rattle.explanations.proofs.element.write_unread.Tie as tie
@@ -39,7 +39,7 @@ returns : tie.Need-returns
 unfolding unread_line
 returns c =
     let a = c.before.before.before.before.before.before.before.before.before.before.before.before.before.before.before.before.before.before.before.before.before.args in
-    pen-then (pen-then (pen-then
+    pen_then (pen_then (pen_then
     c.before.before.before.before.before.before.before.before.before.before.before.before.before.before.before.before.before.write-indent.ensures
     c.before.before.before.before.before.before.before.before.before.before.before.before.write-text.ensures)
     (rw (part_slice a.at a.end a.s.now) at c.before.before.before.before.before.before.before.write-hex.ensures))

@@ -1,7 +1,7 @@
 use Prim.Native.Nat.{◌-◌}
 use mathlib.Core.Path.{◌≡◌, refl}
 use lib.ListN.{length, drop, drop_of_length-le}
-use Rattle.explanations.proofs.Pens.{Going, going_first, going_next, going-last}
+use Rattle.explanations.proofs.Pens.{Going, going_first, going_next, going_last}
 use Rattle.explanations.proofs.Words.{text_step}
 use borrow.Author.Rules.{rules}
 use Rattle.explanations.proofs.pen.write_text.Statement.{statement}
@@ -41,7 +41,7 @@ same_length : tie.Need-same-length invariant-loop decreases-loop
 same_length c = search rules
 
 returns : tie.Need-returns invariant-loop decreases-loop
-returns c = going-last c.before.loop.invariant.1 (drop_of_length-le _ c.loop-test.false)
+returns c = going_last c.before.loop.invariant.1 (drop_of_length-le _ c.loop-test.false)
 
 pub write_text_spec : {M : Type 1} → statement M
 write_text_spec =

@@ -1,5 +1,5 @@
 use Rattle.explanations.specs.Text.{argument_text}
-use Rattle.explanations.proofs.Pens.{pen-then}
+use Rattle.explanations.proofs.Pens.{pen_then}
 use borrow.Author.Rules.{rules}
 use Rattle.explanations.proofs.request.write_argument.Statement.{statement}
 use Rattle.explanations.proofs.request.write_argument.Tie as tie
@@ -37,7 +37,7 @@ same_length c = search rules
 returns : tie.Need-returns
 unfolding argument_text
 returns c =
-    pen-then (pen-then (pen-then (pen-then (pen-then
+    pen_then (pen_then (pen_then (pen_then (pen_then
     c.before.before.before.before.before.before.before.before.before.before.before.before.before.before.before.before.before.before.before.before.before.before.before.before.before.write-procedure.ensures
     c.before.before.before.before.before.before.before.before.before.before.before.before.before.before.before.before.before.before.before.before.write-text.ensures)
     c.before.before.before.before.before.before.before.before.before.before.before.before.before.before.before.write-decimal.ensures)

@@ -1,5 +1,5 @@
-use Rattle.listings.proofs.Words.{kind-unknown, kind-public}
-use Rattle.explanations.proofs.Pens.{pen-then}
+use Rattle.listings.proofs.Words.{kind_unknown, kind_public}
+use Rattle.explanations.proofs.Pens.{pen_then}
 use borrow.Author.Rules.{rules}
 use Rattle.explanations.proofs.request.write_kind.Statement.{statement}
 use Rattle.explanations.proofs.request.write_kind.Tie as tie
@@ -14,7 +14,7 @@ same_length : tie.Need-same-length
 same_length c = search rules
 
 returns : tie.Need-returns
-returns c = rw (kind-unknown _ _ c.before.before.before.before.before.if1.true) c.before.before.write-text.ensures
+returns c = rw (kind_unknown _ _ c.before.before.before.before.before.if1.true) c.before.before.write-text.ensures
 
 slice-aggregate-write-text-2 : tie.Need-slice-aggregate-write-text-2
 slice-aggregate-write-text-2 c = search rules
@@ -36,8 +36,8 @@ same-length-2 c = search rules
 
 returns_2 : tie.Need-returns-2
 returns_2 c =
-    rw (kind-public _ _ c.before.before.before.before.before.before.before.before.before.before.before.before.before.before.if1.false) (pen-then
-    c.before.before.before.before.before.before.before.before.before.before.before.write-text2.ensures (pen-then
+    rw (kind_public _ _ c.before.before.before.before.before.before.before.before.before.before.before.before.before.before.if1.false) (pen_then
+    c.before.before.before.before.before.before.before.before.before.before.before.write-text2.ensures (pen_then
     c.before.before.before.before.before.before.before.write-decimal.ensures c.before.before.write-text3.ensures))
 
 pub write_kind_spec : {M : Type 1} → statement M

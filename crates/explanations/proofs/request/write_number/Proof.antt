@@ -5,7 +5,7 @@ use lib.Seq.{length-take-le}
 use Rattle.numbers.specs.Number.{most}
 use Rattle.explanations.specs.Text.{number_text}
 use borrow.Author.Tests.{eq-eqb, ne_eqb}
-use Rattle.explanations.proofs.Pens.{pen-then}
+use Rattle.explanations.proofs.Pens.{pen_then}
 use borrow.Author.Rules.{rules}
 use Rattle.explanations.proofs.request.write_number.Statement.{statement}
 use Rattle.explanations.proofs.request.write_number.Tie as tie
@@ -54,7 +54,7 @@ unfolding number_text
 returns_2 c =
     let digits = rw c.before.before.before.before.before.before.before.before.before.stored.ensures at
     c.before.before.write-text2.ensures in
-    rw (ne_eqb _ _ c.before.before.before.before.before.before.before.before.before.before.before.if1.false) (pen-then
+    rw (ne_eqb _ _ c.before.before.before.before.before.before.before.before.before.before.before.if1.false) (pen_then
     c.before.before.before.before.before.before.before.write-kind.ensures digits)
 
 pub write_number_spec : {M : Type 1} → statement M

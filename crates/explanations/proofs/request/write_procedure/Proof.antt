@@ -1,4 +1,4 @@
-use Rattle.listings.proofs.Words.{name-cfu, name-cfb, name-cfnr}
+use Rattle.listings.proofs.Words.{name_cfu, name_cfb, name_cfnr}
 use borrow.Author.Rules.{rules}
 use Rattle.explanations.proofs.request.write_procedure.Statement.{statement}
 use Rattle.explanations.proofs.request.write_procedure.Tie as tie
@@ -13,7 +13,7 @@ same_length : tie.Need-same-length
 same_length c = search rules
 
 returns : tie.Need-returns
-returns c = rw (name-cfu _ c.before.before.before.before.before.if1.true) c.before.before.write-text.ensures
+returns c = rw (name_cfu _ c.before.before.before.before.before.if1.true) c.before.before.write-text.ensures
 
 slice-aggregate-write-text-2 : tie.Need-slice-aggregate-write-text-2
 slice-aggregate-write-text-2 c = search rules
@@ -26,7 +26,7 @@ same-length-2 c = search rules
 
 returns_2 : tie.Need-returns-2
 returns_2 c =
-    rw (name-cfb _ c.before.before.before.before.before.before.if1.false c.before.before.before.before.before.if2.true)
+    rw (name_cfb _ c.before.before.before.before.before.before.if1.false c.before.before.before.before.before.if2.true)
     c.before.before.write-text2.ensures
 
 slice-aggregate-write-text-3 : tie.Need-slice-aggregate-write-text-3
@@ -40,7 +40,7 @@ same-length-3 c = search rules
 
 returns-3 : tie.Need-returns-3
 returns-3 c =
-    rw (name-cfnr _ c.before.before.before.before.before.before.if1.false c.before.before.before.before.before.if2.false)
+    rw (name_cfnr _ c.before.before.before.before.before.before.if1.false c.before.before.before.before.before.if2.false)
     c.before.before.write-text3.ensures
 
 pub write_procedure_spec : {M : Type 1} → statement M

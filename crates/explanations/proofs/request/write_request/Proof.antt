@@ -1,6 +1,6 @@
 use mir.Facts.{to_z-of_z}
 use Rattle.explanations.specs.Text.{request_line}
-use Rattle.explanations.proofs.Pens.{pen-then}
+use Rattle.explanations.proofs.Pens.{pen_then}
 use borrow.Author.Rules.{rules}
 use Rattle.explanations.proofs.request.write_request.Statement.{statement}
 use Rattle.explanations.proofs.request.write_request.Tie as tie
@@ -39,7 +39,7 @@ returns : tie.Need-returns
 unfolding request_line
 returns c =
     let id = to_z-of_z c.before.before.before.before.before.before.before.before.before.before.before.before.before.before.before.before.before.before.before.before.before.before.before.before.before.before.before.before.ranges.identifier in
-    pen-then (pen-then (pen-then (pen-then (pen-then
+    pen_then (pen_then (pen_then (pen_then (pen_then
     c.before.before.before.before.before.before.before.before.before.before.before.before.before.before.before.before.before.before.before.before.before.before.before.before.write-text.ensures
     (rw id at c.before.before.before.before.before.before.before.before.before.before.before.before.before.before.before.before.before.before.before.before.write-signed.ensures))
     c.before.before.before.before.before.before.before.before.before.before.before.before.before.before.before.write-text2.ensures)

@@ -1,6 +1,6 @@
 use Rattle.explanations.specs.Text.{to_text}
 use borrow.Author.Tests.{eq-eqb, ne_eqb}
-use Rattle.explanations.proofs.Pens.{pen_none, pen-then}
+use Rattle.explanations.proofs.Pens.{pen_none, pen_then}
 use borrow.Author.Rules.{rules}
 use Rattle.explanations.proofs.request.write_to.Statement.{statement}
 use Rattle.explanations.proofs.request.write_to.Tie as tie
@@ -34,7 +34,7 @@ returns_2 : tie.Need-returns-2
 unfolding to_text
 returns_2 c =
     rw (eq-eqb _ _ c.before.before.before.before.before.before.before.before.before.before.before.before.before.before.before.before.before.before.before.before.if1.false)
-    (pen-then (pen-then (pen-then
+    (pen_then (pen_then (pen_then
     c.before.before.before.before.before.before.before.before.before.before.before.before.before.before.before.write-text.ensures
     c.before.before.before.before.before.before.before.before.before.before.before.write-number.ensures)
     c.before.before.before.before.before.before.write-text2.ensures)

@@ -5,7 +5,7 @@ use mir.Syntax.{w16}
 use borrow.Author.Tests.{not-true, not-false}
 use Rattle.requests.specs.Request.{argument_at}
 use Rattle.explanations.specs.Explained.{operation_no, asked_text}
-use Rattle.explanations.proofs.Rows.{argument-untold, argument-told}
+use Rattle.explanations.proofs.Rows.{argument_untold, argument_told}
 use borrow.Author.Rules.{rules}
 use Rattle.explanations.proofs.row.write_asked.Statement.{statement}
 use Rattle.explanations.proofs.row.write_asked.Tie as tie
@@ -59,7 +59,7 @@ returns_2 c =
     let known = rw number at (sym c.before.before.before.before.before.before.before.before.before.is-operation.ensures
     ∙ not-false _
     c.before.before.before.before.before.before.before.before.if1.false) in
-    let none = argument-untold a.identifier (operation_no a.operation.value)
+    let none = argument_untold a.identifier (operation_no a.operation.value)
     (argument_at a.operation a.s.now a.at a.end) _
     c.before.before.before.before.before.before.before.argument-at.ensures (not-true _
     c.before.before.before.before.before.if2.true) in
@@ -82,7 +82,7 @@ returns-3 c =
     let known = rw number at (sym c.before.before.before.before.before.before.before.before.before.is-operation.ensures
     ∙ not-false _
     c.before.before.before.before.before.before.before.before.if1.false) in
-    let found = argument-told a.identifier (operation_no a.operation.value) (argument_at a.operation a.s.now a.at a.end) _
+    let found = argument_told a.identifier (operation_no a.operation.value) (argument_at a.operation a.s.now a.at a.end) _
     c.before.before.before.before.before.before.before.argument-at.ensures (not-false _
     c.before.before.before.before.before.if2.false) in
     rw (known, found) (rw (id, number) at c.before.before.write-request.ensures)

@@ -2,7 +2,7 @@ use mathlib.Core.Path.{sym, ◌∙◌}
 use mir.Facts.{to_z-of_z}
 use mir.Val.{SFits}
 use mir.Syntax.{w16}
-use Rattle.explanations.proofs.Pens.{pen-then}
+use Rattle.explanations.proofs.Pens.{pen_then}
 use borrow.Author.Rules.{rules}
 use Rattle.explanations.proofs.row.write_own.Statement.{statement}
 use Rattle.explanations.proofs.row.write_own.Tie as tie
@@ -42,8 +42,8 @@ returns c =
     let id : SFits w16 c.before.before.before.before.before.before.before.before.before.before.before.before.before.before.value.given.0.0 = search rules in
     let found = sym c.before.before.before.before.before.before.before.before.before.before.before.before.before.before.before.before.ident-at.ensures
     ∙ c.before.before.before.before.before.before.before.before.before.before.before.before.before.before.value.given.1 in
-    rw found (pen-then c.before.before.before.before.before.before.before.before.before.before.write-text.ensures
-    (pen-then (rw
+    rw found (pen_then c.before.before.before.before.before.before.before.before.before.before.write-text.ensures
+    (pen_then (rw
     (to_z-of_z id) at c.before.before.before.before.before.before.write-signed.ensures) c.before.before.write-value.ensures))
 
 same-length-2 : tie.Need-same-length-2

@@ -1,6 +1,6 @@
 use mathlib.Core.Path.{sym, ◌∙◌}
 use Rattle.explanations.specs.Explained.{reply_text, reply_of}
-use Rattle.explanations.proofs.Pens.{pen_none, pen-then}
+use Rattle.explanations.proofs.Pens.{pen_none, pen_then}
 use borrow.Author.Rules.{rules}
 use Rattle.explanations.proofs.row.write_reply.Statement.{statement}
 use Rattle.explanations.proofs.row.write_reply.Tie as tie
@@ -27,7 +27,7 @@ returns : tie.Need-returns
 unfolding reply_of reply_text
 returns c =
     rw (sym c.before.before.before.before.before.before.before.before.before.before.before.head_at.ensures
-    ∙ c.before.before.before.before.before.before.before.before.before.tag.given.1) (pen-then
+    ∙ c.before.before.before.before.before.before.before.before.before.tag.given.1) (pen_then
     c.before.before.before.before.before.before.write-reply-word.ensures c.before.before.write-own.ensures)
 
 returns_2 : tie.Need-returns-2

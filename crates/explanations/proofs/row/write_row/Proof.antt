@@ -1,5 +1,5 @@
 use mir.Facts.{to_z-of_z}
-use Rattle.explanations.proofs.Pens.{pen-then}
+use Rattle.explanations.proofs.Pens.{pen_then}
 use borrow.Author.Rules.{rules}
 use Rattle.explanations.proofs.row.write_row.Statement.{statement}
 use Rattle.explanations.proofs.row.write_row.Tie as tie
@@ -22,7 +22,7 @@ same_length c = search rules
 returns : tie.Need-returns
 returns c =
     let id = to_z-of_z c.before.before.before.before.before.before.before.before.before.before.before.before.before.before.before.ranges.identifier in
-    pen-then (pen-then c.before.before.before.before.before.before.before.before.before.before.before.write-text.ensures
+    pen_then (pen_then c.before.before.before.before.before.before.before.before.before.before.before.write-text.ensures
     (rw id at
     c.before.before.before.before.before.before.before.write-signed.ensures)) c.before.before.write-text2.ensures
 

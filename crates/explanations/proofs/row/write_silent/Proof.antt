@@ -1,4 +1,4 @@
-use Rattle.explanations.proofs.Pens.{pen-then}
+use Rattle.explanations.proofs.Pens.{pen_then}
 use borrow.Author.Rules.{rules}
 use Rattle.explanations.proofs.row.write_silent.Statement.{statement}
 use Rattle.explanations.proofs.row.write_silent.Tie as tie
@@ -23,7 +23,7 @@ same_length c = search rules
 
 returns : tie.Need-returns
 returns c =
-    pen-then (pen-then c.before.before.before.before.before.before.before.before.before.before.before.write-text.ensures
+    pen_then (pen_then c.before.before.before.before.before.before.before.before.before.before.before.write-text.ensures
     c.before.before.before.before.before.before.before.write-reply.ensures) c.before.before.write-text2.ensures
 
 pub write_silent_spec : {M : Type 1} → statement M

@@ -4,7 +4,7 @@ use mir.Val.{SFits}
 use mir.Syntax.{w16}
 use Rattle.explanations.specs.Explained.{value_text}
 use borrow.Author.Tests.{eq-eqb, ne_eqb}
-use Rattle.explanations.proofs.Pens.{pen_none, pen-then}
+use Rattle.explanations.proofs.Pens.{pen_none, pen_then}
 use borrow.Author.Rules.{rules}
 use Rattle.explanations.proofs.row.write_value.Statement.{statement}
 use Rattle.explanations.proofs.row.write_value.Tie as tie
@@ -51,7 +51,7 @@ returns_2 c =
       eq-eqb _ _ c.before.before.before.before.before.before.before.before.before.before.before.before.before.if1.false,
       found,
     )
-    (pen-then c.before.before.before.before.before.before.write-text.ensures (rw (to_z-of_z id) at
+    (pen_then c.before.before.before.before.before.before.write-text.ensures (rw (to_z-of_z id) at
     c.before.before.write-signed.ensures))
 
 same-length-2 : tie.Need-same-length-2

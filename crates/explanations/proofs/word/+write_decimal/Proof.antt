@@ -1,7 +1,7 @@
 use native.Mathlib.Omega.{arith}
 use borrow.Author.Rules.{rules}
 use Rattle.listings.proofs.Words.{decimal_one, decimal_more}
-use Rattle.explanations.proofs.Pens.{pen-then}
+use Rattle.explanations.proofs.Pens.{pen_then}
 use Prim.Native.Nat.{ℕ, ◌<◌}
 use borrow.Fn.Kinds.{In}
 use borrow.Fn.PlainCycle.{Measures, is, falls, and}
@@ -115,7 +115,7 @@ write_decimal_returns_2 : (t : ℕ) → write-decimal-lts.Need-returns-2 (
 ) (write_decimal_at t) write-decimal.Post
 write_decimal_returns_2 t c =
     rw (decimal_more _ c.before.before.before.before.before.before.before.before.if1.false (omega
-    (arith, c.before.before.before.before.before.before.before.before.before.before.ranges.n))) (pen-then
+    (arith, c.before.before.before.before.before.before.before.before.before.before.ranges.n))) (pen_then
     c.before.before.before.before.before.before.write-decimal.ensures c.before.before.pen2.ensures)
 
 pub +write-decimal-spec : {M : Type 1} → statement M

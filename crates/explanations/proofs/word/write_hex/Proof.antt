@@ -2,7 +2,7 @@ use Prim.Native.Nat.{◌-◌}
 use mathlib.Core.Path.{◌≡◌, refl}
 use lib.ListN.{length, drop}
 use Rattle.listings.specs.Listing.{hex_text}
-use Rattle.explanations.proofs.Pens.{Going, going_first, going_next, going-last}
+use Rattle.explanations.proofs.Pens.{Going, going_first, going_next, going_last}
 use Rattle.explanations.proofs.Words.{hex_step, hex_past}
 use borrow.Author.Rules.{rules}
 use Rattle.explanations.proofs.word.write_hex.Statement.{statement}
@@ -43,7 +43,7 @@ same_length c = search rules
 
 returns : tie.Need-returns invariant-loop decreases-loop
 returns c =
-    going-last c.before.loop.invariant.1
+    going_last c.before.loop.invariant.1
     (hex_past c.before.before.before.before.args.octets.now c.before.loop.i c.loop-test.false)
 
 pub write_hex_spec : {M : Type 1} → statement M

@@ -1,4 +1,4 @@
-use Rattle.explanations.proofs.Pens.{pen-then}
+use Rattle.explanations.proofs.Pens.{pen_then}
 use borrow.Author.Rules.{rules}
 use Rattle.explanations.proofs.word.write_pair.Statement.{statement}
 use Rattle.explanations.proofs.word.write_pair.Tie as tie
@@ -21,7 +21,7 @@ same_length c = search rules
 returns : tie.Need-returns
 returns c =
     rw (← c.before.before.before.before.before.before.before.before.hex-of.ensures, ← c.before.before.before.hex-of2.ensures)
-    (pen-then c.before.before.before.before.before.before.before.pen.ensures c.before.before.pen2.ensures)
+    (pen_then c.before.before.before.before.before.before.before.pen.ensures c.before.before.pen2.ensures)
 
 pub write_pair_spec : {M : Type 1} → statement M
 write_pair_spec =

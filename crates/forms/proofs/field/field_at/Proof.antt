@@ -1,4 +1,4 @@
-use Rattle.forms.proofs.Fields.{field_is, field-large, field-bad}
+use Rattle.forms.proofs.Fields.{field_is, field_large, field_bad}
 use mathlib.Core.Path.{sym, ◌∙◌}
 use borrow.Author.Rules.{rules}
 use Rattle.forms.proofs.field.field_at.Statement.{statement}
@@ -30,13 +30,13 @@ returns c =
 returns_2 : tie.Need-returns-2
 returns_2 c =
     let a = c.before.before.before.before.before.args in
-    rw (field-large a.s.now a.at _ (sym c.before.before.before.groups-at.ensures ∙ c.before.enum_told.given.1))
+    rw (field_large a.s.now a.at _ (sym c.before.before.before.groups-at.ensures ∙ c.before.enum_told.given.1))
     c.no_field.ensures
 
 returns-3 : tie.Need-returns-3
 returns-3 c =
     let a = c.before.before.before.before.before.args in
-    rw (field-bad a.s.now a.at (sym c.before.before.before.groups-at.ensures ∙ c.before.enum-told2.given.1))
+    rw (field_bad a.s.now a.at (sym c.before.before.before.groups-at.ensures ∙ c.before.enum-told2.given.1))
     c.no-field2.ensures
 
 pub field_at_spec : {M : Type 1} → statement M

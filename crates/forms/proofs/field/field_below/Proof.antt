@@ -1,6 +1,6 @@
 use mathlib.Core.Path.{sym, ap, ◌∙◌}
 use Rattle.forms.specs.inner.Reading.{any_field, field_read}
-use Rattle.forms.proofs.Fields.{field_found, field_none, below-is, below-not, below_none}
+use Rattle.forms.proofs.Fields.{field_found, field_none, below_is, below_not, below_none}
 use borrow.Author.Tests.{not-true, not-false}
 use borrow.Author.Rules.{rules}
 use Rattle.forms.proofs.field.field_below.Statement.{statement}
@@ -25,7 +25,7 @@ no-field-requires-2 c κs = search rules
 returns_2 : tie.Need-returns-2
 returns_2 c =
     let a = c.before.before.before.before.before.before.args in
-    rw (below-not a.s.now a.at a.below _ _
+    rw (below_not a.s.now a.at a.below _ _
     (field_found (any_field _ _) _ c.before.before.before.before.field_at.ensures (not-false _ c.before.before.if1.false))
     c.before.if2.true)
     c.no-field2.ensures
@@ -35,7 +35,7 @@ returns-3 c =
     let a = c.before.before.before.before.before.args in
     let found = field_found (any_field _ _) _ c.before.before.before.field_at.ensures (not-false _ c.before.if1.false) in
     c.before.before.before.field_at.ensures
-    ∙ ap field_read (found ∙ sym (below-is a.s.now a.at a.below _ _ found c.if2.false))
+    ∙ ap field_read (found ∙ sym (below_is a.s.now a.at a.below _ _ found c.if2.false))
 
 pub field_below_spec : {M : Type 1} → statement M
 field_below_spec =

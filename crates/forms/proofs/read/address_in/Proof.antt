@@ -1,5 +1,5 @@
-use Rattle.forms.proofs.Fields.{field_found, field_none, below-small, fields_found, fields_none}
-use Rattle.forms.proofs.Readers.{address-no-number, address-no-count, address-no-octets, address_found}
+use Rattle.forms.proofs.Fields.{field_found, field_none, below_small, fields_found, fields_none}
+use Rattle.forms.proofs.Readers.{address_no_number, address_no_count, address_no_octets, address_found}
 use Rattle.forms.specs.inner.Reading.{field_below, fields_below, number_from_fields}
 use Rattle.numbers.proofs.Readers.{number_found, number_none}
 use borrow.Author.Tests.{not-true, not-false}
@@ -18,7 +18,7 @@ returns : tie.Need-returns
 returns c =
     let a = c.before.before.before.before.before.args in
     let none = number_none (number_from_fields _ _) _ c.before.before.before.number_in_lem.ensures (not-true _ c.before.if1.true) in
-    rw (address-no-number a.s.now a.at none) c.no-forwarded.ensures
+    rw (address_no_number a.s.now a.at none) c.no-forwarded.ensures
 
 field-below-requires : tie.Need-field-below-requires
 field-below-requires c κs = search rules
@@ -32,7 +32,7 @@ returns_2 c =
     let number = number_found (number_from_fields _ _) _ c.before.before.before.before.before.before.number_in_lem.ensures
     (not-false _ c.before.before.before.before.if1.false) in
     let none = field_none (field_below _ _ _) _ c.before.before.before.field_below.ensures (not-true _ c.before.if2.true) in
-    rw (address-no-count a.s.now a.at _ _ number none) c.no-forwarded2.ensures
+    rw (address_no_count a.s.now a.at _ _ number none) c.no-forwarded2.ensures
 
 cast-fields-below : tie.Need-overflow-cast-fields-below
 cast-fields-below c = search rules
@@ -41,7 +41,7 @@ fields-below-requires : tie.Need-fields-below-requires
 fields-below-requires c κs =
     let a = c.before.before.before.before.before.before.before.before.args in
     let count = field_found (field_below _ _ _) _ c.before.before.before.field_below.ensures (not-false _ c.before.if2.false) in
-    (omega (arith, below-small a.s.now _ 21 _ _ count), omega arith)
+    (omega (arith, below_small a.s.now _ 21 _ _ count), omega arith)
 
 no-forwarded-requires-3 : tie.Need-no-forwarded-requires-3
 no-forwarded-requires-3 c κs = search rules
@@ -56,7 +56,7 @@ returns-3 c =
     (not-false _ c.before.before.before.before.before.if2.false) in
     let none = fields_none 0 (fields_below _ _ _ _) _ c.before.before.before.fields-below.ensures
     (not-true _ c.before.if3.true) in
-    rw (address-no-octets a.s.now a.at _ _ number _ _ count none) c.no-forwarded3.ensures
+    rw (address_no_octets a.s.now a.at _ _ number _ _ count none) c.no-forwarded3.ensures
 
 cast-t10 : tie.Need-overflow-cast-t10
 cast-t10 c =
@@ -64,7 +64,7 @@ cast-t10 c =
     let count = field_found (field_below _ _ _) _
     c.before.before.before.before.before.before.before.before.before.field_below.ensures
     (not-false _ c.before.before.before.before.before.before.before.if2.false) in
-    omega (arith, below-small a.s.now _ 21 _ _ count)
+    omega (arith, below_small a.s.now _ 21 _ _ count)
 
 returns-4 : tie.Need-returns-4
 returns-4 c =

@@ -1,4 +1,4 @@
-use Rattle.forms.proofs.Fields.{field_found, field_none, below-small}
+use Rattle.forms.proofs.Fields.{field_found, field_none, below_small}
 use Rattle.forms.proofs.Readers.{forwarded_found, forwarded_none, service_octet}
 use Rattle.forms.specs.Instance.{field_at, service_of, address_from, instance_from}
 use Rattle.forms.specs.inner.Reading.{field_below}
@@ -86,7 +86,7 @@ cast-t11 c =
     (not-false _ c.before.before.before.before.before.before.before.before.before.before.before.before.if1.false) in
     let few : a.f.procedures < 256 = search
     (rules, c.before.before.before.before.before.before.before.before.before.before.before.before.before.before.before.before.before.well-formed) in
-    omega (arith, few, below-small a.s.now _ a.f.procedures _ _ procedure)
+    omega (arith, few, below_small a.s.now _ a.f.procedures _ _ procedure)
 
 cast-t12 : tie.Need-overflow-cast-t12
 cast-t12 c =
@@ -98,7 +98,7 @@ cast-t12 c =
       rules,
       c.before.before.before.before.before.before.before.before.before.before.before.before.before.before.before.before.before.before.well-formed,
     ) in
-    omega (arith, few, below-small a.s.now _ a.f.numbers _ _ number)
+    omega (arith, few, below_small a.s.now _ a.f.numbers _ _ number)
 
 cast-t13 : tie.Need-overflow-cast-t13
 cast-t13 c =

@@ -1,5 +1,5 @@
-use Rattle.forms.proofs.Fields.{field_found, field_none, below-small, fields_found, fields_none}
-use Rattle.forms.proofs.Readers.{number-no-form, number-no-kind, number-no-count, number-no-digits, number-refused, number_found}
+use Rattle.forms.proofs.Fields.{field_found, field_none, below_small, fields_found, fields_none}
+use Rattle.forms.proofs.Readers.{number_no_form, number_no_kind, number_no_count, number_no_digits, number_refused, number_found}
 use Rattle.forms.specs.inner.Reading.{field_below, fields_below}
 use borrow.Author.Tests.{not-true, not-false}
 use native.Mathlib.Omega.{arith}
@@ -18,7 +18,7 @@ returns : tie.Need-returns
 returns c =
     let a = c.before.before.before.before.before.args in
     let none = field_none (field_below _ _ _) _ c.before.before.before.field_below.ensures (not-true _ c.before.if1.true) in
-    rw (number-no-form a.s.now a.at none) c.no_number.ensures
+    rw (number_no_form a.s.now a.at none) c.no_number.ensures
 
 field-below-requires-2 : tie.Need-field-below-requires-2
 field-below-requires-2 c κs = search rules
@@ -32,7 +32,7 @@ returns_2 c =
     let form = field_found (field_below _ _ _) _ c.before.before.before.before.before.before.field_below.ensures
     (not-false _ c.before.before.before.before.if1.false) in
     let none = field_none (field_below _ _ _) _ c.before.before.before.field-below2.ensures (not-true _ c.before.if2.true) in
-    rw (number-no-kind a.s.now a.at _ _ form none) c.no-number2.ensures
+    rw (number_no_kind a.s.now a.at _ _ form none) c.no-number2.ensures
 
 field-below-requires-3 : tie.Need-field-below-requires-3
 field-below-requires-3 c κs = search rules
@@ -49,7 +49,7 @@ returns-3 c =
     let kind = field_found (field_below _ _ _) _ c.before.before.before.before.before.before.field-below2.ensures
     (not-false _ c.before.before.before.before.if2.false) in
     let none = field_none (field_below _ _ _) _ c.before.before.before.field-below3.ensures (not-true _ c.before.if3.true) in
-    rw (number-no-count a.s.now a.at _ _ form _ _ kind none) c.no-number3.ensures
+    rw (number_no_count a.s.now a.at _ _ form _ _ kind none) c.no-number3.ensures
 
 cast-fields-below : tie.Need-overflow-cast-fields-below
 cast-fields-below c = search rules
@@ -58,7 +58,7 @@ fields-below-requires : tie.Need-fields-below-requires
 fields-below-requires c κs =
     let a = c.before.before.before.before.before.before.before.before.before.before.before.args in
     let count = field_found (field_below _ _ _) _ c.before.before.before.field-below3.ensures (not-false _ c.before.if3.false) in
-    (omega (arith, below-small a.s.now _ 21 _ _ count), omega arith)
+    (omega (arith, below_small a.s.now _ 21 _ _ count), omega arith)
 
 no-number-requires-4 : tie.Need-no-number-requires-4
 no-number-requires-4 c κs = search rules
@@ -77,7 +77,7 @@ returns-4 c =
     (not-false _ c.before.before.before.before.before.if3.false) in
     let none = fields_none 48 (fields_below _ _ _ _) _ c.before.before.before.fields-below.ensures
     (not-true _ c.before.if4.true) in
-    rw (number-no-digits a.s.now a.at _ _ form _ _ kind _ _ count none) c.no-number4.ensures
+    rw (number_no_digits a.s.now a.at _ _ form _ _ kind _ _ count none) c.no-number4.ensures
 
 cast-t11 : tie.Need-overflow-cast-t11
 cast-t11 c =
@@ -85,7 +85,7 @@ cast-t11 c =
     let form = field_found (field_below _ _ _) _
     c.before.before.before.before.before.before.before.before.before.before.before.before.before.before.field_below.ensures
     (not-false _ c.before.before.before.before.before.before.before.before.before.before.before.before.if1.false) in
-    omega (arith, below-small a.s.now _ 2 _ _ form)
+    omega (arith, below_small a.s.now _ 2 _ _ form)
 
 cast-t12 : tie.Need-overflow-cast-t12
 cast-t12 c =
@@ -93,7 +93,7 @@ cast-t12 c =
     let kind = field_found (field_below _ _ _) _
     c.before.before.before.before.before.before.before.before.before.before.before.before.field-below2.ensures
     (not-false _ c.before.before.before.before.before.before.before.before.before.before.if2.false) in
-    omega (arith, below-small a.s.now _ 256 _ _ kind)
+    omega (arith, below_small a.s.now _ 256 _ _ kind)
 
 cast-t13 : tie.Need-overflow-cast-t13
 cast-t13 c =
@@ -101,7 +101,7 @@ cast-t13 c =
     let count = field_found (field_below _ _ _) _
     c.before.before.before.before.before.before.before.before.before.before.field-below3.ensures
     (not-false _ c.before.before.before.before.before.before.before.before.if3.false) in
-    omega (arith, below-small a.s.now _ 21 _ _ count)
+    omega (arith, below_small a.s.now _ 21 _ _ count)
 
 number-good-requires : tie.Need-number-good-requires
 number-good-requires c κs = search rules
@@ -124,8 +124,8 @@ returns-5 c =
     let digits = fields_found 48 (fields_below _ _ _ _) _
     c.before.before.before.before.before.before.before.before.before.fields-below.ensures
     (not-false _ c.before.before.before.before.before.before.before.if4.false) in
-    rw (number-refused a.s.now a.at _ _ form _ _ kind _ _ count _ digits
-    (sym c.before.before.number-good.ensures ∙ not-true _ c.before.if5.true)) c.no-number5.ensures
+    rw (number_refused a.s.now a.at _ _ form _ _ kind _ _ count _ digits
+    (sym c.before.before.number_good_lem.ensures ∙ not-true _ c.before.if5.true)) c.no-number5.ensures
 
 returns-6 : tie.Need-returns-6
 returns-6 c =
@@ -143,7 +143,7 @@ returns-6 c =
     c.before.before.before.before.before.before.before.before.fields-below.ensures
     (not-false _ c.before.before.before.before.before.before.if4.false) in
     rw (number_found a.s.now a.at _ _ form _ _ kind _ _ count _ digits
-    (sym c.before.number-good.ensures ∙ not-false _ c.if5.false))
+    (sym c.before.number_good_lem.ensures ∙ not-false _ c.if5.false))
 
 pub number_in_spec : {M : Type 1} → statement M
 number_in_spec =

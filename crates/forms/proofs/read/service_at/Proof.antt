@@ -1,5 +1,5 @@
-use Rattle.forms.proofs.Fields.{field_found, field_none, below-small}
-use Rattle.forms.proofs.Readers.{service-none, service_all, service-other, service-found}
+use Rattle.forms.proofs.Fields.{field_found, field_none, below_small}
+use Rattle.forms.proofs.Readers.{service_none, service_all, service_other, service_found}
 use Rattle.forms.specs.inner.Reading.{field_below, field_read}
 use borrow.Author.Tests.{not-true, not-false}
 use native.Mathlib.Omega.{arith}
@@ -18,13 +18,13 @@ returns : tie.Need-returns
 returns c =
     let a = c.before.before.before.before.before.args in
     let none = field_none (field_below _ _ _) _ c.before.before.before.field_below.ensures (not-true _ c.before.if1.true) in
-    rw (service-none a.s.now a.at none) c.no_field.ensures
+    rw (service_none a.s.now a.at none) c.no_field.ensures
 
 cast-code : tie.Need-overflow-cast-code
 cast-code c =
     let a = c.before.before.before.before.before.args in
     let found = field_found (field_below _ _ _) _ c.before.before.before.field_below.ensures (not-false _ c.before.if1.false) in
-    omega (arith, below-small a.s.now _ 256 _ _ found)
+    omega (arith, below_small a.s.now _ 256 _ _ found)
 
 no-field-requires-2 : tie.Need-no-field-requires-2
 no-field-requires-2 c κs = search rules
@@ -47,7 +47,7 @@ returns-3 c =
     let a = c.before.before.before.before.before.before.before.before.before.args in
     let found = field_found (field_below _ _ _) _ c.before.before.before.before.before.before.before.field_below.ensures
     (not-false _ c.before.before.before.before.before.if1.false) in
-    rw (service-other a.s.now a.at _ _ found c.before.before.before.if2.false
+    rw (service_other a.s.now a.at _ _ found c.before.before.before.if2.false
     (sym c.before.before.service-code.ensures ∙ not-true _ c.before.if3.true)) c.no-field3.ensures
 
 returns-4 : tie.Need-returns-4
@@ -55,7 +55,7 @@ returns-4 c =
     let a = c.before.before.before.before.before.before.before.before.args in
     let found = field_found (field_below _ _ _) _ c.before.before.before.before.before.before.field_below.ensures
     (not-false _ c.before.before.before.before.if1.false) in
-    let service = service-found a.s.now a.at _ _ found c.before.before.if2.false
+    let service = service_found a.s.now a.at _ _ found c.before.before.if2.false
     (sym c.before.service-code.ensures ∙ not-false _ c.if3.false) in
     c.before.before.before.before.before.before.field_below.ensures ∙ ap field_read (found ∙ sym service)
 

@@ -1,6 +1,6 @@
 use Rattle.forms.proofs.Instances.{instances_found, instances_none}
-use Rattle.forms.proofs.Sheets.{opening_found, opening_none, sheet-no-opening, sheet-many, sheet-no-instances, sheet-after}
-use Rattle.forms.proofs.Sheets.{sheet-disordered, sheet-read}
+use Rattle.forms.proofs.Sheets.{opening_found, opening_none, sheet_no_opening, sheet_many, sheet_no_instances, sheet_after}
+use Rattle.forms.proofs.Sheets.{sheet_disordered, sheet_read}
 use Rattle.forms.specs.Sheet.{instances_from}
 use Rattle.forms.specs.inner.Reading.{opening_in}
 use borrow.Author.Tests.{not-true, not-false}
@@ -18,7 +18,7 @@ returns : tie.Need-returns
 returns c =
     let a = c.before.before.before.before.before.args in
     let none = opening_none (opening_in a.f _) _ c.before.before.before.Opening-of.ensures (not-true _ c.before.if1.true) in
-    rw (sheet-no-opening a.f a.s.now none) c.no-form.ensures
+    rw (sheet_no_opening a.f a.s.now none) c.no-form.ensures
 
 cast-count : tie.Need-overflow-cast-count
 cast-count c = search rules
@@ -31,7 +31,7 @@ returns_2 c =
     let a = c.before.before.before.before.before.before.before.args in
     let opened = opening_found (opening_in a.f _) _ c.before.before.before.before.before.Opening-of.ensures
     (not-false _ c.before.before.before.if1.false) in
-    rw (sheet-many a.f a.s.now _ _ opened c.before.before.before.before.before.before.before.requires c.before.if2.true)
+    rw (sheet_many a.f a.s.now _ _ opened c.before.before.before.before.before.before.before.requires c.before.if2.true)
     c.no-form2.ensures
 
 instances-from-requires : tie.Need-instances-from-requires
@@ -48,7 +48,7 @@ returns-3 c =
     (not-false _ c.before.before.before.before.before.before.if1.false) in
     let none = instances_none (instances_from a.f _ _ _) _ c.before.before.before.instances-from.ensures
     (not-true _ c.before.if3.true) in
-    rw (sheet-no-instances a.f a.s.now _ _ opened none) c.no-form3.ensures
+    rw (sheet_no_instances a.f a.s.now _ _ opened none) c.no-form3.ensures
 
 no-form-requires-4 : tie.Need-no-form-requires-4
 no-form-requires-4 c κs = search rules
@@ -61,7 +61,7 @@ returns-4 c =
     (not-false _ c.before.before.before.before.before.before.before.before.if1.false) in
     let found = instances_found (instances_from a.f _ _ _) _ c.before.before.before.before.before.instances-from.ensures
     (not-false _ c.before.before.before.if3.false) in
-    rw (sheet-after a.f a.s.now _ _ opened _ _ found.is c.before.if4.true) c.no-form4.ensures
+    rw (sheet_after a.f a.s.now _ _ opened _ _ found.is c.before.if4.true) c.no-form4.ensures
 
 ordered-requires : tie.Need-ordered-requires
 ordered-requires c κs = search rules
@@ -79,7 +79,7 @@ returns-5 c =
     let found = instances_found (instances_from a.f _ _ _) _
     c.before.before.before.before.before.before.before.before.instances-from.ensures
     (not-false _ c.before.before.before.before.before.before.if3.false) in
-    rw (sheet-disordered a.f a.s.now _ _ opened _ _ found.is _ found.run
+    rw (sheet_disordered a.f a.s.now _ _ opened _ _ found.is _ found.run
     c.before.before.before.before.before.before.before.before.before.if2.false _
     c.before.before.ordered.ensures (not-true _ c.before.if5.true)) c.no-form5.ensures
 
@@ -92,7 +92,7 @@ returns-6 c =
     let found = instances_found (instances_from a.f _ _ _) _
     c.before.before.before.before.before.before.before.instances-from.ensures
     (not-false _ c.before.before.before.before.before.if3.false) in
-    sheet-read a.f a.s.now _ _ opened _ _ found.is _ found.run
+    sheet_read a.f a.s.now _ _ opened _ _ found.is _ found.run
     c.before.before.before.before.before.before.before.before.if2.false _
     c.before.ordered.ensures c.before.before.before.if4.false (not-false _ c.if5.false)
 

@@ -1,5 +1,5 @@
 use Rattle.forms.proofs.Readers.{instance_found, instance_none}
-use Rattle.forms.proofs.Instances.{Going, going_first, going-wrong, going_next, going-all}
+use Rattle.forms.proofs.Instances.{Going, going_first, going_wrong, going_next, going_all}
 use Rattle.forms.specs.Instance.{instance_from}
 use borrow.Author.Tests.{not-true, not-false}
 use borrow.Author.Rules.{rules}
@@ -33,7 +33,7 @@ returns c =
     let l = c.before.before.before.before.before.loop in
     let none = instance_none (instance_from _ _ _) _ c.before.before.before.instance-at.ensures
     (not-true _ c.before.if1.true) in
-    rw (going-wrong a.f a.s.now a.at a.count l.i l.here l.run.run l.invariant
+    rw (going_wrong a.f a.s.now a.at a.count l.i l.here l.run.run l.invariant
     c.before.before.before.before.loop-test.true none) c.no-instances.ensures
 
 mul-instance : tie.Need-overflow-mul-instance invariant-loop decreases-loop
@@ -65,7 +65,7 @@ returns_2 : tie.Need-returns-2 invariant-loop decreases-loop
 returns_2 c =
     let a = c.before.before.before.before.args in
     let l = c.before.loop in
-    going-all a.f a.s.now a.at a.count l.i l.here l.run.run l.invariant c.loop-test.false
+    going_all a.f a.s.now a.at a.count l.i l.here l.run.run l.invariant c.loop-test.false
 
 pub instances_from_spec : {M : Type 1} → statement M
 instances_from_spec =

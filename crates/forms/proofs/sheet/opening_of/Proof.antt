@@ -1,5 +1,5 @@
-use Rattle.forms.proofs.Fields.{field_found, field_none, below-small}
-use Rattle.forms.proofs.Sheets.{opening-no-form, opening-other, opening-no-last, opening-no-count, opening-is}
+use Rattle.forms.proofs.Fields.{field_found, field_none, below_small}
+use Rattle.forms.proofs.Sheets.{opening_no_form, opening_other, opening_no_last, opening_no_count, opening_is}
 use Rattle.forms.specs.inner.Reading.{any_field, field_below}
 use borrow.Author.Tests.{not-true, not-false}
 use Prim.Native.Nat.{◌+◌, ◌<◌}
@@ -17,7 +17,7 @@ no-opening-requires c κs = search rules
 returns : tie.Need-returns
 returns c =
     let a = c.before.before.before.before.before.args in
-    rw (opening-no-form a.f a.s.now
+    rw (opening_no_form a.f a.s.now
     (field_none (any_field _ _) _ c.before.before.before.field_at.ensures (not-true _ c.before.if1.true)))
     c.no-opening.ensures
 
@@ -32,7 +32,7 @@ returns_2 c =
     let a = c.before.before.before.before.before.before.before.before.args in
     let form = field_found (any_field _ _) _ c.before.before.before.before.before.before.field_at.ensures
     (not-false _ c.before.before.before.before.if1.false) in
-    rw (opening-other a.f a.s.now _ _ form c.before.if2.true) c.no-opening2.ensures
+    rw (opening_other a.f a.s.now _ _ form c.before.if2.true) c.no-opening2.ensures
 
 cast-most : tie.Need-overflow-cast-most
 cast-most c = search rules
@@ -53,7 +53,7 @@ returns-3 c =
     c.before.before.before.before.before.before.before.before.before.before.field_at.ensures
     (not-false _ c.before.before.before.before.before.before.before.before.if1.false) in
     let none = field_none (field_below _ _ _) _ c.before.before.before.field_below.ensures (not-true _ c.before.if3.true) in
-    rw (opening-no-last a.f a.s.now _ _ form c.before.before.before.before.before.if2.false none) c.no-opening3.ensures
+    rw (opening_no_last a.f a.s.now _ _ form c.before.before.before.before.before.if2.false none) c.no-opening3.ensures
 
 field-at-requires-2 : tie.Need-field-at-requires-2
 field-at-requires-2 c κs = search rules
@@ -71,7 +71,7 @@ returns-4 c =
     let last = field_found (field_below _ _ _) _ c.before.before.before.before.before.before.field_below.ensures
     (not-false _ c.before.before.before.before.if3.false) in
     let none = field_none (any_field _ _) _ c.before.before.before.field-at2.ensures (not-true _ c.before.if4.true) in
-    rw (opening-no-count a.f a.s.now _ _ form
+    rw (opening_no_count a.f a.s.now _ _ form
     c.before.before.before.before.before.before.before.before.if2.false _ _ last none)
     c.no-opening4.ensures
 
@@ -84,7 +84,7 @@ cast-t10 c =
     let few : a.f.lastmost < 65536 = search
     (rules, c.before.before.before.before.before.before.before.before.before.before.before.before.before.before.before.well-formed)
     in
-    omega (arith, few, below-small a.s.now _ (a.f.lastmost + 1) _ _ last)
+    omega (arith, few, below_small a.s.now _ (a.f.lastmost + 1) _ _ last)
 
 returns-5 : tie.Need-returns-5
 returns-5 c =
@@ -96,7 +96,7 @@ returns-5 c =
     let last = field_found (field_below _ _ _) _ c.before.before.before.before.before.before.field_below.ensures
     (not-false _ c.before.before.before.before.if3.false) in
     let count = field_found (any_field _ _) _ c.before.before.before.field-at2.ensures (not-false _ c.before.if4.false) in
-    rw (opening-is a.f a.s.now _ _ form
+    rw (opening_is a.f a.s.now _ _ form
     c.before.before.before.before.before.before.before.before.if2.false _ _ last _ _ count)
 
 pub opening_of_spec : {M : Type 1} → statement M

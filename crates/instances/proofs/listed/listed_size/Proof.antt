@@ -1,4 +1,4 @@
-use Rattle.lists.proofs.Writers.{Whole, number_few, address-few, entry-long}
+use Rattle.lists.proofs.Writers.{Whole, number_few, address_few, entry_long}
 use Rattle.lists.specs.Entry.{entry_of}
 use native.Mathlib.Omega.{arith}
 use borrow.Author.Rules.{rules}
@@ -31,7 +31,7 @@ add-result-2 c = let a = c.before.before.before.args in
           (rules, c.before.before.before.well-formed.1.0);
       sub = search (rules, c.before.before.before.well-formed.1.0);
     } in
-    omega (arith, c.address_size.ensures, c.before.number_size.ensures, number_few e whole, address-few e whole)
+    omega (arith, c.address_size.ensures, c.before.number_size.ensures, number_few e whole, address_few e whole)
 
 returns : tie.Need-returns
 returns c = let a = c.before.before.before.args in
@@ -42,9 +42,9 @@ returns c = let a = c.before.before.before.args in
           (rules, c.before.before.before.well-formed.1.0);
       sub = search (rules, c.before.before.before.well-formed.1.0);
     } in (
-      omega (arith, c.address_size.ensures, c.before.number_size.ensures, entry-long e whole),
+      omega (arith, c.address_size.ensures, c.before.number_size.ensures, entry_long e whole),
       omega
-          (arith, c.address_size.ensures, c.before.number_size.ensures, number_few e whole, address-few e whole),
+          (arith, c.address_size.ensures, c.before.number_size.ensures, number_few e whole, address_few e whole),
     )
 
 pub listed_size_spec : {M : Type 1} → statement M

@@ -1,4 +1,4 @@
-use Rattle.lists.proofs.Writers.{Whole, number_few, address-few, rest-size, entry_wrote}
+use Rattle.lists.proofs.Writers.{Whole, number_few, address_few, rest_size, entry_wrote}
 use Rattle.lists.proofs.Sizes.{fields_size}
 use Rattle.lists.specs.Entry.{entry_of}
 use native.Mathlib.Omega.{arith}
@@ -34,7 +34,7 @@ add-size-2 c = let a = c.before.before.before.before.before.args in
       sub = search
           (rules, c.before.before.before.before.before.well-formed.1.1.1.0);
     } in
-    omega (arith, c.number_size.ensures, c.before.address_size.ensures, number_few e whole, address-few e whole)
+    omega (arith, c.number_size.ensures, c.before.address_size.ensures, number_few e whole, address_few e whole)
 
 cast-put-head : tie.Need-overflow-cast-put-head
 cast-put-head c = let a = c.before.before.before.before.before.before.args in
@@ -46,7 +46,7 @@ cast-put-head c = let a = c.before.before.before.before.before.before.args in
       sub = search
           (rules, c.before.before.before.before.before.before.well-formed.1.1.1.0);
     } in
-    omega (arith, c.before.number_size.ensures, c.before.before.address_size.ensures, number_few e whole, address-few e whole)
+    omega (arith, c.before.number_size.ensures, c.before.before.address_size.ensures, number_few e whole, address_few e whole)
 
 put-head-requires : tie.Need-put-head-requires
 put-head-requires c κs = search rules
@@ -70,7 +70,7 @@ sub-put-head c =
       digits = search (rules, c.before.before.before.before.before.before.before.before.before.before.before.before.before.before.before.before.before.before.before.before.before.before.well-formed.1.1.1.0);
       sub = search (rules, c.before.before.before.before.before.before.before.before.before.before.before.before.before.before.before.before.before.before.before.before.before.before.well-formed.1.1.1.0);
     } in
-    omega (arith, c.before.before.before.before.before.before.before.before.before.before.before.before.before.before.before.before.before.before.address_size.ensures, rest-size e whole)
+    omega (arith, c.before.before.before.before.before.before.before.before.before.before.before.before.before.before.before.before.before.before.address_size.ensures, rest_size e whole)
 
 cast-put-head-2 : tie.Need-overflow-cast-put-head-2
 cast-put-head-2 c =
@@ -82,7 +82,7 @@ cast-put-head-2 c =
       digits = search (rules, c.before.before.before.before.before.before.before.before.before.before.before.before.before.before.before.before.before.before.before.before.before.before.well-formed.1.1.1.0);
       sub = search (rules, c.before.before.before.before.before.before.before.before.before.before.before.before.before.before.before.before.before.before.before.before.before.before.well-formed.1.1.1.0);
     } in
-    omega (arith, c.before.before.before.before.before.before.before.before.before.before.before.before.before.before.before.before.before.before.address_size.ensures, address-few e whole)
+    omega (arith, c.before.before.before.before.before.before.before.before.before.before.before.before.before.before.before.before.before.before.address_size.ensures, address_few e whole)
 
 put-head-requires-2 : tie.Need-put-head-requires-2
 put-head-requires-2 c κs = search rules
@@ -106,7 +106,7 @@ returns c =
       digits = search (rules, c.before.before.before.before.before.before.before.before.before.before.before.before.before.before.before.before.before.before.before.before.before.before.before.before.before.before.before.before.before.before.before.before.before.well-formed.1.1.1.0);
       sub = search (rules, c.before.before.before.before.before.before.before.before.before.before.before.before.before.before.before.before.before.before.before.before.before.before.before.before.before.before.before.before.before.before.before.before.before.well-formed.1.1.1.0);
     } in
-    entry_wrote e c.before.before.before.before.before.before.before.before.before.before.before.before.before.before.before.before.before.before.before.before.before.before.before.before.before.before.before.before.before.before.before.before.before.requires (omega (arith, c.before.before.before.before.before.before.before.before.before.before.before.before.before.before.before.before.before.before.before.before.before.before.before.before.before.before.before.before.number_size.ensures, c.before.before.before.before.before.before.before.before.before.before.before.before.before.before.before.before.before.before.before.before.before.before.before.before.before.before.before.before.before.address_size.ensures, fields_size e)) (omega (arith, c.before.before.before.before.before.before.before.before.before.before.before.before.before.before.before.before.before.before.before.before.before.before.before.before.before.before.before.before.before.address_size.ensures, rest-size e whole))
+    entry_wrote e c.before.before.before.before.before.before.before.before.before.before.before.before.before.before.before.before.before.before.before.before.before.before.before.before.before.before.before.before.before.before.before.before.before.requires (omega (arith, c.before.before.before.before.before.before.before.before.before.before.before.before.before.before.before.before.before.before.before.before.before.before.before.before.before.before.before.before.number_size.ensures, c.before.before.before.before.before.before.before.before.before.before.before.before.before.before.before.before.before.before.before.before.before.before.before.before.before.before.before.before.before.address_size.ensures, fields_size e)) (omega (arith, c.before.before.before.before.before.before.before.before.before.before.before.before.before.before.before.before.before.before.before.before.before.before.before.before.before.before.before.before.before.address_size.ensures, rest_size e whole))
     c.before.before.before.before.before.before.before.before.before.before.before.before.before.before.before.before.before.before.before.before.before.before.before.before.before.before.put-head.ensures c.before.before.before.before.before.before.before.before.before.before.before.before.before.before.before.before.before.before.before.before.before.before.put-number.ensures c.before.before.before.before.before.before.before.before.before.before.before.before.before.before.before.before.before.before.put-enumerated.ensures c.before.before.before.before.before.before.before.before.before.before.before.before.before.before.put-enumerated2.ensures c.before.before.before.before.before.before.before.before.before.before.put-head2.ensures c.before.before.before.before.before.before.put-number2.ensures c.before.before.put-sub.ensures
 
 pub write_listed_spec : {M : Type 1} → statement M

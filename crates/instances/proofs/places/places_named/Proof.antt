@@ -7,11 +7,11 @@ use native.Mathlib.Nat.{sub-zero}
 use native.Mathlib.Omega.{arith}
 use lib.ListN.{length, take, length-take}
 use lib.Seq.{get_or-take}
-use Rattle.laws.proofs.Filled.{Filled, filled_none, filled_next, filled-done}
+use Rattle.laws.proofs.Filled.{Filled, filled_none, filled_next, filled_done}
 use Rattle.profile.specs.Profile.{services_most}
 use Rattle.instances.specs.Places.{run_most}
 use Rattle.instances.specs.inner.Places.{no_place, places_named}
-use Rattle.instances.proofs.Placings.{placesLeft, number-named, number-other, number_none, rowLeft, place_next, place_none, placed_done}
+use Rattle.instances.proofs.Placings.{places_left, number_named, number_other, number_none, row_left, place_next, place_none, placed_done}
 use Rattle.instances.proofs.places.places_named.Statement.{statement}
 use Rattle.instances.proofs.places.places_named.Tie as tie
 
@@ -19,7 +19,7 @@ abbrev invariant-loop2 : tie.invariant-loop2
 invariant-loop2 numbers asked count services next₀ k₀ a number b₀ next k b =
     (b ≤ count) × (k ≤ a * services_most + b) ×
     Filled run_most no_place (places_named asked (take count services) numbers 0)
-    (rowLeft (take count services) a b ++ placesLeft asked (take count services) numbers (a + 1)) k next.places
+    (row_left (take count services) a b ++ places_left asked (take count services) numbers (a + 1)) k next.places
 
 abbrev decreases-loop2 : tie.decreases-loop2
 decreases-loop2 numbers asked count services next₀ k₀ a number b₀ next k b = count - b
@@ -28,7 +28,7 @@ abbrev invariant-loop : tie.invariant-loop
 invariant-loop numbers asked count services next₀ k₀ a₀ next k a =
     (a ≤ numbers) × (length services ≡ services_most) × (k ≤ a * services_most) ×
     Filled run_most no_place (places_named asked (take count services) numbers 0)
-    (placesLeft asked (take count services) numbers a) k next.places
+    (places_left asked (take count services) numbers a) k next.places
 
 abbrev decreases-loop : tie.decreases-loop
 decreases-loop numbers asked count services next₀ k₀ a₀ next k a = numbers - a
@@ -47,7 +47,7 @@ loop2-holds c =
     let l = c.before.before.before.loop in
     let a = c.before.before.before.before.args in
     let test = sym c.before.is-named.ensures ∙ c.if1.true in
-    let row = number-named a.asked (take a.count a.t3) a.numbers l.a (omega arith) test in
+    let row = number_named a.asked (take a.count a.t3) a.numbers l.a (omega arith) test in
     (omega arith, omega arith, rw row at l.invariant.3)
 
 array-read-service : tie.Need-array-read-service invariant-loop2 decreases-loop2 invariant-loop decreases-loop
@@ -97,7 +97,7 @@ loop-again c =
     rw (v.3, v.4)
     (omega arith, l.invariant.1, omega (arith, v.1.inv.0, v.1.inv.1), rw none at v.1.inv.2))
     (λ v.
-    let skips = number-other a.asked services a.numbers l.a (omega arith) (test ∙ v.0.left) in
+    let skips = number_other a.asked services a.numbers l.a (omega arith) (test ∙ v.0.left) in
     rw (v.1, v.2) (omega arith, l.invariant.1, omega arith, rw skips at l.invariant.3))
     c.if1.branch
 
@@ -110,7 +110,7 @@ returns c =
     let a = c.before.before.args in
     let services = take a.count a.t3 in
     let none = number_none a.asked services a.numbers l.a (omega arith) in
-    placed_done (places_named a.asked services a.numbers 0) _ _ (filled-done _ _ _ _ _ (rw none at l.invariant.3))
+    placed_done (places_named a.asked services a.numbers 0) _ _ (filled_done _ _ _ _ _ (rw none at l.invariant.3))
 
 pub places_named_spec : {M : Type 1} → statement M
 places_named_spec =

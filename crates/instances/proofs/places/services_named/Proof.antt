@@ -5,9 +5,9 @@ use mathlib.Core.Path.{◌≡◌, sym, ◌∙◌}
 use mathlib.Core.Logic.{⊎_elim}
 use native.Mathlib.Omega.{arith}
 use lib.ListN.{length, take, drop}
-use Rattle.laws.proofs.Lefts.{left-none}
-use Rattle.laws.proofs.Filled.{Filled, filled_none, filled_next, filled-done}
-use Rattle.laws.proofs.Thoses.{those-take, those-skip, those_none}
+use Rattle.laws.proofs.Lefts.{left_none}
+use Rattle.laws.proofs.Filled.{Filled, filled_none, filled_next, filled_done}
+use Rattle.laws.proofs.Thoses.{those_take, those_skip, those_none}
 use Rattle.profile.specs.Profile.{services_most}
 use Rattle.instances.specs.Instance.{every_service, named}
 use Rattle.instances.specs.inner.Places.{services_named}
@@ -56,11 +56,11 @@ loop-again c =
     let test = sym c.before.is-named.ensures in
     ⊎_elim
     (λ v.
-    let takes = those-take f _ _ _ on (test ∙ v.0.taken) in
+    let takes = those_take f _ _ _ on (test ∙ v.0.taken) in
     rw (v.1, v.2)
     (omega arith, l.invariant.1, l.invariant.2, omega arith, filled_next _ _ _ _ _ _ _ (omega arith) (rw takes at l.invariant.4)))
     (λ v.
-    let skips = those-skip f _ _ _ on (test ∙ v.0.left) in
+    let skips = those_skip f _ _ _ on (test ∙ v.0.left) in
     rw (v.1, v.2) (omega arith, l.invariant.1, l.invariant.2, omega arith, rw skips at l.invariant.4))
     c.if1.branch
 
@@ -68,9 +68,9 @@ returns : tie.Need-returns invariant-loop decreases-loop
 returns c =
     let l = c.before.loop in
     let a = c.before.before.before.args in
-    let none = left-none a.count a.t1 l.i (omega (arith, l.invariant.1, l.invariant.2)) in
+    let none = left_none a.count a.t1 l.i (omega (arith, l.invariant.1, l.invariant.2)) in
     let left = those_none (named every_service a.service) _ none in
-    (noted_done (services_named a.service (take a.count a.t1)) _ _ (filled-done _ _ _ _ _ (rw left at l.invariant.4)), omega arith)
+    (noted_done (services_named a.service (take a.count a.t1)) _ _ (filled_done _ _ _ _ _ (rw left at l.invariant.4)), omega arith)
 
 pub services_named_spec : {M : Type 1} → statement M
 services_named_spec =

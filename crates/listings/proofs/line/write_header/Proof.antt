@@ -1,4 +1,4 @@
-use Rattle.listings.proofs.Lines.{last-room, count_room, header-wrote}
+use Rattle.listings.proofs.Lines.{last_room, count_room, header_wrote}
 use borrow.Author.Rules.{rules}
 use Rattle.listings.proofs.line.write_header.Statement.{statement}
 use Rattle.listings.proofs.line.write_header.Tie as tie
@@ -12,7 +12,7 @@ put-all-requires c κs = search rules
 write-number-requires : tie.Need-write-number-requires
 write-number-requires c κs =
     let s = c.before.before.before.before.before.before.before in
-    last-room s.args.last s.args.count s.args.out.now s.requires c.before.before.before.put_all_lem.ensures
+    last_room s.args.last s.args.count s.args.out.now s.requires c.before.before.before.put_all_lem.ensures
 
 slice-aggregate-put-all-2 : tie.Need-slice-aggregate-put-all-2
 slice-aggregate-put-all-2 c = search rules
@@ -34,7 +34,7 @@ same_length c = search rules
 returns : tie.Need-returns
 returns c =
     let s = c.before.before.before.before.before.before.before.before.before.before.before.before.before.before.before.before.before.before.before in
-    header-wrote s.args.last s.args.count s.args.out.now s.requires
+    header_wrote s.args.last s.args.count s.args.out.now s.requires
     c.before.before.before.before.before.before.before.before.before.before.before.before.before.before.before.put_all_lem.ensures
     c.before.before.before.before.before.before.before.before.before.before.before.write-number.ensures
     c.before.before.before.before.before.before.put-all2.ensures c.before.before.write-number2.ensures

@@ -1,5 +1,5 @@
 use Rattle.laws.proofs.Over.{wrote_length}
-use Rattle.listings.proofs.Lines.{name-room, number-room, service-room, kind-room, digits-room, sub-room, instance-wrote}
+use Rattle.listings.proofs.Lines.{name_room, number_room, service_room, kind_room, digits_room, sub_room, instance_wrote}
 use borrow.Author.Rules.{rules}
 use Rattle.listings.proofs.line.write_line.Statement.{statement}
 use Rattle.listings.proofs.line.write_line.Tie as tie
@@ -7,7 +7,7 @@ use Rattle.listings.proofs.line.write_line.Tie as tie
 write-name-requires : tie.Need-write-name-requires
 write-name-requires c κs =
     let s = c.before.before.before.before.before.before in
-    name-room s.args.i s.args.out.now s.args.at s.requires.1
+    name_room s.args.i s.args.out.now s.args.at s.requires.1
 
 cast-write-number : tie.Need-overflow-cast-write-number
 cast-write-number c = search rules
@@ -15,7 +15,7 @@ cast-write-number c = search rules
 write-number-requires : tie.Need-write-number-requires
 write-number-requires c κs =
     let s = c.before.before.before.before.before.before.before.before.before.before.before in
-    number-room s.args.i s.args.out.now s.args.at s.requires.1 c.before.before.before.before.write-name.ensures
+    number_room s.args.i s.args.out.now s.args.at s.requires.1 c.before.before.before.before.write-name.ensures
 
 cast-write-number-2 : tie.Need-overflow-cast-write-number-2
 cast-write-number-2 c = search rules
@@ -23,14 +23,14 @@ cast-write-number-2 c = search rules
 write-number-requires-2 : tie.Need-write-number-requires-2
 write-number-requires-2 c κs =
     let s = c.before.before.before.before.before.before.before.before.before.before.before.before.before.before.before.before in
-    service-room s.args.i s.args.out.now s.args.at s.requires.1
+    service_room s.args.i s.args.out.now s.args.at s.requires.1
     c.before.before.before.before.before.before.before.before.before.write-name.ensures
     c.before.before.before.before.write-number.ensures
 
 write-kind-requires : tie.Need-write-kind-requires
 write-kind-requires c κs =
     let s = c.before.before.before.before.before.before.before.before.before.before.before.before.before.before.before.before.before.before.before.before in
-    kind-room s.args.i s.args.out.now s.args.at s.requires.1
+    kind_room s.args.i s.args.out.now s.args.at s.requires.1
     c.before.before.before.before.before.before.before.before.before.before.before.before.before.write-name.ensures
     c.before.before.before.before.before.before.before.before.write-number.ensures
     c.before.before.before.write-number2.ensures
@@ -42,7 +42,7 @@ write-digits-requires : tie.Need-write-digits-requires
 write-digits-requires c κs =
     let s = c.before.before.before.before.before.before.before.before.before.before.before.before.before.before.before.before.before.before.before.before.before.before.before.before.before in (
       s.pre.0.digits,
-      digits-room s.args.i s.args.out.now s.args.at s.pre.1
+      digits_room s.args.i s.args.out.now s.args.at s.pre.1
           c.before.before.before.before.before.before.before.before.before.before.before.before.before.before.before.before.before.before.write-name.ensures c.before.before.before.before.before.before.before.before.before.before.before.before.before.write-number.ensures c.before.before.before.before.before.before.before.before.write-number2.ensures
           c.before.before.before.before.write-kind.ensures,
     )
@@ -54,7 +54,7 @@ write-sub-requires : tie.Need-write-sub-requires
 write-sub-requires c κs =
     let s = c.before.before.before.before.before.before.before.before.before.before.before.before.before.before.before.before.before.before.before.before.before.before.before.before.before.before.before.before.before.before in (
       s.pre.0.sub,
-      sub-room s.args.i s.args.out.now s.args.at s.pre.1
+      sub_room s.args.i s.args.out.now s.args.at s.pre.1
           c.before.before.before.before.before.before.before.before.before.before.before.before.before.before.before.before.before.before.before.before.before.before.before.write-name.ensures
           c.before.before.before.before.before.before.before.before.before.before.before.before.before.before.before.before.before.before.write-number.ensures
           c.before.before.before.before.before.before.before.before.before.before.before.before.before.write-number2.ensures
@@ -65,7 +65,7 @@ write-sub-requires c κs =
 all-wrote : tie.Need-returns
 all-wrote c =
     let s = c.before.before.before.before.before.before.before.before.before.before.before.before.before.before.before.before.before.before.before.before.before.before.before.before.before.before.before.before.before.before.before.before.before in
-    instance-wrote s.args.i s.args.out.now s.args.at s.pre.1
+    instance_wrote s.args.i s.args.out.now s.args.at s.pre.1
     c.before.before.before.before.before.before.before.before.before.before.before.before.before.before.before.before.before.before.before.before.before.before.before.before.before.before.write-name.ensures
     c.before.before.before.before.before.before.before.before.before.before.before.before.before.before.before.before.before.before.before.before.before.write-number.ensures
     c.before.before.before.before.before.before.before.before.before.before.before.before.before.before.before.before.write-number2.ensures

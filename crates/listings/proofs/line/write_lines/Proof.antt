@@ -6,7 +6,7 @@ use borrow.Author.Rules.{rules}
 use Rattle.laws.proofs.Parts.{unmapped}
 use Rattle.instances.specs.Places.{run_most}
 use Rattle.instances.specs.Run.{instances_of}
-use Rattle.listings.proofs.Listings.{Going, going_first, run-all, run_room, run-next}
+use Rattle.listings.proofs.Listings.{Going, going_first, run_all, run_room, run_next}
 use Rattle.listings.proofs.line.write_lines.Statement.{statement}
 use Rattle.listings.proofs.line.write_lines.Tie as tie
 
@@ -32,7 +32,7 @@ returns c =
     let s = c.before.before.before.before in
     let l = c.before.before.loop in
     let long : length s.args.t3.run ≡ run_most = search (unmapped, rules, s.well-formed) in
-    run-all s.args.t3 long s.args.out.now s.args.at l.i l.invariant.1 (omega (arith, c.if1.true))
+    run_all s.args.t3 long s.args.out.now s.args.at l.i l.invariant.1 (omega (arith, c.if1.true))
 
 mul-x : tie.Need-overflow-mul-x invariant-loop decreases-loop
 mul-x c = search rules
@@ -60,7 +60,7 @@ loop-again c =
     let l = c.before.before.before.before.before.before.before.loop in
     let long : length s.args.t3.run ≡ run_most = search (unmapped, rules, s.well-formed) in (
       search rules,
-      run-next s.args.t3 long s.args.out.now s.args.at l.i l.invariant.1
+      run_next s.args.t3 long s.args.out.now s.args.at l.i l.invariant.1
           (omega (arith, c.before.before.before.before.before.if1.false))
           c.before.before.before.before.before.before.loop-test.true
           c.before.before.write-line.ensures,
@@ -74,7 +74,7 @@ returns_2 c =
     let s = c.before.before.before in
     let l = c.before.loop in
     let long : length s.args.t3.run ≡ run_most = search (unmapped, rules, s.well-formed) in
-    run-all s.args.t3 long s.args.out.now s.args.at l.i l.invariant.1 (omega (arith, c.loop-test.false))
+    run_all s.args.t3 long s.args.out.now s.args.at l.i l.invariant.1 (omega (arith, c.loop-test.false))
 
 pub write_lines_spec : {M : Type 1} → statement M
 write_lines_spec =

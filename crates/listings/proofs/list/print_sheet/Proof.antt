@@ -2,14 +2,14 @@ use native.Mathlib.Omega.{arith}
 use borrow.Author.Rules.{rules}
 use borrow.Author.Tests.{not-true, not-false}
 use Rattle.laws.proofs.Over.{wrote_length}
-use Rattle.listings.proofs.Sheets.{listing_octets_lem, listing-asks, prints-short, prints-none, prints_sheet}
+use Rattle.listings.proofs.Sheets.{listing_octets_lem, listing_asks, prints_short, prints_none, prints_sheet}
 use Rattle.listings.proofs.list.print_sheet.Statement.{statement}
 use Rattle.listings.proofs.list.print_sheet.Tie as tie
 
 returns : tie.Need-returns
 returns c =
     let a = c.before.before.before.args in
-    prints-short a.s.now a.out.now (omega (arith, listing_octets_lem, c.if1.true))
+    prints_short a.s.now a.out.now (omega (arith, listing_octets_lem, c.if1.true))
 
 read-form-requires : tie.Need-read-form-requires
 read-form-requires c κs = search rules
@@ -26,7 +26,7 @@ same_length c = search rules
 returns_2 : tie.Need-returns-2
 returns_2 c =
     let a = c.before.before.before.before.before.before.before.before.before.before.before.args in
-    prints-none a.s.now a.out.now
+    prints_none a.s.now a.out.now
     (omega (arith, listing_octets_lem, c.before.before.before.before.before.before.before.before.if1.false)) _
     c.before.before.before.before.before.before.before.read-form.ensures
     (not-true _ c.before.before.before.before.before.if2.true)
@@ -35,7 +35,7 @@ returns_2 c =
 write-listing-requires : tie.Need-write-listing-requires
 write-listing-requires c κs =
     let a = c.before.before.before.before.before.before.before.before.args in
-    listing-asks a.s.now _ c.before.before.before.before.read-form.ensures (not-false _ c.before.before.if2.false)
+    listing_asks a.s.now _ c.before.before.before.before.read-form.ensures (not-false _ c.before.before.if2.false)
     a.out.now
     (omega (arith, listing_octets_lem, c.before.before.before.before.before.if1.false))
 

@@ -4,7 +4,7 @@ use borrow.Author.Rules.{rules}
 use Rattle.laws.proofs.Parts.{unmapped}
 use Rattle.laws.proofs.Over.{wrote_length}
 use Rattle.instances.specs.Places.{run_most}
-use Rattle.listings.proofs.Sheets.{header-room, lines-room, listing-wrote}
+use Rattle.listings.proofs.Sheets.{header_room, lines_room, listing_wrote}
 use Rattle.listings.proofs.list.write_listing.Statement.{statement}
 use Rattle.listings.proofs.list.write_listing.Tie as tie
 
@@ -15,14 +15,14 @@ write-header-requires : tie.Need-write-header-requires
 write-header-requires c κs =
     let s = c.before.before.before in
     let long : length s.args.run.run ≡ run_most = search (unmapped, rules, s.well-formed) in
-    header-room s.args.last s.args.run s.requires.0 long s.args.out.now s.requires.1
+    header_room s.args.last s.args.run s.requires.0 long s.args.out.now s.requires.1
 
 write-lines-requires : tie.Need-write-lines-requires
 write-lines-requires c κs =
     let s = c.before.before.before.before.before.before.before in
     let long : length s.args.run.run ≡ run_most = search (unmapped, rules, s.well-formed) in (
       s.requires.2,
-      lines-room s.args.last s.args.run s.requires.0 long s.args.out.now s.requires.1
+      lines_room s.args.last s.args.run s.requires.0 long s.args.out.now s.requires.1
           c.before.before.before.write-header.ensures,
     )
 
@@ -30,7 +30,7 @@ all-wrote : tie.Need-returns
 all-wrote c =
     let s = c.before.before.before.before.before.before.before.before.before.before in
     let long : length s.args.run.run ≡ run_most = search (unmapped, rules, s.well-formed) in
-    listing-wrote s.args.last s.args.run s.requires.0 long s.args.out.now s.requires.1
+    listing_wrote s.args.last s.args.run s.requires.0 long s.args.out.now s.requires.1
     c.before.before.before.before.before.before.write-header.ensures c.before.before.write-lines.ensures
 
 same_length : tie.Need-same-length

@@ -1,5 +1,5 @@
 use native.Mathlib.Omega.{arith}
-use Rattle.listings.proofs.Words.{digit_room, digit-wrote, digits-room, digits_next, digits-wrote}
+use Rattle.listings.proofs.Words.{digit_room, digit_wrote, digits_room, digits_next, digits_wrote}
 use Prim.Native.Nat.{ℕ, ◌<◌}
 use borrow.Author.Rules.{rules}
 use borrow.Fn.Kinds.{In}
@@ -59,7 +59,7 @@ write_decimal_returns : (t : ℕ) → write-decimal-lts.Need-returns (
   write_decimal_below t,
   write-decimal.Post,
 ) (write_decimal_at t) write-decimal.Post
-write_decimal_returns t c = digit-wrote c.before.before.args.n _ _ c.if1.true
+write_decimal_returns t c = digit_wrote c.before.before.args.n _ _ c.if1.true
 
 write_decimal_write_decimal_requires : (t : ℕ) → write-decimal-lts.Need-write-decimal-requires (
   write_decimal_below t,
@@ -67,7 +67,7 @@ write_decimal_write_decimal_requires : (t : ℕ) → write-decimal-lts.Need-writ
 ) (write_decimal_at t) write-decimal.Post
 write_decimal_write_decimal_requires t c κs = (
   omega (arith, c.before.if1.false, c.before.before.before.requires.0),
-  digits-room c.before.before.before.args.n c.before.if1.false
+  digits_room c.before.before.before.args.n c.before.if1.false
       (omega (arith, c.before.before.before.ranges.n)) _ _ c.before.before.before.requires.1,
 )
 
@@ -115,7 +115,7 @@ write_decimal_returns_2 : (t : ℕ) → write-decimal-lts.Need-returns-2 (
   write-decimal.Post,
 ) (write_decimal_at t) write-decimal.Post
 write_decimal_returns_2 t c =
-    digits-wrote c.before.before.before.before.before.before.args.n c.before.before.before.before.if1.false
+    digits_wrote c.before.before.before.before.before.before.args.n c.before.before.before.before.if1.false
     (omega (arith, c.before.before.before.before.before.before.ranges.n)) c.before.before.write-decimal.ensures
 
 pub +write-decimal-spec : {M : Type 1} → statement M

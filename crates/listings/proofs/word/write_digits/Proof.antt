@@ -4,7 +4,7 @@ use lib.Seq.{length-take-le}
 use native.Mathlib.Omega.{arith}
 use lib.ListN.{length, take}
 use Rattle.laws.proofs.Over.{wrote}
-use Rattle.listings.proofs.Words.{word_room, mark-room, mark-wrote}
+use Rattle.listings.proofs.Words.{word_room, mark_room, mark_wrote}
 use borrow.Author.Rules.{rules}
 use Rattle.listings.proofs.word.write_digits.Statement.{statement}
 use Rattle.listings.proofs.word.write_digits.Tie as tie
@@ -23,7 +23,7 @@ put-all-requires c κs = search rules
 
 slice-write-out : tie.Need-slice-write-out
 slice-write-out c =
-    mark-room 32 c.before.before.before.before.before.before.requires.1
+    mark_room 32 c.before.before.before.before.before.before.requires.1
     (wrote (word_room (take c.before.before.before.before.before.before.args.count
     c.before.before.before.before.before.before.args.t3) 32 _ _
     c.before.before.before.before.before.before.requires.1) c.before.before.put_all_lem.ensures)
@@ -32,7 +32,7 @@ add-result : tie.Need-overflow-add-result
 add-result c =
     omega (
       arith,
-      mark-room 32 c.before.before.before.before.before.before.requires.1
+      mark_room 32 c.before.before.before.before.before.before.requires.1
           (wrote (word_room (take c.before.before.before.before.before.before.args.count
           c.before.before.before.before.before.before.args.t3) 32 _ _
           c.before.before.before.before.before.before.requires.1) c.before.before.put_all_lem.ensures),
@@ -43,7 +43,7 @@ same_length c = search rules
 
 returns : tie.Need-returns
 returns c =
-    mark-wrote 32 (wrote (word_room
+    mark_wrote 32 (wrote (word_room
     (take c.before.before.before.before.before.before.args.count c.before.before.before.before.before.before.args.t3) 32
     _ _
     c.before.before.before.before.before.before.requires.1) c.before.before.put_all_lem.ensures)

@@ -4,7 +4,7 @@ use Prim.Native.Nat.{◌-◌, ◌≤◌}
 use mathlib.Core.Path.{◌≡◌, refl}
 use lib.ListN.{length}
 use Rattle.numbers.specs.Number.{most}
-use Rattle.listings.proofs.Words.{Come, come-first, come-room, come-next}
+use Rattle.listings.proofs.Words.{Come, come_first, come_room, come_next}
 use Rattle.listings.proofs.word.write_hex.Statement.{statement}
 use Rattle.listings.proofs.word.write_hex.Tie as tie
 
@@ -17,7 +17,7 @@ decreases-loop out₀ at count octets p₀ i₀ out p i = count - i
 loop-holds : tie.Need-loop-init invariant-loop decreases-loop
 loop-holds c =
     let a = c.before.args in
-    (omega arith, refl, come-first a.t3 a.out.now a.at)
+    (omega arith, refl, come_first a.t3 a.out.now a.at)
 
 array-read-write-pair : tie.Need-array-read-write-pair invariant-loop decreases-loop
 array-read-write-pair c = search rules
@@ -27,7 +27,7 @@ write-pair-requires c κs =
     let l = c.before.before.loop in
     let s = c.before.before.before.before in
     let long : length s.args.t3 ≡ most = search (rules, s.well-formed) in
-    come-room _ _ _ l.invariant.2 s.args.count c.before.loop-test.true (omega (arith, s.requires.0)) s.requires.1
+    come_room _ _ _ l.invariant.2 s.args.count c.before.loop-test.true (omega (arith, s.requires.0)) s.requires.1
 
 add-i : tie.Need-overflow-add-i invariant-loop decreases-loop
 add-i c = search rules
@@ -42,7 +42,7 @@ loop-again c =
     let long : length s.args.t3 ≡ most = search (rules, s.well-formed) in (
       omega (arith, c.before.before.before.before.loop-test.true),
       search rules,
-      come-next _ _ _ l.invariant.2 s.args.count
+      come_next _ _ _ l.invariant.2 s.args.count
           c.before.before.before.before.loop-test.true (omega (arith, s.requires.0)) c.before.before.write-pair.ensures,
     )
 

@@ -1,5 +1,5 @@
 use Rattle.laws.proofs.Over.{wrote_length}
-use Rattle.listings.proofs.Words.{text_wrote, kind-unknown, kind-first, kind-room, kind-wrote}
+use Rattle.listings.proofs.Words.{text_wrote, kind_unknown, kind_first, kind_room, kind_wrote}
 use borrow.Author.Rules.{rules}
 use Rattle.listings.proofs.word.write_kind.Statement.{statement}
 use Rattle.listings.proofs.word.write_kind.Tie as tie
@@ -15,22 +15,22 @@ same_length c = search rules
 
 returns : tie.Need-returns
 returns c =
-    text_wrote _ (kind-unknown _ _ c.before.before.before.before.before.if1.true)
+    text_wrote _ (kind_unknown _ _ c.before.before.before.before.before.if1.true)
     c.before.before.before.before.before.before.before.requires
     c.before.before.put_all_lem.ensures
 
 slice-write-out : tie.Need-slice-write-out
-slice-write-out c = kind-first _ _ c.if1.false _ _ c.before.before.requires
+slice-write-out c = kind_first _ _ c.if1.false _ _ c.before.before.requires
 
 add-write-number : tie.Need-overflow-add-write-number
 add-write-number c = search rules
 
 write-number-requires : tie.Need-write-number-requires
 write-number-requires c κs =
-    kind-room _ _ c.before.if1.false c.before.before.before.args.out.now _ c.before.before.before.requires
+    kind_room _ _ c.before.if1.false c.before.before.before.args.out.now _ c.before.before.before.requires
 
 all-wrote : tie.Need-returns-2
-all-wrote c = kind-wrote _ _ c.before.before.before.before.if1.false c.before.before.write-number.ensures
+all-wrote c = kind_wrote _ _ c.before.before.before.before.if1.false c.before.before.write-number.ensures
 
 same-length-2 : tie.Need-same-length-2
 same-length-2 c = wrote_length (all-wrote c)

@@ -1,4 +1,4 @@
-use Rattle.listings.proofs.Words.{text_wrote, name-cfu, name-cfb, name-cfnr}
+use Rattle.listings.proofs.Words.{text_wrote, name_cfu, name_cfb, name_cfnr}
 use borrow.Author.Rules.{rules}
 use Rattle.listings.proofs.word.write_name.Statement.{statement}
 use Rattle.listings.proofs.word.write_name.Tie as tie
@@ -14,7 +14,7 @@ same_length c = search rules
 
 returns : tie.Need-returns
 returns c =
-    text_wrote _ (name-cfu _ c.before.before.before.before.before.if1.true)
+    text_wrote _ (name_cfu _ c.before.before.before.before.before.if1.true)
     c.before.before.before.before.before.before.before.requires c.before.before.put_all_lem.ensures
 
 slice-aggregate-put-all-2 : tie.Need-slice-aggregate-put-all-2
@@ -28,7 +28,7 @@ same-length-2 c = search rules
 
 returns_2 : tie.Need-returns-2
 returns_2 c =
-    text_wrote _ (name-cfb _ c.before.before.before.before.before.before.if1.false
+    text_wrote _ (name_cfb _ c.before.before.before.before.before.before.if1.false
     c.before.before.before.before.before.if2.true)
     c.before.before.before.before.before.before.before.before.requires c.before.before.put-all2.ensures
 
@@ -43,7 +43,7 @@ same-length-3 c = search rules
 
 returns-3 : tie.Need-returns-3
 returns-3 c =
-    text_wrote _ (name-cfnr _ c.before.before.before.before.before.before.if1.false
+    text_wrote _ (name_cfnr _ c.before.before.before.before.before.before.if1.false
     c.before.before.before.before.before.if2.false)
     c.before.before.before.before.before.before.before.before.requires c.before.before.put-all3.ensures
 

@@ -1,7 +1,7 @@
 use lib.ListN.{take}
 use Rattle.listings.specs.Listing.{hex_text}
 use native.Mathlib.Omega.{arith}
-use Rattle.listings.proofs.Words.{text_wrote, word_room, mark-room, mark-wrote, sub_none, sub_some}
+use Rattle.listings.proofs.Words.{text_wrote, word_room, mark_room, mark_wrote, sub_none, sub_some}
 use borrow.Author.Rules.{rules}
 use Rattle.listings.proofs.word.write_sub.Statement.{statement}
 use Rattle.listings.proofs.word.write_sub.Tie as tie
@@ -30,7 +30,7 @@ write-hex-requires c κs = (
 
 slice-write-out : tie.Need-slice-write-out
 slice-write-out c =
-    mark-room 10 (rw (sub_some _ _ c.before.before.before.before.if1.false) at
+    mark_room 10 (rw (sub_some _ _ c.before.before.before.before.if1.false) at
     c.before.before.before.before.before.before.requires.1)
     c.before.before.write-hex.ensures
 
@@ -38,7 +38,7 @@ add-result : tie.Need-overflow-add-result
 add-result c =
     omega (
       arith,
-      mark-room 10 (rw (sub_some _ _ c.before.before.before.before.if1.false) at
+      mark_room 10 (rw (sub_some _ _ c.before.before.before.before.if1.false) at
           c.before.before.before.before.before.before.requires.1)
           c.before.before.write-hex.ensures,
     )
@@ -47,7 +47,7 @@ same-length-2 : tie.Need-same-length-2
 same-length-2 c = search rules
 
 returns_2 : tie.Need-returns-2
-returns_2 c = rw (sub_some _ _ c.before.before.before.before.if1.false) (mark-wrote 10 c.before.before.write-hex.ensures)
+returns_2 c = rw (sub_some _ _ c.before.before.before.before.if1.false) (mark_wrote 10 c.before.before.write-hex.ensures)
 
 pub write_sub_spec : {M : Type 1} → statement M
 write_sub_spec =

@@ -1,5 +1,5 @@
 use Rattle.profile.specs.Profile.{prefixes_most}
-use Rattle.profile.proofs.Records.{Prefixed, prefixes-first, prefixes-next, prefixes-all}
+use Rattle.profile.proofs.Records.{Prefixed, prefixes_first, prefixes_next, prefixes_all}
 use Prim.Native.Nat.{◌-◌, ◌≤◌}
 use native.Mathlib.Omega.{arith}
 use mathlib.Core.Path.{◌≡◌}
@@ -17,7 +17,7 @@ prefix-from-requires : tie.Need-prefix-from-requires invariant-loop decreases-lo
 prefix-from-requires c κs = search rules
 
 loop-holds : tie.Need-loop-init invariant-loop decreases-loop
-loop-holds c = (search rules, prefixes-first c.before.before.args.s.now _ c.prefix-from.ensures)
+loop-holds c = (search rules, prefixes_first c.before.before.args.s.now _ c.prefix-from.ensures)
 
 mul-prefix-from : tie.Need-overflow-mul-prefix-from invariant-loop decreases-loop
 mul-prefix-from c = search rules
@@ -43,7 +43,7 @@ loop-less c = search rules
 loop-again : tie.Need-loop-preserved invariant-loop decreases-loop
 loop-again c = (
   search rules,
-  prefixes-next c.before.before.before.before.before.args.s.now c.before.before.loop.prefixes
+  prefixes_next c.before.before.before.before.before.args.s.now c.before.before.loop.prefixes
       c.before.before.loop.k _ c.before.loop-test.true c.prefix-from2.ensures
       c.before.before.loop.invariant.1,
 )
@@ -52,7 +52,7 @@ returns : tie.Need-returns invariant-loop decreases-loop
 returns c =
     let l = c.before.loop in
     let done : l.k ≡ prefixes_most = omega (arith, c.loop-test.false) in
-    prefixes-all c.before.before.before.before.args.s.now l.prefixes (rw done at l.invariant.1)
+    prefixes_all c.before.before.before.before.args.s.now l.prefixes (rw done at l.invariant.1)
 
 pub prefixes_from_spec : {M : Type 1} → statement M
 prefixes_from_spec =

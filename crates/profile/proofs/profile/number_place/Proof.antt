@@ -1,4 +1,4 @@
-use Rattle.profile.proofs.Profiles.{Come, number-here, number-next, number_none}
+use Rattle.profile.proofs.Profiles.{Come, number_here, number_next, number_none}
 use Rattle.profile.specs.Profile.{numbers_most}
 use Rattle.laws.proofs.Parts.{unmapped}
 use borrow.Author.Rules.{rules}
@@ -41,7 +41,7 @@ returns_2 c =
     let l = c.before.before.before.before.before in
     let s = l.before.before.before.args in
     let long : length s.p.numbers ≡ numbers_most = search (unmapped, rules) in
-    number-here s.p s.n s.p.numbercount s.p.numbers l.loop.k (omega arith) (omega arith)
+    number_here s.p s.n s.p.numbercount s.p.numbers l.loop.k (omega arith) (omega arith)
     (sym c.before.same.ensures ∙ c.if2.true) l.loop.invariant.1
 
 add-k : tie.Need-overflow-add-k invariant-loop decreases-loop
@@ -56,7 +56,7 @@ loop-again c =
     let s = l.before.before.before.args in
     let long : length s.p.numbers ≡ numbers_most = search (unmapped, rules) in (
       omega arith,
-      number-next s.p s.n s.p.numbercount s.p.numbers l.loop.k (omega arith) (omega arith)
+      number_next s.p s.n s.p.numbercount s.p.numbers l.loop.k (omega arith) (omega arith)
           (sym c.before.same.ensures ∙ c.if2.false) l.loop.invariant.1,
     )
 

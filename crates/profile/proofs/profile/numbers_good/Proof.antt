@@ -1,10 +1,10 @@
 use Rattle.laws.proofs.Cases.{cases}
 use Rattle.profile.proofs.Profiles.{number_fits, numbers_fit, numbers_fair}
-use Rattle.profile.proofs.Firsts.{sameAt, first-here, later-not}
+use Rattle.profile.proofs.Firsts.{same_at, first_here, later_not}
 use Rattle.profile.specs.Profile.{numbers_most, numbers_good}
 use Rattle.laws.specs.Places.{count_to, every_to}
 use Rattle.laws.proofs.Parts.{unmapped}
-use Rattle.laws.proofs.Walks.{count_none, count-skip, every-none, every_more, every-fails}
+use Rattle.laws.proofs.Walks.{count_none, count_skip, every_none, every_more, every_fails}
 use borrow.Author.Tests.{eq-eqb, ne_eqb, not-true, not-false}
 use borrow.Author.Rules.{rules}
 use native.Mathlib.Omega.{arith}
@@ -16,7 +16,7 @@ use Rattle.profile.proofs.profile.numbers_good.Statement.{statement}
 use Rattle.profile.proofs.profile.numbers_good.Tie as tie
 
 abbrev invariant-loop2 : tie.invariant-loop2
-invariant-loop2 p count numbers k n j₀ j = (j ≤ k) × (0 ≡ count_to (sameAt p numbers n) j)
+invariant-loop2 p count numbers k n j₀ j = (j ≤ k) × (0 ≡ count_to (same_at p numbers n) j)
 
 abbrev decreases-loop2 : tie.decreases-loop2
 decreases-loop2 p count numbers k n j₀ j = k - j
@@ -41,7 +41,7 @@ returns_2 c = search cases
 loop-holds : tie.Need-loop-init invariant-loop2 decreases-loop2 invariant-loop decreases-loop
 loop-holds c =
     let s = c.before.before.before.before.args.p in
-    (omega arith, every-none (number_fits s s.numbercount s.numbers))
+    (omega arith, every_none (number_fits s s.numbercount s.numbers))
 
 mul-n : tie.Need-overflow-mul-n invariant-loop2 decreases-loop2 invariant-loop decreases-loop
 mul-n c = search rules
@@ -58,14 +58,14 @@ returns-3 c =
     let s = l.before.before.before.before.before.args.p in
     sym
     (numbers_fair s (omega arith) (omega arith)
-    ∙ every-fails (number_fits s s.numbercount s.numbers) s.numbercount l.loop.k (omega arith)
-    (rw (sym c.before.number-good.ensures ∙ not-true _ c.if3.true)))
+    ∙ every_fails (number_fits s s.numbercount s.numbers) s.numbercount l.loop.k (omega arith)
+    (rw (sym c.before.number_good_lem.ensures ∙ not-true _ c.if3.true)))
 
 loop2-holds : tie.Need-loop2-init invariant-loop2 decreases-loop2 invariant-loop decreases-loop
 loop2-holds c =
     let l = c.before.before.before.before in
     let s = l.before.before.before.before.before.args.p in
-    (omega arith, sym (count_none (sameAt s s.numbers _)))
+    (omega arith, sym (count_none (same_at s s.numbers _)))
 
 mul-x : tie.Need-overflow-mul-x invariant-loop2 decreases-loop2 invariant-loop decreases-loop
 mul-x c = search rules
@@ -86,10 +86,10 @@ returns-4 c =
     let k = l.loop.k in
     let same = sym c.before.same.ensures ∙ c.if4.true in
     sym (numbers_fair s (omega arith) (omega arith)
-    ∙ every-fails (number_fits s s.numbercount s.numbers) s.numbercount k (omega arith)
+    ∙ every_fails (number_fits s s.numbercount s.numbers) s.numbercount k (omega arith)
     (rw (
-      sym m.before.before.number-good.ensures ∙ not-false _ m.before.if3.false,
-      ne_eqb _ _ (later-not s s.numbers s.numbercount k (omega arith) (omega arith) m.loop2.j (omega arith) same),
+      sym m.before.before.number_good_lem.ensures ∙ not-false _ m.before.if3.false,
+      ne_eqb _ _ (later_not s s.numbers s.numbercount k (omega arith) (omega arith) m.loop2.j (omega arith) same),
     )))
 
 add-j : tie.Need-overflow-add-j invariant-loop2 decreases-loop2 invariant-loop decreases-loop
@@ -103,7 +103,7 @@ loop2-again c =
     let m = c.before.before.before.before in
     let s = m.before.before.before.before.before.before.before.before.before.before.args.p in
     let other = sym c.before.same.ensures ∙ c.if4.false in
-    (omega arith, count-skip (sameAt s s.numbers _) m.loop2.j 0 other m.loop2.invariant.1)
+    (omega arith, count_skip (same_at s s.numbers _) m.loop2.j 0 other m.loop2.invariant.1)
 
 add-k : tie.Need-overflow-add-k invariant-loop2 decreases-loop2 invariant-loop decreases-loop
 add-k c = search rules
@@ -120,12 +120,12 @@ loop-again c =
     let long : length s.numbers ≡ numbers_most = search (unmapped, rules, start.well-formed) in
     let k = l.loop.k in
     let all : m.loop2.j ≡ k = omega arith in
-    let none = ap (count_to (sameAt s s.numbers _)) (sym all) ∙ sym m.loop2.invariant.1 in (
+    let none = ap (count_to (same_at s s.numbers _)) (sym all) ∙ sym m.loop2.invariant.1 in (
       omega arith,
       every_more (number_fits s s.numbercount s.numbers) k l.loop.invariant.1
           (rw (
-            sym m.before.before.number-good.ensures ∙ not-false _ m.before.if3.false,
-            eq-eqb _ _ (first-here s s.numbers s.numbercount k (omega arith) (omega arith) none),
+            sym m.before.before.number_good_lem.ensures ∙ not-false _ m.before.if3.false,
+            eq-eqb _ _ (first_here s s.numbers s.numbercount k (omega arith) (omega arith) none),
           )),
     )
 

@@ -8,7 +8,7 @@ number-good-requires c κs = search rules
 
 returns : tie.Need-returns
 unfolding prefix_good
-returns c = c.number-good.ensures
+returns c = c.number_good_lem.ensures
 
 pub prefix_good_spec : {M : Type 1} → statement M
 prefix_good_spec = tie.close (tie.spec number-good-requires returns)

@@ -2,7 +2,7 @@ use Rattle.laws.proofs.Cases.{cases}
 use Rattle.profile.proofs.Profiles.{prefix_fits, prefixes_fair}
 use Rattle.profile.specs.Profile.{prefixes_good}
 use Rattle.laws.specs.Places.{every_to}
-use Rattle.laws.proofs.Walks.{every-none, every_more, every-fails}
+use Rattle.laws.proofs.Walks.{every_none, every_more, every_fails}
 use borrow.Author.Tests.{not-true, not-false}
 use borrow.Author.Rules.{rules}
 use native.Mathlib.Omega.{arith}
@@ -25,14 +25,14 @@ returns : tie.Need-returns invariant-loop decreases-loop
 returns c =
     let s = c.before.before.args.p in
     let e : s.prefixcount ≡ 0 = omega (arith, c.if1.true) in
-    sym (prefixes_fair s (omega arith) ∙ ap (every_to (prefix_fits s.prefixes)) e ∙ every-none (prefix_fits s.prefixes))
+    sym (prefixes_fair s (omega arith) ∙ ap (every_to (prefix_fits s.prefixes)) e ∙ every_none (prefix_fits s.prefixes))
 
 returns_2 : tie.Need-returns-2 invariant-loop decreases-loop
 unfolding prefixes_good
 returns_2 c = search cases
 
 loop-holds : tie.Need-loop-init invariant-loop decreases-loop
-loop-holds c = (omega arith, every-none (prefix_fits c.before.before.before.before.args.p.prefixes))
+loop-holds c = (omega arith, every_none (prefix_fits c.before.before.before.before.args.p.prefixes))
 
 mul-f : tie.Need-overflow-mul-f invariant-loop decreases-loop
 mul-f c = search rules
@@ -49,7 +49,7 @@ returns-3 c =
     let s = l.before.before.before.before.before.args.p in
     sym
     (prefixes_fair s (omega arith)
-    ∙ every-fails (prefix_fits s.prefixes) s.prefixcount l.loop.k (omega arith)
+    ∙ every_fails (prefix_fits s.prefixes) s.prefixcount l.loop.k (omega arith)
     (sym c.before.prefix-good.ensures ∙ not-true _ c.if3.true))
 
 add-k : tie.Need-overflow-add-k invariant-loop decreases-loop

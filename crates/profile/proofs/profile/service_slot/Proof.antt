@@ -1,4 +1,4 @@
-use Rattle.profile.proofs.Services.{Come, slot-here, slot_next, slot-none}
+use Rattle.profile.proofs.Services.{Come, slot_here, slot_next, slot_none}
 use Rattle.profile.specs.Profile.{services_most}
 use borrow.Author.Rules.{rules}
 use native.Mathlib.Omega.{arith}
@@ -24,7 +24,7 @@ returns : tie.Need-returns invariant-loop decreases-loop
 returns c =
     let l = c.before.before in
     let s = l.before.before.before.args in
-    slot-none s.service s.p.servicecount s.p.services l.loop.k (omega arith) l.loop.invariant.1
+    slot_none s.service s.p.servicecount s.p.services l.loop.k (omega arith) l.loop.invariant.1
 
 array-read-if2 : tie.Need-array-read-if2 invariant-loop decreases-loop
 array-read-if2 c = search rules
@@ -34,7 +34,7 @@ returns_2 c =
     let l = c.before.before.before in
     let s = l.before.before.before.args in
     let long : length s.p.services ≡ services_most = search rules in
-    slot-here s.service s.p.servicecount s.p.services l.loop.k (omega arith) (omega arith) c.if2.true l.loop.invariant.1
+    slot_here s.service s.p.servicecount s.p.services l.loop.k (omega arith) (omega arith) c.if2.true l.loop.invariant.1
 
 add-k : tie.Need-overflow-add-k invariant-loop decreases-loop
 add-k c = search rules
@@ -57,7 +57,7 @@ returns-3 c =
     let l = c.before in
     let s = l.before.before.before.args in
     let long : length s.p.services ≡ services_most = search rules in
-    slot-none s.service s.p.servicecount s.p.services l.loop.k (omega arith) l.loop.invariant.1
+    slot_none s.service s.p.servicecount s.p.services l.loop.k (omega arith) l.loop.invariant.1
 
 pub service_slot_spec : {M : Type 1} → statement M
 service_slot_spec =

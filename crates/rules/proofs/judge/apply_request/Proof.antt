@@ -1,4 +1,4 @@
-use Rattle.rules.proofs.Changes.{put-applied, clear-applied, applied-other}
+use Rattle.rules.proofs.Changes.{put_applied, clear_applied, applied_other}
 use borrow.Author.Rules.{rules}
 use mathlib.Core.Path.{sym}
 use Rattle.rules.proofs.judge.apply_request.Statement.{statement}
@@ -14,7 +14,7 @@ returns : tie.Need-returns
 returns c =
     let sel = c.before.before.before in
     let s = sel.before.before.args in
-    put-applied s.p s.operation s.r s.run c.put.result sel.selection-of.result sel.selection-of.ensures
+    put_applied s.p s.operation s.r s.run c.put.result sel.selection-of.result sel.selection-of.ensures
     sel.before.if1.true c.put.ensures
 
 selection-of-requires-2 : tie.Need-selection-of-requires-2
@@ -27,13 +27,13 @@ returns_2 : tie.Need-returns-2
 returns_2 c =
     let off = c.before.before in
     let s = off.before.before.args in
-    clear-applied s.p s.operation s.r s.run c.clear.result c.before.selection-of2.result
+    clear_applied s.p s.operation s.r s.run c.clear.result c.before.selection-of2.result
     c.before.selection-of2.ensures off.before.if1.false off.if2.true c.clear.ensures
 
 returns-3 : tie.Need-returns-3
 returns-3 c =
     let s = c.before.before.args in
-    sym (applied-other s.p s.operation s.r s.run c.before.if1.false c.if2.false)
+    sym (applied_other s.p s.operation s.r s.run c.before.if1.false c.if2.false)
 
 pub apply_request_spec : {M : Type 1} → statement M
 apply_request_spec =

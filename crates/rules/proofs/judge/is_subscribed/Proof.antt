@@ -1,4 +1,4 @@
-use Rattle.rules.proofs.Judges.{subscribed-past}
+use Rattle.rules.proofs.Judges.{subscribed_past}
 use Rattle.rules.specs.Judge.{is_subscribed}
 use Rattle.instances.specs.Instance.{procedures}
 use borrow.Author.Rules.{rules}
@@ -19,7 +19,7 @@ returns_2 : tie.Need-returns-2
 returns_2 c =
     let s = c.before.before.args in
     let long : length s.p.subscribed ≡ procedures = search rules in
-    subscribed-past s.p s.procedure (omega arith)
+    subscribed_past s.p s.procedure (omega arith)
 
 pub is_subscribed_spec : {M : Type 1} → statement M
 is_subscribed_spec = tie.close (tie.spec array-read-result returns returns_2)

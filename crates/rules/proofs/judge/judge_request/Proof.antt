@@ -1,5 +1,5 @@
 use Rattle.rules.specs.Judge.{verdict_no}
-use Rattle.rules.proofs.Judges.{judged_fails, judged_passes, judged-put, judged-clear, renews_other, judge-fails, judge-interrogation}
+use Rattle.rules.proofs.Judges.{judged_fails, judged_passes, judged_put, judged_clear, renews_other, judge_fails, judge_interrogation}
 use Rattle.lists.specs.Entries.{instances_most}
 use Rattle.instances.specs.Run.{instances_of}
 use borrow.Author.Rules.{rules}
@@ -31,9 +31,9 @@ returns c =
     let every = sel.before.before.before in
     let s = every.before.args in
     let passes = sym every.judge-every.ensures ∙ ap verdict_no sel.before.enum_told.given.1 in
-    judged-put instances_most s.p s.operation s.r (instances_of s.run) sel.selection-of.result passes
+    judged_put instances_most s.p s.operation s.r (instances_of s.run) sel.selection-of.result passes
     sel.selection-of.ensures c.before.count-after.result c.before.before.if1.true c.before.count-after.ensures.count
-    c.before.count-after.ensures.renews _ c.judge-activation.ensures
+    c.before.count-after.ensures.renews _ c.judge_activation.ensures
 
 chosen-count-requires : tie.Need-chosen-count-requires
 chosen-count-requires c κs = search rules
@@ -48,16 +48,16 @@ returns_2 c =
     let every = sel.before.before.before in
     let s = every.before.args in
     let passes = sym every.judge-every.ensures ∙ ap verdict_no sel.before.enum_told.given.1 in
-    judged-clear instances_most s.p s.operation s.r (instances_of s.run) sel.selection-of.result passes
+    judged_clear instances_most s.p s.operation s.r (instances_of s.run) sel.selection-of.result passes
     sel.selection-of.ensures c.before.chosen-count.result off.before.if1.false off.if2.true
-    c.before.chosen-count.ensures _ c.judge-deactivation.ensures
+    c.before.chosen-count.ensures _ c.judge_deactivation.ensures
 
 returns-3 : tie.Need-returns-3
 returns-3 c =
     let every = c.before.before.before in
     let s = every.before.args in
     let fails = sym every.judge-every.ensures ∙ ap verdict_no c.before.error.given.1 in
-    rw (judge-fails instances_most s.p s.operation s.r (instances_of s.run) _ fails) (judged_fails _ _)
+    rw (judge_fails instances_most s.p s.operation s.r (instances_of s.run) _ fails) (judged_fails _ _)
 
 returns-4 : tie.Need-returns-4
 returns-4 c =
@@ -65,7 +65,7 @@ returns-4 c =
     let every = sel.before.before.before in
     let s = every.before.args in
     let passes = sym every.judge-every.ensures ∙ ap verdict_no sel.before.enum_told.given.1 in
-    rw (judge-interrogation instances_most s.p s.operation s.r (instances_of s.run) c.before.if1.false c.if2.false
+    rw (judge_interrogation instances_most s.p s.operation s.r (instances_of s.run) c.before.if1.false c.if2.false
     ∙ passes)
     (rw (renews_other s.p s.operation s.r (instances_of s.run) c.before.if1.false) (judged_passes _))
 

@@ -1,4 +1,4 @@
-use Rattle.rules.proofs.Begins.{Tried, tried_here, tried-next, tried-none}
+use Rattle.rules.proofs.Begins.{Tried, tried_here, tried_next, tried_none}
 use Rattle.numbers.specs.Number.{digits_of}
 use Rattle.profile.specs.Profile.{prefixes_most}
 use Rattle.laws.proofs.Parts.{unmapped}
@@ -23,7 +23,7 @@ cast-count c = search rules
 returns : tie.Need-returns invariant-loop decreases-loop
 returns c =
     let s = c.before.before.args in
-    tried-none s.p.prefixcount s.p.prefixes (digits_of s.n) 0 (omega (arith, c.if1.true)) refl
+    tried_none s.p.prefixcount s.p.prefixes (digits_of s.n) 0 (omega (arith, c.if1.true)) refl
 
 loop-holds : tie.Need-loop-init invariant-loop decreases-loop
 loop-holds c = (omega arith, search (unmapped, rules), refl)
@@ -32,7 +32,7 @@ returns_2 : tie.Need-returns-2 invariant-loop decreases-loop
 returns_2 c =
     let l = c.before.before in
     let s = l.before.before.before.before.args in
-    tried-none s.p.prefixcount s.p.prefixes (digits_of s.n) l.loop.k (omega arith) l.loop.invariant.2
+    tried_none s.p.prefixcount s.p.prefixes (digits_of s.n) l.loop.k (omega arith) l.loop.invariant.2
 
 mul-f : tie.Need-overflow-mul-f invariant-loop decreases-loop
 mul-f c = search rules
@@ -62,7 +62,7 @@ loop-again c =
     let s = l.before.before.before.before.args in (
       omega arith,
       l.loop.invariant.1,
-      tried-next s.p.prefixcount s.p.prefixes (digits_of s.n) l.loop.k (omega arith) (omega arith)
+      tried_next s.p.prefixcount s.p.prefixes (digits_of s.n) l.loop.k (omega arith) (omega arith)
           (sym c.before.begins-with.ensures ∙ c.if3.false) l.loop.invariant.2,
     )
 
@@ -70,7 +70,7 @@ returns-4 : tie.Need-returns-4 invariant-loop decreases-loop
 returns-4 c =
     let l = c.before in
     let s = l.before.before.before.before.args in
-    tried-none s.p.prefixcount s.p.prefixes (digits_of s.n) l.loop.k (omega arith) l.loop.invariant.2
+    tried_none s.p.prefixcount s.p.prefixes (digits_of s.n) l.loop.k (omega arith) l.loop.invariant.2
 
 pub begins_any_spec : {M : Type 1} → statement M
 begins_any_spec =

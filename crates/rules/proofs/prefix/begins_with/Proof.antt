@@ -1,4 +1,4 @@
-use Rattle.rules.proofs.Begins.{Begun, begun-next, begun-other, begun_all, begun-short}
+use Rattle.rules.proofs.Begins.{Begun, begun_next, begun_other, begun_all, begun_short}
 use Rattle.numbers.specs.Number.{most}
 use borrow.Author.Rules.{rules}
 use native.Mathlib.Omega.{arith}
@@ -34,7 +34,7 @@ returns_2 c =
     let l = c.before.before.before in
     let s = l.before.before.before.before.before.args in
     let room : length s.f.digits ≡ most = search rules in
-    begun-short s.f.count s.n.count s.f.digits s.n.digits l.loop.i (omega arith) (omega arith) (omega arith)
+    begun_short s.f.count s.n.count s.f.digits s.n.digits l.loop.i (omega arith) (omega arith) (omega arith)
     l.loop.invariant.1
 
 array-read-if3 : tie.Need-array-read-if3 invariant-loop decreases-loop
@@ -49,7 +49,7 @@ returns-3 c =
     let s = l.before.before.before.before.before.args in
     let room : length s.f.digits ≡ most = search rules in
     let other : length s.n.digits ≡ most = search rules in
-    begun-other s.f.count s.n.count s.f.digits s.n.digits l.loop.i (omega arith) (omega arith) (omega arith)
+    begun_other s.f.count s.n.count s.f.digits s.n.digits l.loop.i (omega arith) (omega arith) (omega arith)
     (omega arith) c.if3.true l.loop.invariant.1
 
 add-i : tie.Need-overflow-add-i invariant-loop decreases-loop
@@ -65,7 +65,7 @@ loop-again c =
     let room : length s.f.digits ≡ most = search rules in
     let other : length s.n.digits ≡ most = search rules in (
       omega arith,
-      begun-next s.f.count s.n.count s.f.digits s.n.digits l.loop.i (omega arith) (omega arith) (omega arith)
+      begun_next s.f.count s.n.count s.f.digits s.n.digits l.loop.i (omega arith) (omega arith) (omega arith)
           (omega arith) c.if3.false l.loop.invariant.1,
     )
 

@@ -1,4 +1,4 @@
-use Rattle.rules.proofs.TestLaws.{Compared, compared-here, compared-skip, compared-other, compared-none}
+use Rattle.rules.proofs.TestLaws.{Compared, compared_here, compared_skip, compared_other, compared_none}
 use Rattle.profile.specs.Profile.{numbers_most}
 use Rattle.laws.proofs.Parts.{unmapped}
 use borrow.Author.Rules.{rules}
@@ -27,7 +27,7 @@ returns : tie.Need-returns invariant-loop decreases-loop
 returns c =
     let l = c.before.before in
     let s = l.before.before.before.args in
-    compared-none s.p s.asked s.p.numbercount s.p.numbers s.to l.loop.k (omega arith) l.loop.invariant.2
+    compared_none s.p s.asked s.p.numbercount s.p.numbers s.to l.loop.k (omega arith) l.loop.invariant.2
 
 is-asked-requires : tie.Need-is-asked-requires invariant-loop decreases-loop
 is-asked-requires c κs = search rules
@@ -46,7 +46,7 @@ returns_2 c =
     let asks = c.before.before.before in
     let l = asks.before.before.before.before in
     let s = l.before.before.before.args in
-    compared-here s.p s.asked s.p.numbercount s.p.numbers s.to l.loop.k (omega arith) (omega arith)
+    compared_here s.p s.asked s.p.numbercount s.p.numbers s.to l.loop.k (omega arith) (omega arith)
     (sym asks.before.is-asked.ensures ∙ asks.if2.true)
     (sym c.before.same.ensures ∙ c.if3.true) l.loop.invariant.2
 
@@ -64,10 +64,10 @@ loop-again c =
       l.loop.invariant.1,
       ⊎_elim
           (λ w.
-          compared-other s.p s.asked s.p.numbercount s.p.numbers s.to l.loop.k (omega arith) (omega arith)
+          compared_other s.p s.asked s.p.numbercount s.p.numbers s.to l.loop.k (omega arith) (omega arith)
           (sym c.before.is-asked.ensures ∙ w.0.taken) (sym w.2.ensures ∙ w.3.left) l.loop.invariant.2)
           (λ w.
-          compared-skip s.p s.asked s.p.numbercount s.p.numbers s.to l.loop.k (omega arith) (omega arith)
+          compared_skip s.p s.asked s.p.numbercount s.p.numbers s.to l.loop.k (omega arith) (omega arith)
           (sym c.before.is-asked.ensures ∙ w.left) l.loop.invariant.2) c.if2.branch,
     )
 
@@ -75,7 +75,7 @@ returns-3 : tie.Need-returns-3 invariant-loop decreases-loop
 returns-3 c =
     let l = c.before in
     let s = l.before.before.before.args in
-    compared-none s.p s.asked s.p.numbercount s.p.numbers s.to l.loop.k (omega arith) l.loop.invariant.2
+    compared_none s.p s.asked s.p.numbercount s.p.numbers s.to l.loop.k (omega arith) l.loop.invariant.2
 
 pub selected_same_spec : {M : Type 1} → statement M
 selected_same_spec =

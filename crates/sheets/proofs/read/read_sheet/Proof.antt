@@ -1,4 +1,4 @@
-use Rattle.sheets.proofs.Tables.{reads-profile, reads-form, reads-outside, reads-table}
+use Rattle.sheets.proofs.Tables.{reads_profile, reads_form, reads_outside, reads_table}
 use mathlib.Core.Path.{sym, ◌∙◌}
 use borrow.Author.Tests.{not-true, not-false}
 use borrow.Author.Rules.{rules}
@@ -14,7 +14,7 @@ refuses-requires c κs = search rules
 returns : tie.Need-returns
 returns c =
     let a = c.before.before.before.before.before.before.args in
-    reads-profile a.access.now a.sheet.now _ c.before.before.before.read-access.ensures
+    reads_profile a.access.now a.sheet.now _ c.before.before.before.read-access.ensures
     (not-true _ c.before.if1.true) _ c.refuses.ensures
 
 read-form-requires : tie.Need-read-form-requires
@@ -28,7 +28,7 @@ returns_2 c =
     let form = c.before.before.before in
     let read = form.before.before.before.before in
     let a = read.before.before.before.args in
-    reads-form a.access.now a.sheet.now _ read.read-access.ensures (not-false _ form.before.before.if1.false) _
+    reads_form a.access.now a.sheet.now _ read.read-access.ensures (not-false _ form.before.before.if1.false) _
     form.read-form.ensures
     (not-true _ c.before.if2.true) _ c.refuses2.ensures
 
@@ -43,7 +43,7 @@ returns-3 c =
     let form = c.before.before.before.before.before.before in
     let read = form.before.before.before.before in
     let a = read.before.before.before.args in
-    reads-outside a.access.now a.sheet.now _ read.read-access.ensures (not-false _ form.before.before.if1.false) _
+    reads_outside a.access.now a.sheet.now _ read.read-access.ensures (not-false _ form.before.before.if1.false) _
     form.read-form.ensures
     (not-false _ c.before.before.before.before.if2.false)
     (sym c.before.before.good2.ensures ∙ not-true _ c.before.if3.true) _ c.refuses3.ensures
@@ -53,7 +53,7 @@ returns-4 c =
     let form = c.before.before.before.before.before in
     let read = form.before.before.before.before in
     let a = read.before.before.before.args in
-    reads-table a.access.now a.sheet.now _ read.read-access.ensures (not-false _ form.before.before.if1.false) _
+    reads_table a.access.now a.sheet.now _ read.read-access.ensures (not-false _ form.before.before.if1.false) _
     form.read-form.ensures
     (not-false _ c.before.before.before.if2.false) (sym c.before.good2.ensures ∙ not-false _ c.if3.false)
 

@@ -1,4 +1,4 @@
-use Rattle.sheets.proofs.Writers.{Come, come-first, come-next, come-all}
+use Rattle.sheets.proofs.Writers.{Come, come_first, come_next, come_all}
 use Rattle.numbers.specs.Number.{most}
 use lib.ListN.{length, get_or}
 use mir.Val.{Fits}
@@ -18,7 +18,7 @@ abbrev decreases-loop : tie.decreases-loop
 decreases-loop out₀ at count base octets p₀ i₀ out p i = count - i
 
 loop-holds : tie.Need-loop-init invariant-loop decreases-loop
-loop-holds c = let a = c.before.args in (omega arith, refl, come-first a.base a.t3 a.out.now a.at)
+loop-holds c = let a = c.before.args in (omega arith, refl, come_first a.base a.t3 a.out.now a.at)
 
 array-read-value : tie.Need-array-read-value invariant-loop decreases-loop
 array-read-value c = search rules
@@ -48,7 +48,7 @@ loop-again c =
     let long : length s.args.t3 ≡ most = search (rules, s.well-formed) in (
       omega (arith, c.before.before.before.before.loop-test.true),
       search rules,
-      come-next _ _ _ _ l.invariant.2 s.args.count c.before.before.before.before.loop-test.true (omega (arith, s.requires.0))
+      come_next _ _ _ _ l.invariant.2 s.args.count c.before.before.before.before.loop-test.true (omega (arith, s.requires.0))
           s.requires.2 c.before.before.put-groups.ensures,
     )
 
@@ -60,7 +60,7 @@ returns c =
     let s = c.before.before.before in
     let l = c.before.loop in
     let long : length s.args.t3 ≡ most = search (rules, s.well-formed) in
-    come-all _ _ _ _ l.invariant.2 s.args.count (omega (arith, c.loop-test.false)) (omega (arith, s.requires.0))
+    come_all _ _ _ _ l.invariant.2 s.args.count (omega (arith, c.loop-test.false)) (omega (arith, s.requires.0))
 
 pub write_above_spec : {M : Type 1} → statement M
 write_above_spec =

@@ -1,5 +1,5 @@
 use Rattle.laws.proofs.Over.{wrote_length}
-use Rattle.sheets.proofs.Writers.{digits_above, digits-room, sub-room, address_wrote}
+use Rattle.sheets.proofs.Writers.{digits_above, digits_room, sub_room, address_wrote}
 use Rattle.numbers.specs.Number.{most}
 use Rattle.numbers.proofs.Goods.{good_number, good_address}
 use lib.ListN.{length}
@@ -37,7 +37,7 @@ write-above-requires c κs =
     let long : length a.number.digits ≡ most = search (rules, s.well-formed.1.1.0) in (
       (good_number a.number (good_address a s.requires.0).number).few,
       digits_above a s.requires.0 long,
-      digits-room a s.requires.1 c.before.before.before.before.before.before.before.before.before.before.before.before.before.before.put-groups.ensures c.before.before.before.before.before.before.before.before.before.put-groups2.ensures
+      digits_room a s.requires.1 c.before.before.before.before.before.before.before.before.before.before.before.before.before.before.put-groups.ensures c.before.before.before.before.before.before.before.before.before.put-groups2.ensures
           c.before.before.before.before.put-groups3.ensures,
     )
 
@@ -56,7 +56,7 @@ write-above-requires-2 c κs =
     let a = s.args.address in (
       (good_address a s.pre.0).few,
       (λ i lt. omega arith),
-      sub-room a s.pre.1 c.before.before.before.before.before.before.before.before.before.before.before.before.before.before.before.before.before.before.before.before.before.before.before.before.put-groups.ensures
+      sub_room a s.pre.1 c.before.before.before.before.before.before.before.before.before.before.before.before.before.before.before.before.before.before.before.before.before.before.before.before.put-groups.ensures
           c.before.before.before.before.before.before.before.before.before.before.before.before.before.before.before.before.before.before.before.put-groups2.ensures
           c.before.before.before.before.before.before.before.before.before.before.before.before.before.before.put-groups3.ensures
           c.before.before.before.before.before.before.before.before.before.write-above.ensures

@@ -2,7 +2,7 @@ use Rattle.laws.proofs.Over.{wrote_length}
 use Rattle.numbers.specs.Number.{most}
 use Rattle.forms.specs.Size.{instance_most}
 use Rattle.forms.specs.Instance.{all_groups, instance_fields}
-use Rattle.sheets.proofs.InstanceWriters.{instance-room, instance-wrote}
+use Rattle.sheets.proofs.InstanceWriters.{instance_room, instance_wrote}
 use Rattle.sheets.proofs.WrittenTables.{writable_most}
 use Prim.Native.Nat.{ℕ, ◌≤◌}
 use mathlib.Core.Path.{◌≡◌}
@@ -46,7 +46,7 @@ write-address-requires c κs =
     let first = second.before.before.before.before.before in
     let s = first.before.before.before.before.before in (
       s.requires.0.address,
-      instance-room s.args.x (small s) s.requires.1 first.put-groups.ensures second.put-groups2.ensures
+      instance_room s.args.x (small s) s.requires.1 first.put-groups.ensures second.put-groups2.ensures
           third.put-groups3.ensures,
     )
 
@@ -56,7 +56,7 @@ all-wrote c =
     let second = third.before.before.before.before.before in
     let first = second.before.before.before.before.before in
     let s = first.before.before.before.before.before in
-    instance-wrote s.args.x (small s) s.requires.1 first.put-groups.ensures second.put-groups2.ensures
+    instance_wrote s.args.x (small s) s.requires.1 first.put-groups.ensures second.put-groups2.ensures
     third.put-groups3.ensures
     c.before.before.write-address.ensures
 

@@ -2,7 +2,7 @@ use Rattle.instances.specs.Places.{run_most}
 use Rattle.instances.specs.Run.{instances_of}
 use Rattle.instances.proofs.Runs.{outside}
 use Rattle.sheets.specs.inner.Write.{WroteInstances}
-use Rattle.sheets.proofs.InstanceWriters.{writable_at, run-first, run-all, run-space, run-next, met, met_all, met-whole}
+use Rattle.sheets.proofs.InstanceWriters.{writable_at, run_first, run_all, run_space, run_next, met, met_all, met_whole}
 use lib.ListN.{length, take, get_or}
 use native.Mathlib.Omega.{arith}
 use mathlib.Core.Path.{◌≡◌, refl}
@@ -24,7 +24,7 @@ cast-n c = search rules
 
 loop-holds : tie.Need-loop-init invariant-loop decreases-loop
 loop-holds c =
-    let a = c.before.args in (omega arith, refl, run-first (instances_of a.t3) a.out.now a.at)
+    let a = c.before.args in (omega arith, refl, run_first (instances_of a.t3) a.out.now a.at)
 
 same_length : tie.Need-same-length invariant-loop decreases-loop
 same_length c = search rules
@@ -33,7 +33,7 @@ returns : tie.Need-returns invariant-loop decreases-loop
 returns c =
     let a = c.before.before.before.before.args in
     let l = c.before.before.loop in
-    run-all (instances_of a.t3) a.out.now a.at l.invariant.2 (met_all a.t3 l.i c.if1.true)
+    run_all (instances_of a.t3) a.out.now a.at l.invariant.2 (met_all a.t3 l.i c.if1.true)
 
 mul-x : tie.Need-overflow-mul-x invariant-loop decreases-loop
 mul-x c = search rules
@@ -55,7 +55,7 @@ write-instance-requires c κs =
     met run l.i outside (omega (arith, c.before.before.if1.false))
     (omega (arith, here s, c.before.before.before.loop-test.true)) in (
       rw next.1 at (writable_at (instances_of run) s.requires.0 l.i outside next.0),
-      run-space (instances_of run) a.out.now a.at l.invariant.2 next.0 (get_or run.run l.i outside) outside next.1
+      run_space (instances_of run) a.out.now a.at l.invariant.2 next.0 (get_or run.run l.i outside) outside next.1
           s.requires.1,
     )
 
@@ -76,7 +76,7 @@ loop-again c =
     met run l.i outside (omega (arith, c.before.before.before.before.before.if1.false)) (omega (arith, here s, taken)) in (
       omega (arith, taken),
       search rules,
-      run-next (instances_of run) a.out.now a.at l.invariant.2 next.0 (get_or run.run l.i outside) outside next.1
+      run_next (instances_of run) a.out.now a.at l.invariant.2 next.0 (get_or run.run l.i outside) outside next.1
           c.before.before.write-instance.ensures,
     )
 
@@ -88,7 +88,7 @@ returns_2 c =
     let s = c.before.before.before in
     let a = s.args in
     let l = c.before.loop in
-    run-all (instances_of a.t3) a.out.now a.at l.invariant.2 (met-whole a.t3 l.i (omega (arith, here s, c.loop-test.false)))
+    run_all (instances_of a.t3) a.out.now a.at l.invariant.2 (met_whole a.t3 l.i (omega (arith, here s, c.loop-test.false)))
 
 pub write_run_spec : {M : Type 1} → statement M
 write_run_spec =

@@ -11,8 +11,8 @@ use Rattle.exchange.specs.Table.{table_good}
 use Rattle.forms.specs.Form.{form1}
 use Rattle.forms.specs.Size.{sheet_most}
 use Rattle.forms.specs.Sheet.{sheet_octets}
-use Rattle.sheets.proofs.InstanceWriters.{sheet-space, sheet-wrote}
-use Rattle.sheets.proofs.WrittenSheets.{writes_short, writes-profile, writes-table, writes_sheet, refused_writes, sheet_writes, Ready, ready}
+use Rattle.sheets.proofs.InstanceWriters.{sheet_space, sheet_wrote}
+use Rattle.sheets.proofs.WrittenSheets.{writes_short, writes_profile, writes_table, writes_sheet, refused_writes, sheet_writes, Ready, ready}
 use Prim.Native.Nat.{ℕ, ◌≤◌}
 use mathlib.Core.List.{List}
 use lib.ListN.{length}
@@ -44,7 +44,7 @@ returns_2 : tie.Need-returns-2
 returns_2 c =
     let a = c.before.before.before.before.before.before.before.args in
     refused_writes a.access.now a.table a.out.now BadProfile _
-    (writes-profile a.access.now a.table (length a.out.now) (omega (arith, c.before.before.before.before.if1.false))
+    (writes_profile a.access.now a.table (length a.out.now) (omega (arith, c.before.before.before.before.if1.false))
     (ap (λ (r : AccessRead). r.ok) (sym c.before.before.before.read-access.ensures) ∙ not-true _ c.before.if2.true))
     c.not-written2.ensures
 
@@ -59,7 +59,7 @@ returns-3 c =
     let a = c.before.before.before.before.before.before.before.before.before.before.args in
     let read = c.before.before.before.before.before.before.read-access.ensures in
     refused_writes a.access.now a.table a.out.now BadTable _
-    (writes-table a.access.now a.table (length a.out.now)
+    (writes_table a.access.now a.table (length a.out.now)
     (omega (arith, c.before.before.before.before.before.before.before.if1.false))
     (ap (λ (r : AccessRead). r.ok) (sym read) ∙ not-false _ c.before.before.before.before.if2.false)
     (rw read at (sym c.before.before.good2.ensures ∙ not-true _ c.before.if3.true)))
@@ -119,7 +119,7 @@ write-run-requires c κs =
     let t = (begun e).args.table in
     let f = fit e in (
       f.writable,
-      sheet-space form1 t.last (instances_of t.run) (omega arith) f.last f.few f.space
+      sheet_space form1 t.last (instances_of t.run) (omega arith) f.last f.few f.space
           (rw form.form-one.ensures at first.put-groups.ensures) second.put-groups2.ensures
           (rw (sym f.count) at third.put-groups3.ensures),
     )
@@ -142,7 +142,7 @@ wrote_sheet_lem c =
     let e = passed c in
     let t = (begun e).args.table in
     let f = fit e in
-    sheet-wrote form1 t.last (instances_of t.run) (omega arith) f.last f.few f.space
+    sheet_wrote form1 t.last (instances_of t.run) (omega arith) f.last f.few f.space
     (rw first.before.before.before.form-one.ensures at first.put-groups.ensures) second.put-groups2.ensures
     (rw (sym f.count) at third.put-groups3.ensures) c.before.before.write-run.ensures
 

@@ -5,7 +5,7 @@ use lib.ListN.{length}
 use native.Mathlib.Omega.{arith}
 use borrow.Author.Tests.{eq-eqb, ne_eqb}
 use Rattle.testtext.specs.Line.{found_from}
-use Rattle.testtext.proofs.Lines.{found_here, found-next, found-end}
+use Rattle.testtext.proofs.Lines.{found_here, found_next, found_end}
 use Rattle.testtext.proofs.line.find.Goals as goal
 
 pub loop-i-init : goal.loop-i-init
@@ -22,14 +22,14 @@ loop-i-preserved c =
       omega arith,
       omega arith,
       c.loop-i.invariant.2
-          ∙ found-next s _ c.loop-i.i c.loop-i-test.true (ne_eqb _ _ c.if-s-i.false),
+          ∙ found_next s _ c.loop-i.i c.loop-i-test.true (ne_eqb _ _ c.if-s-i.false),
     )
 
 pub returns : goal.returns
 returns c =
     let s = c.args.s.now in
     record {
-      is = sym (c.loop-i.invariant.2 ∙ found-end s _ c.loop-i.i c.loop-i-test.false);
+      is = sym (c.loop-i.invariant.2 ∙ found_end s _ c.loop-i.i c.loop-i-test.false);
       from = c.loop-i.invariant.0;
       within = c.loop-i.invariant.1;
     }

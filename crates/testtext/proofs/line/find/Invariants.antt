@@ -5,7 +5,7 @@ use lib.ListN.{length}
 use native.Mathlib.Omega.{arith}
 use borrow.Author.Tests.{eq-eqb, ne_eqb}
 use Rattle.testtext.specs.Line.{found_from}
-use Rattle.testtext.proofs.Lines.{found_here, found-next, found-end}
+use Rattle.testtext.proofs.Lines.{found_here, found_next, found_end}
 use Rattle.testtext.proofs.line.find.Given as goal
 
 abbrev pub invariant-loop-i : goal.invariant-loop-i

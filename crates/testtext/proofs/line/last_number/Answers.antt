@@ -4,7 +4,7 @@ use mathlib.Core.Path.{◌≡◌, refl, sym, ◌∙◌}
 use lib.ListN.{length, drop}
 use native.Mathlib.Omega.{arith}
 use Rattle.testtext.specs.Line.{number_after}
-use Rattle.testtext.proofs.Lines.{number-next, number-end}
+use Rattle.testtext.proofs.Lines.{number_next, number_end}
 use Rattle.testtext.proofs.line.last_number.Goals as goal
 
 pub loop-i-init : goal.loop-i-init
@@ -15,10 +15,10 @@ loop-i-preserved c =
     let s = c.args.s.now in (
       omega arith,
       c.loop-i.invariant.1 ∙ rw c.next_number-n.ensures
-          (number-next s c.loop-i.n c.loop-i.i c.loop-i-test.true),
+          (number_next s c.loop-i.n c.loop-i.i c.loop-i-test.true),
     )
 
 pub returns : goal.returns
 returns c =
     let s = c.args.s.now in
-    sym (c.loop-i.invariant.1 ∙ number-end s c.loop-i.n c.loop-i.i c.loop-i-test.false)
+    sym (c.loop-i.invariant.1 ∙ number_end s c.loop-i.n c.loop-i.i c.loop-i-test.false)

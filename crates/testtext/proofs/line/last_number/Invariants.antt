@@ -4,7 +4,7 @@ use mathlib.Core.Path.{◌≡◌, refl, sym, ◌∙◌}
 use lib.ListN.{length, drop}
 use native.Mathlib.Omega.{arith}
 use Rattle.testtext.specs.Line.{number_after}
-use Rattle.testtext.proofs.Lines.{number-next, number-end}
+use Rattle.testtext.proofs.Lines.{number_next, number_end}
 use Rattle.testtext.proofs.line.last_number.Given as goal
 
 abbrev pub invariant-loop-i : goal.invariant-loop-i

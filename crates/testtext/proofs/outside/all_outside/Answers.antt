@@ -6,17 +6,17 @@ use lib.ListN.{length, get_or}
 use native.Mathlib.Omega.{arith}
 use borrow.Author.Tests.{not-true, not-false}
 use Rattle.laws.specs.Places.{every_to}
-use Rattle.laws.proofs.Walks.{every-none, every-fails, every_more}
+use Rattle.laws.proofs.Walks.{every_none, every_fails, every_more}
 use Rattle.testtext.specs.Outside.{octet_passes}
 use Rattle.testtext.proofs.outside.all_outside.Goals as goal
 
 pub loop-i-init : goal.loop-i-init
-loop-i-init c = (omega arith, every-none _)
+loop-i-init c = (omega arith, every_none _)
 
 pub returns-then-not-octet_passes : goal.returns-then-not-octet_passes
 returns-then-not-octet_passes c =
     let a = c.args in sym
-    (every-fails _ (length a.s.now) c.loop-i.i c.loop-i-test.true
+    (every_fails _ (length a.s.now) c.loop-i.i c.loop-i-test.true
     (sym c.octet_passes.ensures ∙ c.if-not-octet_passes.true))
 
 pub loop-i-preserved : goal.loop-i-preserved

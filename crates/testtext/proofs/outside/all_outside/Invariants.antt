@@ -6,7 +6,7 @@ use lib.ListN.{length, get_or}
 use native.Mathlib.Omega.{arith}
 use borrow.Author.Tests.{not-true, not-false}
 use Rattle.laws.specs.Places.{every_to}
-use Rattle.laws.proofs.Walks.{every-none, every-fails, every_more}
+use Rattle.laws.proofs.Walks.{every_none, every_fails, every_more}
 use Rattle.testtext.specs.Outside.{octet_passes}
 use Rattle.testtext.proofs.outside.all_outside.Given as goal
 

@@ -1,4 +1,4 @@
-use Rattle.values.proofs.Idents.{fewest-two, length_ident, ident_octets_lem}
+use Rattle.values.proofs.Idents.{fewest_two, length_ident, ident_octets_lem}
 use Rattle.values.specs.Ident.{ident_fewest}
 use lib.ListN.{length}
 use mir.Facts.{to_z-of_z}
@@ -11,7 +11,7 @@ pub overflow_add-result : goal.overflow_add-result
 overflow_add-result c = let z = c.args.value in
     let range = c.ranges.value.sfits in
     let count = rw (to_z-of_z c.ranges.value) at c.ident_fewest.ensures in
-    omega (arith, count, fewest-two z range)
+    omega (arith, count, fewest_two z range)
 
 pub returns : goal.returns
 returns c = let z = c.args.value in

@@ -1,4 +1,4 @@
-use Rattle.values.proofs.Idents.{fewest-two, fewest-magnitude, length_ident, ident_octets_lem}
+use Rattle.values.proofs.Idents.{fewest_two, fewest_magnitude, length_ident, ident_octets_lem}
 use Rattle.values.specs.Ident.{ident_fewest, bits}
 use Rattle.laws.proofs.Over.{wrote, puts_none, puts_all}
 use Rattle.octets.proofs.Elements.{headed}
@@ -14,7 +14,7 @@ pub overflow_add-need : goal.overflow_add-need
 overflow_add-need c = let z = c.args.value in
     let range = c.ranges.value.sfits in
     let count = rw (to_z-of_z c.ranges.value) at c.ident_fewest-w.ensures in
-    omega (arith, count, fewest-two z range)
+    omega (arith, count, fewest_two z range)
 
 pub returns-then-out-need : goal.returns-then-out-need
 returns-then-out-need c = let z = c.args.value in
@@ -32,11 +32,11 @@ pub pattern-u-requires : goal.pattern-u-requires
 pattern-u-requires c = let z = c.args.value in
     let range = c.ranges.value.sfits in
     let same = to_z-of_z c.ranges.value in
-    rw (same, rw same at c.ident_fewest-w.ensures) (fewest-two z range, fewest-magnitude z range)
+    rw (same, rw same at c.ident_fewest-w.ensures) (fewest_two z range, fewest_magnitude z range)
 
 pub overflow_cast-w : goal.overflow_cast-w
 overflow_cast-w c = let count = rw (to_z-of_z c.ranges.value) at c.ident_fewest-w.ensures in
-    omega (arith, count, fewest-two c.args.value c.ranges.value.sfits)
+    omega (arith, count, fewest_two c.args.value c.ranges.value.sfits)
 
 pub returns : goal.returns
 returns c = let z = c.args.value in

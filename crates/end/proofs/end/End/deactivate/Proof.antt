@@ -1,4 +1,4 @@
-use Rattle.end.proofs.Waitings.{written_for, written-left, written-sends}
+use Rattle.end.proofs.Waitings.{written_for, written_left, written_sends}
 use borrow.Author.Rules.{rules}
 use Rattle.end.proofs.end.End.deactivate.Statement.{statement}
 use Rattle.end.proofs.end.End.deactivate.Tie as tie
@@ -17,7 +17,7 @@ send-requires c κs = c.before.before.before.before.before.rules-hold.ensures
 
 end-after-requires : tie.Need-end-after-requires
 end-after-requires c κs =
-    written-left _ _ _ _ _ _ _
+    written_left _ _ _ _ _ _ _
     (written_for _ _ _ _ _ _ _ _ _ c.before.before.before.before.before.before.before.read-access.ensures
     c.before.before.before.before.good2.ensures c.before.before.send.ensures)
 
@@ -26,7 +26,7 @@ same_length c = search rules
 
 returns : tie.Need-returns
 returns c =
-    written-sends _ _ _ _ _ _ _
+    written_sends _ _ _ _ _ _ _
     (written_for _ _ _ _ _ _ _ _ _ c.before.before.before.before.before.before.before.before.read-access.ensures
     c.before.before.before.before.before.good2.ensures c.before.before.before.send.ensures) _
     c.end_after.ensures

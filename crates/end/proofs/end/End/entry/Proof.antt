@@ -1,4 +1,4 @@
-use Rattle.end.proofs.Shows.{entry_none, out-count, out_refused, out_doubt, count_most, entry-there}
+use Rattle.end.proofs.Shows.{entry_none, out_count, out_refused, out_doubt, count_most, entry_there}
 use Rattle.end.specs.Shown.{shown_no}
 use native.Mathlib.Omega.{arith}
 use mathlib.Core.Path.{sym, ap, ◌∙◌}
@@ -24,7 +24,7 @@ returns c =
     let is = sym (ap shown_no c.before.before.shown2.given.1) ∙ c.before.before.before.before.before.before.shown.ensures in
     rw c.before.before.before.before.before.no-entries.ensures
     (entry_none a.access.now a.self a.procedure a.i _ is
-    (omega (arith, out-count a.access.now a.self a.procedure _ is, c.if1.true)))
+    (omega (arith, out_count a.access.now a.self a.procedure _ is, c.if1.true)))
 
 read-access-requires : tie.Need-read-access-requires
 read-access-requires c κs = search rules
@@ -63,7 +63,7 @@ returns_2 c =
     let is =
     sym (ap shown_no c.before.before.before.before.before.before.before.before.shown2.given.1)
     ∙ c.before.before.before.before.before.before.before.before.before.before.before.before.shown.ensures in
-    entry-there a.access.now a.self a.procedure _ is a.i
+    entry_there a.access.now a.self a.procedure _ is a.i
     (omega (arith, c.before.before.before.before.before.before.if1.false)) _ _
     (rw (c.before.before.every_of.ensures, c.before.before.before.before.before.read-access.ensures) at
     c.before.entries.ensures)

@@ -1,4 +1,4 @@
-use Rattle.end.proofs.Movings.{gives-profile, gives-end, gives_all, gave_nothing, gave_doubt, refused_moves, all_moves}
+use Rattle.end.proofs.Movings.{gives_profile, gives_end, gives_all, gave_nothing, gave_doubt, refused_moves, all_moves}
 use Rattle.end.specs.Taking.{gives_up}
 use Rattle.refusals.specs.declared.refusal.Refusal.TheVariants.{BadProfile, BadTable}
 use Rattle.profile.specs.declared.access.AccessRead.{AccessRead}
@@ -18,7 +18,7 @@ returns : tie.Need-returns
 returns c =
     let a = c.before.before.before.before.before.args in
     refused_moves (gives_up a.access.now a.self) a.self BadProfile _
-    (gives-profile a.access.now a.self
+    (gives_profile a.access.now a.self
     (ap (λ (q : AccessRead). q.ok) (sym c.before.before.before.read-access.ensures) ∙ not-true _ c.before.if1.true))
     c.refuses.ensures
 
@@ -32,7 +32,7 @@ returns_2 : tie.Need-returns-2
 returns_2 c =
     let a = c.before.before.before.before.before.before.before.before.args in
     refused_moves (gives_up a.access.now a.self) a.self BadTable _
-    (gives-end a.access.now a.self
+    (gives_end a.access.now a.self
     (ap (λ (q : AccessRead). q.ok) (sym c.before.before.before.before.before.before.read-access.ensures)
     ∙ not-false _ c.before.before.before.before.if1.false)
     (rw c.before.before.before.before.before.before.read-access.ensures at

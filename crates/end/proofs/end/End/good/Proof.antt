@@ -1,4 +1,4 @@
-use Rattle.end.proofs.Ends.{rules-fail, rules-pass}
+use Rattle.end.proofs.Ends.{rules_fail, rules_pass}
 use Rattle.lists.specs.Entries.{instances_most}
 use borrow.Author.Tests.{not-true, not-false}
 use mathlib.Core.Path.{sym, ◌∙◌}
@@ -12,7 +12,7 @@ rules-hold-requires c κs = search rules
 returns : tie.Need-returns
 returns c =
     let a = c.before.before.before.args in
-    sym (rules-fail instances_most a.p a.self (sym c.before.rules-hold.ensures ∙ not-true _ c.if1.true))
+    sym (rules_fail instances_most a.p a.self (sym c.before.rules-hold.ensures ∙ not-true _ c.if1.true))
 
 good-requires : tie.Need-good-requires
 good-requires c κs = search rules
@@ -20,7 +20,7 @@ good-requires c κs = search rules
 returns_2 : tie.Need-returns-2
 returns_2 c =
     let a = c.before.before.before.before.before.args in
-    c.good2.ensures ∙ sym (rules-pass instances_most a.p a.self
+    c.good2.ensures ∙ sym (rules_pass instances_most a.p a.self
     (sym c.before.before.before.rules-hold.ensures ∙ not-false _ c.before.before.if1.false))
 
 pub good_spec : {M : Type 1} → statement M

@@ -1,8 +1,8 @@
-use Rattle.end.proofs.Shows.{shown-count}
+use Rattle.end.proofs.Shows.{shown_count}
 use Rattle.end.specs.Shown.{seen_known}
 use Rattle.refusals.specs.Refusal.{tells}
 use Prim.Native.Nat.{ℕ}
-use Rattle.end.proofs.Shows.{shown-profile, shown-end, shown-none, shown-doubt, shown-known}
+use Rattle.end.proofs.Shows.{shown_profile, shown_end, shown_none, shown_doubt, shown_known}
 use Rattle.profile.specs.declared.access.AccessRead.{AccessRead}
 use borrow.Author.Tests.{not-true, not-false}
 use native.Mathlib.Omega.{arith}
@@ -17,7 +17,7 @@ read-access-requires c κs = search rules
 returns : tie.Need-returns
 returns c =
     let a = c.before.before.before.before.args in
-    sym (shown-profile a.access.now a.self a.procedure
+    sym (shown_profile a.access.now a.self a.procedure
     (ap (λ (q : AccessRead). q.ok) (sym c.before.before.read-access.ensures) ∙ not-true _ c.if1.true))
 
 good-requires : tie.Need-good-requires
@@ -26,7 +26,7 @@ good-requires c κs = search rules
 returns_2 : tie.Need-returns-2
 returns_2 c =
     let a = c.before.before.before.before.before.before.before.args in
-    sym (shown-end a.access.now a.self a.procedure
+    sym (shown_end a.access.now a.self a.procedure
     (ap (λ (q : AccessRead). q.ok) (sym c.before.before.before.before.before.read-access.ensures)
     ∙ not-false _ c.before.before.before.if1.false)
     (rw c.before.before.before.before.before.read-access.ensures at
@@ -35,7 +35,7 @@ returns_2 c =
 returns-3 : tie.Need-returns-3
 returns-3 c =
     let a = c.before.before.before.before.before.before.before.before.args in
-    sym (shown-none a.access.now a.self a.procedure
+    sym (shown_none a.access.now a.self a.procedure
     (ap (λ (q : AccessRead). q.ok) (sym c.before.before.before.before.before.before.read-access.ensures)
     ∙ not-false _ c.before.before.before.before.if1.false)
     (rw c.before.before.before.before.before.before.read-access.ensures at
@@ -47,7 +47,7 @@ mark-at-requires c κs = search rules
 returns-4 : tie.Need-returns-4
 returns-4 c =
     let a = c.before.before.before.before.before.before.before.before.before.before.before.args in
-    sym (shown-doubt a.access.now a.self a.procedure
+    sym (shown_doubt a.access.now a.self a.procedure
     (ap (λ (q : AccessRead). q.ok) (sym c.before.before.before.before.before.before.before.before.before.read-access.ensures)
     ∙ not-false _ c.before.before.before.before.before.before.before.if1.false)
     (rw c.before.before.before.before.before.before.before.before.before.read-access.ensures at
@@ -64,8 +64,8 @@ returns-5 : tie.Need-returns-5
 returns-5 c =
     let a = c.before.before.before.before.before.before.before.before.before.before.before.before.before.before.args in
     ap (λ (n : ℕ). tells (seen_known n))
-    (rw c.before.every_of.ensures at c.chosen-count.ensures ∙ shown-count a.access.now a.self a.procedure)
-    ∙ sym (shown-known a.access.now a.self a.procedure
+    (rw c.before.every_of.ensures at c.chosen-count.ensures ∙ shown_count a.access.now a.self a.procedure)
+    ∙ sym (shown_known a.access.now a.self a.procedure
     (ap (λ (q : AccessRead). q.ok)
     (sym c.before.before.before.before.before.before.before.before.before.before.before.before.read-access.ensures)
     ∙ not-false _ c.before.before.before.before.before.before.before.before.before.before.if1.false)

@@ -11,8 +11,8 @@ use Rattle.profile.specs.Access.{access_read}
 use Rattle.profile.specs.declared.access.AccessRead.{AccessRead}
 use Rattle.lists.specs.Entries.{instances_most}
 use Rattle.end.specs.End.{end_rules, end_good}
-use Rattle.end.proofs.Ends.{rules-fail, rules-pass, used-most}
-use Rattle.end.proofs.Movings.{takes-long, takes-profile, takes-end, takes_all, refused_moves, all_moves}
+use Rattle.end.proofs.Ends.{rules_fail, rules_pass, used_most_lem}
+use Rattle.end.proofs.Movings.{takes_long, takes_profile, takes_end, takes_all, refused_moves, all_moves}
 use borrow.Author.Rules.{rules}
 use Rattle.end.proofs.end.End.take.Statement.{statement}
 use Rattle.end.proofs.end.End.take.Tie as tie
@@ -52,13 +52,13 @@ rules c = sym c.before.rules-hold.ensures ∙ not-false _ c.if3.false
 good : (c : tie.Else4) → end_good instances_most (access_read (entry4 c).args.access.now).profile (entry4 c).args.self ≡ true
 good c =
     let read = (from3 (from4 c)).before.before.read-access in
-    rules-pass instances_most _ _ (rules (from4 c)) ∙ rw read.ensures at (sym c.before.good2.ensures ∙ not-false _ c.if4.false)
+    rules_pass instances_most _ _ (rules (from4 c)) ∙ rw read.ensures at (sym c.before.good2.ensures ∙ not-false _ c.if4.false)
 
 refuses-requires : tie.Need-refuses-requires
 refuses-requires c κs = search rules
 
 returns : tie.Need-returns
-returns c = refused_moves _ _ LongComponent _ (takes-long _ _ _ (omega (arith, c.before.if1.true))) c.refuses.ensures
+returns c = refused_moves _ _ LongComponent _ (takes_long _ _ _ (omega (arith, c.before.if1.true))) c.refuses.ensures
 
 read-access-requires : tie.Need-read-access-requires
 read-access-requires c κs = search rules
@@ -69,7 +69,7 @@ refuses-requires-2 c κs = search rules
 returns_2 : tie.Need-returns-2
 returns_2 c =
     let bad = ap (λ (q : AccessRead). q.ok) (sym c.before.before.before.read-access.ensures) ∙ not-true _ c.before.if2.true in
-    refused_moves _ _ BadProfile _ (takes-profile _ _ _ (fair c.before.before.before.before) bad) c.refuses2.ensures
+    refused_moves _ _ BadProfile _ (takes_profile _ _ _ (fair c.before.before.before.before) bad) c.refuses2.ensures
 
 rules-hold-requires : tie.Need-rules-hold-requires
 rules-hold-requires c κs = search rules
@@ -80,8 +80,8 @@ refuses-requires-3 c κs = search rules
 returns-3 : tie.Need-returns-3
 returns-3 c =
     let d = c.before.before.before.before.before in
-    let bad = rules-fail instances_most _ _ (sym c.before.before.rules-hold.ensures ∙ not-true _ c.before.if3.true) in
-    refused_moves _ _ BadTable _ (takes-end _ _ _ (fair (from2 d)) (ok d) bad) c.refuses3.ensures
+    let bad = rules_fail instances_most _ _ (sym c.before.before.rules-hold.ensures ∙ not-true _ c.before.if3.true) in
+    refused_moves _ _ BadTable _ (takes_end _ _ _ (fair (from2 d)) (ok d) bad) c.refuses3.ensures
 
 good-requires : tie.Need-good-requires
 good-requires c κs = search rules
@@ -96,10 +96,10 @@ returns-4 c =
     let bad = rw k.before.before.read-access.ensures at
     (sym c.before.before.good2.ensures ∙ not-true _ c.before.if4.true) in
     refused_moves _ _ BadTable _
-    (takes-end _ _ _ (fair (from2 k)) (ok k) (rules-pass instances_most _ _ (rules d) ∙ bad)) c.refuses4.ensures
+    (takes_end _ _ _ (fair (from2 k)) (ok k) (rules_pass instances_most _ _ (rules d) ∙ bad)) c.refuses4.ensures
 
 took-requires : tie.Need-took-requires
-took-requires c κs = used-most instances_most _ _ (good c)
+took-requires c κs = used_most_lem instances_most _ _ (good c)
 
 returns-5 : tie.Need-returns-5
 returns-5 c =

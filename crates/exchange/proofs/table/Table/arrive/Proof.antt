@@ -1,6 +1,6 @@
-use Rattle.exchange.proofs.Arrivals.{done-short, done-long, done-profile, done-table, refused_arrives}
-use Rattle.exchange.proofs.Arrivals.{says-arrives, fails-arrives, lists-arrives, changes-arrives, renews_applied}
-use Rattle.exchange.proofs.Tables.{table-over, table-run}
+use Rattle.exchange.proofs.Arrivals.{done_short, done_long, done_profile, done_table, refused_arrives}
+use Rattle.exchange.proofs.Arrivals.{says_arrives, fails_arrives, lists_arrives, changes_arrives, renews_applied}
+use Rattle.exchange.proofs.Tables.{table_over, table_run}
 use Rattle.refusals.specs.declared.refusal.Refusal.TheVariants.{ShortOutput, LongComponent, BadProfile, BadTable}
 use Rattle.lists.specs.Entries.{instances_most}
 use Rattle.rules.specs.Judge.{applied}
@@ -90,14 +90,14 @@ returns : tie.Need-returns
 returns c =
     let a = c.before.before.before.before.before.before.before.before.args in
     refused_arrives a.access.now a.self a.component.now a.out.now ShortOutput _
-    (done-short a.access.now a.self a.component.now (length a.out.now) (omega (arith, c.before.if1.true)))
+    (done_short a.access.now a.self a.component.now (length a.out.now) (omega (arith, c.before.if1.true)))
     c.refuses.ensures
 
 returns_2 : tie.Need-returns-2
 returns_2 c =
     let a = c.before.before.before.before.before.before.before.before.before.args in
     refused_arrives a.access.now a.self a.component.now a.out.now LongComponent _
-    (done-long a.access.now a.self a.component.now (length a.out.now) (omega (arith, c.before.before.if1.false))
+    (done_long a.access.now a.self a.component.now (length a.out.now) (omega (arith, c.before.before.if1.false))
     (omega (arith, c.before.if2.true)))
     c.refuses2.ensures
 
@@ -106,7 +106,7 @@ returns-3 c =
     let g = c.before.before.before.before.before.before in
     let a = g.before.before.before.before.before.args in
     refused_arrives a.access.now a.self a.component.now a.out.now BadProfile _
-    (done-profile a.access.now a.self a.component.now (length a.out.now)
+    (done_profile a.access.now a.self a.component.now (length a.out.now)
     (omega (arith, c.before.before.before.before.if1.false)) (omega (arith, c.before.before.before.if2.false))
     (ap (λ (r : AccessRead). r.ok) (sym g.read-access.ensures) ∙ not-true _ c.before.if3.true))
     c.refuses3.ensures
@@ -116,11 +116,11 @@ returns-4 c =
     let g = c.before.before.before.before.before.before.before.before in
     let a = g.before.before.before.before.before.args in
     refused_arrives a.access.now a.self a.component.now a.out.now BadTable _
-    (done-table a.access.now a.self a.component.now (length a.out.now)
+    (done_table a.access.now a.self a.component.now (length a.out.now)
     (omega (arith, c.before.before.before.before.before.before.if1.false))
     (omega (arith, c.before.before.before.before.before.if2.false))
     (ap (λ (r : AccessRead). r.ok) (sym g.read-access.ensures) ∙ not-false _ c.before.before.before.if3.false)
-    (table-over instances_most _ a.self c.before.if4.true))
+    (table_over instances_most _ a.self c.before.if4.true))
     c.refuses4.ensures
 
 returns-5 : tie.Need-returns-5
@@ -128,12 +128,12 @@ returns-5 c =
     let g = c.before.before.before.before.before.before.before.before.before.before in
     let a = g.before.before.before.before.before.args in
     refused_arrives a.access.now a.self a.component.now a.out.now BadTable _
-    (done-table a.access.now a.self a.component.now (length a.out.now)
+    (done_table a.access.now a.self a.component.now (length a.out.now)
     (omega (arith, c.before.before.before.before.before.before.before.before.if1.false))
     (omega (arith, c.before.before.before.before.before.before.before.if2.false))
     (ap (λ (r : AccessRead). r.ok) (sym g.read-access.ensures) ∙ not-false _ c.before.before.before.before.before.if3.false)
     (rw g.read-access.ensures at
-    (table-run instances_most _ a.self c.before.before.before.if4.false ∙ sym c.before.before.good2.ensures
+    (table_run instances_most _ a.self c.before.before.before.if4.false ∙ sym c.before.before.good2.ensures
     ∙ not-true _ c.before.if5.true)))
     c.refuses5.ensures
 
@@ -146,7 +146,7 @@ returns-6 c =
     let g = k.before.before.before.before.before.before.before.before.before.before in
     let a = g.before.before.before.before.before.args in
     rw c.answers.ensures
-    (says-arrives a.access.now a.self a.component.now a.out.now g.read-access.result g.read-access.ensures
+    (says_arrives a.access.now a.self a.component.now a.out.now g.read-access.result g.read-access.ensures
     (omega (arith, k.before.before.before.before.before.before.before.before.if1.false))
     (omega (arith, k.before.before.before.before.before.before.before.if2.false))
     (not-false _ k.before.before.before.before.before.if3.false)
@@ -164,7 +164,7 @@ returns-7 c =
     let a = g.before.before.before.before.before.args in
     let id : SFits w16 k.question-of.result.identifier = search (rules, k.question-of.type-inv) in
     rw (c.answers2.ensures, to_z-of_z id)
-    (fails-arrives a.access.now a.self a.component.now a.out.now g.read-access.result g.read-access.ensures
+    (fails_arrives a.access.now a.self a.component.now a.out.now g.read-access.result g.read-access.ensures
     (omega (arith, k.before.before.before.before.before.before.before.before.if1.false))
     (omega (arith, k.before.before.before.before.before.before.before.if2.false))
     (not-false _ k.before.before.before.before.before.if3.false)
@@ -186,7 +186,7 @@ returns-8 c =
     let a = g.before.before.before.before.before.args in
     let id : SFits w16 k.question-of.result.identifier = search (rules, k.question-of.type-inv) in
     rw (c.answers3.ensures, to_z-of_z id)
-    (lists-arrives a.access.now a.self a.component.now a.out.now g.read-access.result g.read-access.ensures
+    (lists_arrives a.access.now a.self a.component.now a.out.now g.read-access.result g.read-access.ensures
     (omega (arith, k.before.before.before.before.before.before.before.before.if1.false))
     (omega (arith, k.before.before.before.before.before.before.before.if2.false))
     (not-false _ k.before.before.before.before.before.if3.false)
@@ -219,7 +219,7 @@ returns-9 c =
     (λ v. v.2 ∙ v.1.ensures)
     c.before.before.before.before.before.if8.branch in
     rw (c.answers4.ensures, to_z-of_z id)
-    (changes-arrives a.access.now a.self a.component.now a.out.now g.read-access.result g.read-access.ensures
+    (changes_arrives a.access.now a.self a.component.now a.out.now g.read-access.result g.read-access.ensures
     (omega (arith, k.before.before.before.before.before.before.before.before.if1.false))
     (omega (arith, k.before.before.before.before.before.before.before.if2.false))
     (not-false _ k.before.before.before.before.before.if3.false)

@@ -8,8 +8,8 @@ use Rattle.laws.proofs.Parts.{unmapped}
 use Rattle.instances.specs.Instance.{chosen}
 use Rattle.instances.specs.Places.{run_most}
 use Rattle.instances.specs.Run.{instances_of, listed}
-use Rattle.instances.proofs.Runs.{next-is, none_left}
-use Rattle.laws.proofs.Thoses.{those-take, those-skip, those_none}
+use Rattle.instances.proofs.Runs.{next_is, none_left}
+use Rattle.laws.proofs.Thoses.{those_take, those_skip, those_none}
 use Rattle.instances.proofs.run.Run.chosen_count.Statement.{statement}
 use Rattle.instances.proofs.run.Run.chosen_count.Tie as tie
 
@@ -49,7 +49,7 @@ loop-again : tie.Need-loop-preserved invariant-loop decreases-loop
 loop-again c =
     let l = c.before.before.before.before.loop in
     let a = c.before.before.before.before.before.before.args in
-    let on = next-is a.t1 _ l.i l.invariant.1 l.invariant.2 (omega arith) in
+    let on = next_is a.t1 _ l.i l.invariant.1 l.invariant.2 (omega arith) in
     let test = sym c.before.is_chosen.ensures in
     ⊎_elim
     (λ v. (
@@ -58,7 +58,7 @@ loop-again c =
       l.invariant.2,
       omega arith,
       omega
-          (arith, v.1, l.invariant.4, ap length (those-take (chosen a.sel) _ _ _ on (test ∙ v.0.taken))),
+          (arith, v.1, l.invariant.4, ap length (those_take (chosen a.sel) _ _ _ on (test ∙ v.0.taken))),
     ))
     (λ v. (
       omega arith,
@@ -66,7 +66,7 @@ loop-again c =
       l.invariant.2,
       omega arith,
       omega
-          (arith, v.1, l.invariant.4, ap length (those-skip (chosen a.sel) _ _ _ on (test ∙ v.0.left))),
+          (arith, v.1, l.invariant.4, ap length (those_skip (chosen a.sel) _ _ _ on (test ∙ v.0.left))),
     ))
     c.if1.branch
 

@@ -8,9 +8,9 @@ use Rattle.laws.proofs.Parts.{unmapped}
 use Rattle.instances.specs.Instance.{blank_instance, spared}
 use Rattle.instances.specs.Places.{run_most}
 use Rattle.instances.specs.Run.{instances_of, deactivated}
-use Rattle.laws.proofs.Filled.{Filled, filled_none, filled_next, filled-done}
-use Rattle.instances.proofs.Runs.{next-is, none_left, packed_done}
-use Rattle.laws.proofs.Thoses.{those-take, those-skip, those_none}
+use Rattle.laws.proofs.Filled.{Filled, filled_none, filled_next, filled_done}
+use Rattle.instances.proofs.Runs.{next_is, none_left, packed_done}
+use Rattle.laws.proofs.Thoses.{those_take, those_skip, those_none}
 use Rattle.instances.proofs.Choices.{kept_test, gone_test}
 use borrow.Author.Tests.{not-true, not-false}
 use Rattle.instances.proofs.run.Run.clear.Statement.{statement}
@@ -62,15 +62,15 @@ loop-again : tie.Need-loop-preserved invariant-loop decreases-loop
 loop-again c =
     let l = c.before.before.before.before.loop in
     let a = c.before.before.before.before.before.before.before.args in
-    let on = next-is a.t1 _ l.i l.invariant.1 l.invariant.2 (omega arith) in
+    let on = next_is a.t1 _ l.i l.invariant.1 l.invariant.2 (omega arith) in
     let test = sym c.before.is_chosen.ensures in
     let f = spared a.sel in
     ⊎_elim
     (λ v.
-    let takes = those-take f _ _ _ on (kept_test _ (test ∙ not-true _ v.0.taken)) in
+    let takes = those_take f _ _ _ on (kept_test _ (test ∙ not-true _ v.0.taken)) in
     rw (v.1, v.2) (omega arith, l.invariant.1, l.invariant.2, omega arith, filled_next _ _ _ _ _ _ _ (omega arith) (rw takes at l.invariant.4)))
     (λ v.
-    let skips = those-skip f _ _ _ on (gone_test _ (test ∙ not-false _ v.0.left)) in
+    let skips = those_skip f _ _ _ on (gone_test _ (test ∙ not-false _ v.0.left)) in
     rw (v.1, v.2) (omega arith, l.invariant.1, l.invariant.2, omega arith, rw skips at l.invariant.4))
     c.if1.branch
 
@@ -83,7 +83,7 @@ returns c =
     let a = c.before.before.before.before.args in
     let f = spared a.sel in
     let none = those_none f _ (none_left a.t1 _ l.i l.invariant.1 l.invariant.2 (omega arith)) in
-    packed_done (deactivated a.sel (instances_of a.t1)) l.k l.next.run (filled-done _ _ _ _ _ (rw none at l.invariant.4))
+    packed_done (deactivated a.sel (instances_of a.t1)) l.k l.next.run (filled_done _ _ _ _ _ (rw none at l.invariant.4))
 
 pub clear_spec : {M : Type 1} → statement M
 clear_spec =

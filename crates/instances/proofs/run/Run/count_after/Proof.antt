@@ -6,13 +6,13 @@ use mathlib.Core.Logic.{⊎_elim}
 use native.Mathlib.Omega.{arith}
 use lib.ListN.{length, drop}
 use Rattle.laws.proofs.Parts.{unmapped}
-use Rattle.laws.proofs.Thoses.{those-take, those-skip, those_none}
+use Rattle.laws.proofs.Thoses.{those_take, those_skip, those_none}
 use Rattle.instances.specs.Instance.{chosen, spared}
 use Rattle.instances.specs.Places.{run_most}
 use Rattle.instances.specs.Run.{instances_of, listed, deactivated, is_of, count_of}
 use Rattle.instances.proofs.Choices.{concerns_is, concerns_not, chosen_other}
-use Rattle.instances.proofs.Counts.{after_one, after-chosen, after-other}
-use Rattle.instances.proofs.Runs.{next-is, none_left}
+use Rattle.instances.proofs.Counts.{after_one, after_chosen, after_other}
+use Rattle.instances.proofs.Runs.{next_is, none_left}
 use Rattle.instances.proofs.run.Run.count_after.Statement.{statement}
 use Rattle.instances.proofs.run.Run.count_after.Tie as tie
 
@@ -72,7 +72,7 @@ loop-again c =
     let l = c.before.before.before.before.loop in
     let a = c.before.before.before.before.before.before.before.args in
     let q = a.sel.procedure in
-    let on = next-is a.t1 _ l.i l.invariant.1 l.invariant.2 (omega arith) in
+    let on = next_is a.t1 _ l.i l.invariant.1 l.invariant.2 (omega arith) in
     let test = sym c.before.is-concerned.ensures in
     ⊎_elim
     (λ v. (
@@ -81,8 +81,8 @@ loop-again c =
       l.invariant.2,
       omega arith,
       omega arith,
-      omega (arith, v.3, l.invariant.5, ap length (those-take (chosen a.sel) _ _ _ on (sym v.1.ensures ∙ v.2.taken))),
-      omega (arith, v.4, l.invariant.6, after-chosen a.sel _ _ _ on q (sym v.1.ensures ∙ v.2.taken)),
+      omega (arith, v.3, l.invariant.5, ap length (those_take (chosen a.sel) _ _ _ on (sym v.1.ensures ∙ v.2.taken))),
+      omega (arith, v.4, l.invariant.6, after_chosen a.sel _ _ _ on q (sym v.1.ensures ∙ v.2.taken)),
     ))
     (⊎_elim
     (λ v. (
@@ -91,7 +91,7 @@ loop-again c =
       l.invariant.2,
       omega arith,
       omega arith,
-      omega (arith, v.3, l.invariant.5, ap length (those-skip (chosen a.sel) _ _ _ on (sym v.1.ensures ∙ v.2.left))),
+      omega (arith, v.3, l.invariant.5, ap length (those_skip (chosen a.sel) _ _ _ on (sym v.1.ensures ∙ v.2.left))),
       omega (
         arith,
         v.4,
@@ -106,8 +106,8 @@ loop-again c =
       l.invariant.2,
       omega arith,
       omega arith,
-      omega (arith, v.1, l.invariant.5, ap length (those-skip (chosen a.sel) _ _ _ on (chosen_other a.sel _ (test ∙ v.0.left)))),
-      omega (arith, v.2, l.invariant.6, after-other a.sel _ _ _ on q (concerns_not a.sel _ (test ∙ v.0.left))),
+      omega (arith, v.1, l.invariant.5, ap length (those_skip (chosen a.sel) _ _ _ on (chosen_other a.sel _ (test ∙ v.0.left)))),
+      omega (arith, v.2, l.invariant.6, after_other a.sel _ _ _ on q (concerns_not a.sel _ (test ∙ v.0.left))),
     )))
     c.if1.branch
 

@@ -11,9 +11,9 @@ use Rattle.lists.specs.Entries.{instances_most}
 use Rattle.instances.specs.Instance.{chosen}
 use Rattle.instances.specs.Places.{run_most}
 use Rattle.instances.specs.Run.{instances_of, listed, entry_for}
-use Rattle.laws.proofs.Filled.{Filled, filled_none, filled_next, filled-done, filled-full}
-use Rattle.instances.proofs.Runs.{next-is, none_left}
-use Rattle.laws.proofs.Thoses.{those-take, those-skip, those_none}
+use Rattle.laws.proofs.Filled.{Filled, filled_none, filled_next, filled_done, filled_full}
+use Rattle.instances.proofs.Runs.{next_is, none_left}
+use Rattle.laws.proofs.Thoses.{those_take, those_skip, those_none}
 use Rattle.instances.proofs.Listings.{entries_answer, entries_full}
 use Rattle.instances.proofs.run.Run.entries.Statement.{statement}
 use Rattle.instances.proofs.run.Run.entries.Tie as tie
@@ -53,7 +53,7 @@ returns c =
     let none = none_left a.t1 _ l.i l.invariant.1 l.invariant.2 (omega arith) in
     let end = ap (map (entry_for a.p.numbers)) (those_none (chosen a.sel) _ none) in
     entries_answer (map (entry_for a.p.numbers) (listed a.sel (instances_of a.t1))) l.k l.list.entries
-    (filled-done _ _ _ _ _ (rw end at l.invariant.4))
+    (filled_done _ _ _ _ _ (rw end at l.invariant.4))
 
 mul-x : tie.Need-overflow-mul-x invariant-loop decreases-loop
 mul-x c = search rules
@@ -86,16 +86,16 @@ loop-again : tie.Need-loop-preserved invariant-loop decreases-loop
 loop-again c =
     let l = c.before.before.before.before.before.loop in
     let a = c.before.before.before.before.before.before.before.before.before.args in
-    let on = next-is a.t1 _ l.i l.invariant.1 l.invariant.2 (omega arith) in
+    let on = next_is a.t1 _ l.i l.invariant.1 l.invariant.2 (omega arith) in
     let test = sym c.before.is_chosen.ensures in
     let f = map (entry_for a.p.numbers) in
     ⊎_elim
     (λ v.
-    let takes = ap f (those-take (chosen a.sel) _ _ _ on (test ∙ v.0.taken)) in
+    let takes = ap f (those_take (chosen a.sel) _ _ _ on (test ∙ v.0.taken)) in
     rw (v.3, v.4, v.1.ensures)
     (omega arith, l.invariant.1, l.invariant.2, omega arith, filled_next _ _ _ _ _ _ _ (omega arith) (rw takes at l.invariant.4)))
     (λ v.
-    let skips = ap f (those-skip (chosen a.sel) _ _ _ on (test ∙ v.0.left)) in
+    let skips = ap f (those_skip (chosen a.sel) _ _ _ on (test ∙ v.0.left)) in
     rw (v.1, v.2) (omega arith, l.invariant.1, l.invariant.2, omega arith, rw skips at l.invariant.4))
     c.if2.branch
 
@@ -108,7 +108,7 @@ returns_2 c =
     let a = c.before.before.before.before.before.args in
     let end : l.k ≡ instances_most = omega arith in
     entries_full (map (entry_for a.p.numbers) (listed a.sel (instances_of a.t1))) l.k l.list.entries
-    (rw end (filled-full _ _ _ _ _ (rw end at l.invariant.4)))
+    (rw end (filled_full _ _ _ _ _ (rw end at l.invariant.4)))
 
 pub entries_spec : {M : Type 1} → statement M
 entries_spec =

@@ -6,8 +6,8 @@ use lib.ListN.{length, drop}
 use Rattle.laws.proofs.Parts.{unmapped}
 use Rattle.instances.specs.Places.{run_most}
 use Rattle.instances.specs.Run.{instances_of, forwarded_to, found_by}
-use Rattle.instances.proofs.Runs.{next-is, none_left}
-use Rattle.instances.proofs.Choices.{find-here, find-on, find_none}
+use Rattle.instances.proofs.Runs.{next_is, none_left}
+use Rattle.instances.proofs.Choices.{find_here, find_on, find_none}
 use Rattle.instances.proofs.run.Run.find.Statement.{statement}
 use Rattle.instances.proofs.run.Run.find.Tie as tie
 
@@ -38,8 +38,8 @@ returns : tie.Need-returns invariant-loop decreases-loop
 returns c =
     let l = c.before.before.before.before.before.loop in
     let a = c.before.before.before.before.before.before.before.args in
-    let on = next-is a.t1 _ l.i l.invariant.1 l.invariant.2 (omega arith) in
-    let here = find-here _ _ _ _ _ _ on (sym c.before.before.is-at.ensures ∙ c.before.if1.true) in
+    let on = next_is a.t1 _ l.i l.invariant.1 l.invariant.2 (omega arith) in
+    let here = find_here _ _ _ _ _ _ on (sym c.before.before.is_at_lem.ensures ∙ c.before.if1.true) in
     sym (ap found_by (l.invariant.3 ∙ here))
 
 add-i : tie.Need-overflow-add-i invariant-loop decreases-loop
@@ -52,8 +52,8 @@ loop-again : tie.Need-loop-preserved invariant-loop decreases-loop
 loop-again c =
     let l = c.before.before.before.before.loop in
     let a = c.before.before.before.before.before.before.args in
-    let on = next-is a.t1 _ l.i l.invariant.1 l.invariant.2 (omega arith) in
-    (omega arith, l.invariant.1, l.invariant.2, l.invariant.3 ∙ find-on _ _ _ _ _ _ on (sym c.before.is-at.ensures ∙ c.if1.false))
+    let on = next_is a.t1 _ l.i l.invariant.1 l.invariant.2 (omega arith) in
+    (omega arith, l.invariant.1, l.invariant.2, l.invariant.3 ∙ find_on _ _ _ _ _ _ on (sym c.before.is_at_lem.ensures ∙ c.if1.false))
 
 blank-address-requires : tie.Need-blank-address-requires invariant-loop decreases-loop
 blank-address-requires c κs = search rules

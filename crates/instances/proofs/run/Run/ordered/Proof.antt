@@ -9,9 +9,9 @@ use borrow.Author.Tests.{le-leb, lt-leb}
 use Rattle.laws.proofs.Picks.{pick_last}
 use Rattle.instances.specs.Places.{run_most}
 use Rattle.instances.specs.Run.{instances_of, ascending}
-use Rattle.instances.proofs.Runs.{next-is, none_left}
-use Rattle.instances.proofs.Orders.{ascends-on, ascends-low, ascends_none}
-use Rattle.instances.proofs.Counts.{Tallied, tally-first, tally-second, tally-third, tally-none, tallied}
+use Rattle.instances.proofs.Runs.{next_is, none_left}
+use Rattle.instances.proofs.Orders.{ascends_on, ascends_low, ascends_none}
+use Rattle.instances.proofs.Counts.{Tallied, tally_first, tally_second, tally_third, tally_none, tallied}
 use Rattle.instances.proofs.run.Run.ordered.Statement.{statement}
 use Rattle.instances.proofs.run.Run.ordered.Tie as tie
 
@@ -52,8 +52,8 @@ returns : tie.Need-returns invariant-loop decreases-loop
 returns c =
     let l = c.before.before.before.before.loop in
     let a = c.before.before.before.before.before.before.args in
-    let on = next-is a.t1 _ l.i l.invariant.1 l.invariant.2 (omega arith) in
-    rw (l.invariant.6 ∙ ascends-low l.under _ _ _ on (omega (arith, c.before.key_of.ensures, c.if1.true)))
+    let on = next_is a.t1 _ l.i l.invariant.1 l.invariant.2 (omega arith) in
+    rw (l.invariant.6 ∙ ascends_low l.under _ _ _ on (omega (arith, c.before.key_of.ensures, c.if1.true)))
 
 add-cfu : tie.Need-overflow-add-cfu invariant-loop decreases-loop
 add-cfu c = search rules
@@ -74,9 +74,9 @@ loop-again : tie.Need-loop-preserved invariant-loop decreases-loop
 loop-again c =
     let l = c.before.before.before.before.before.loop in
     let a = c.before.before.before.before.before.before.before.args in
-    let on = next-is a.t1 _ l.i l.invariant.1 l.invariant.2 (omega arith) in
+    let on = next_is a.t1 _ l.i l.invariant.1 l.invariant.2 (omega arith) in
     let key = c.before.before.key_of.ensures in
-    let ascends = l.invariant.6 ∙ rw (← key) at (ascends-on l.under _ _ _ on (omega (arith, key, c.before.if1.false))) in
+    let ascends = l.invariant.6 ∙ rw (← key) at (ascends_on l.under _ _ _ on (omega (arith, key, c.before.if1.false))) in
     let so = l.invariant.7 in
     ⊎_elim
     (λ v. rw (v.1, v.2, v.3) (
@@ -87,7 +87,7 @@ loop-again c =
       omega arith,
       omega arith,
       ascends,
-      tally-first _ _ _ _ _ _ _ on so v.0.taken,
+      tally_first _ _ _ _ _ _ _ on so v.0.taken,
     ))
     (⊎_elim
     (λ v. rw (v.2, v.3, v.4) (
@@ -98,7 +98,7 @@ loop-again c =
       omega arith,
       omega arith,
       ascends,
-      tally-second _ _ _ _ _ _ _ on so v.1.taken,
+      tally_second _ _ _ _ _ _ _ on so v.1.taken,
     ))
     (⊎_elim
     (λ v. rw (v.3, v.4, v.5) (
@@ -109,7 +109,7 @@ loop-again c =
       omega arith,
       omega arith,
       ascends,
-      tally-third _ _ _ _ _ _ _ on so v.2.taken,
+      tally_third _ _ _ _ _ _ _ on so v.2.taken,
     ))
     (λ v. rw (v.3, v.4, v.5) (
       omega arith,
@@ -119,7 +119,7 @@ loop-again c =
       omega arith,
       omega arith,
       ascends,
-      tally-none _ _ _ _ _ _ _ on so v.0.left v.1.left v.2.left,
+      tally_none _ _ _ _ _ _ _ on so v.0.left v.1.left v.2.left,
     ))))
     c.if2.branch
 

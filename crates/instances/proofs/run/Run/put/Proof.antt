@@ -10,10 +10,10 @@ use Rattle.instances.specs.Instance.{blank_instance}
 use Rattle.instances.specs.Places.{run_most}
 use Rattle.instances.specs.inner.Places.{places_in}
 use Rattle.instances.specs.Run.{instances_of, activated_at}
-use Rattle.laws.proofs.Filled.{Filled, filled_none, filled_next, filled-done, filled-full}
-use Rattle.instances.proofs.Runs.{next-is, none_left}
+use Rattle.laws.proofs.Filled.{Filled, filled_none, filled_next, filled_done, filled_full}
+use Rattle.instances.proofs.Runs.{next_is, none_left}
 use Rattle.instances.proofs.Placings.{next_place, no_place}
-use Rattle.instances.proofs.Puts.{put-skip, put-kept, put-made, put_rest, put_last, put-none, put_answer}
+use Rattle.instances.proofs.Puts.{put_skip, put_kept, put_made, put_rest, put_last, put_none, put_answer}
 use Rattle.instances.proofs.run.Run.put.Statement.{statement}
 use Rattle.instances.proofs.run.Run.put.Tie as tie
 
@@ -71,7 +71,7 @@ loop-again c =
     let l = c.before.before.before.before.before.loop in
     let a = c.before.before.before.before.before.before.before.before.before.before.args in
     let so = l.invariant.7 in
-    let on = next-is a.t1 _ l.i l.invariant.1 l.invariant.2 (omega arith) in
+    let on = next_is a.t1 _ l.i l.invariant.1 l.invariant.2 (omega arith) in
     let stays = sym c.before.is_chosen.ensures ∙ c.if2.true in (
       omega arith,
       l.invariant.1,
@@ -81,7 +81,7 @@ loop-again c =
       l.invariant.5,
       omega arith,
       rw
-          (put-skip a.sel a.address _ _ _ _ on stays) at so,
+          (put_skip a.sel a.address _ _ _ _ on stays) at so,
     )
 
 mul-w : tie.Need-overflow-mul-w invariant-loop decreases-loop
@@ -124,13 +124,13 @@ loop-again-2 c =
     let made = c.before.before.before.before.before.before.before.before.before.before.before.before.before.places_of.result
     in
     let so = l.invariant.7 in
-    let on = next-is a.t1 _ l.i l.invariant.1 l.invariant.2 (omega arith) in
+    let on = next_is a.t1 _ l.i l.invariant.1 l.invariant.2 (omega arith) in
     let more = next_place made _ l.m l.invariant.4 l.invariant.5 (omega arith) in
     let stays = sym c.before.before.before.before.before.is_chosen.ensures ∙ c.before.before.before.before.if2.false in
     let test = sym c.before.is-before.ensures in
     ⊎_elim
     (λ v.
-    let keeps = put-kept a.sel a.address _ _ _ _ on stays _ _ more (ltb-true _ _ (test ∙ v.0.taken)) in
+    let keeps = put_kept a.sel a.address _ _ _ _ on stays _ _ more (ltb-true _ _ (test ∙ v.0.taken)) in
     rw (v.1, v.2, v.3) (
       omega arith,
       l.invariant.1,
@@ -142,7 +142,7 @@ loop-again-2 c =
       filled_next _ _ _ _ _ _ _ (omega arith) (rw keeps at so),
     ))
     (λ v.
-    let makes = put-made a.sel a.address _ _ _ _ on stays _ _ more (ltb-false _ _ (test ∙ v.0.left)) in
+    let makes = put_made a.sel a.address _ _ _ _ on stays _ _ more (ltb-false _ _ (test ∙ v.0.left)) in
     rw (v.1, v.2, v.3) (
       omega arith,
       l.invariant.1,
@@ -176,7 +176,7 @@ loop-again-3 c =
     let a = c.before.before.before.before.before.before.before.before.before.before.before.args in
     let made = c.before.before.before.before.before.before.before.before.before.before.places_of.result in
     let so = l.invariant.7 in
-    let on = next-is a.t1 _ l.i l.invariant.1 l.invariant.2 (omega arith) in
+    let on = next_is a.t1 _ l.i l.invariant.1 l.invariant.2 (omega arith) in
     let empty = no_place made _ l.m l.invariant.4 l.invariant.5 (omega arith) in
     let stays = sym c.before.before.is_chosen.ensures ∙ c.before.if2.false in (
       omega arith,
@@ -241,7 +241,7 @@ returns c =
     let so = l.invariant.7 in
     let none = none_left a.t1 _ l.i l.invariant.1 l.invariant.2 (omega arith) in
     let empty = no_place made _ l.m l.invariant.4 l.invariant.5 (omega arith) in
-    let full = filled-done _ _ _ _ _ (rw (put-none a.sel a.address _ _ none empty) at so) in
+    let full = filled_done _ _ _ _ _ (rw (put_none a.sel a.address _ _ none empty) at so) in
     put_answer a.p a.sel a.address a.t1 made _ _ c.before.before.before.before.before.before.before.places_of.ensures
     (inl full)
 
@@ -257,7 +257,7 @@ returns_2 c =
     let end : l.k ≡ run_most = omega arith in
     put_answer a.p a.sel a.address a.t1 made l.k l.next.run
     c.before.before.before.before.before.places_of.ensures
-    (inr (rw end (filled-full _ _ _ _ _ (rw end at so))))
+    (inr (rw end (filled_full _ _ _ _ _ (rw end at so))))
 
 pub put_spec : {M : Type 1} → statement M
 put_spec =

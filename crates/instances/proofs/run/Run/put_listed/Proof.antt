@@ -5,17 +5,17 @@ use mathlib.Core.Path.{◌≡◌, refl, sym, ap, ◌∙◌}
 use mathlib.Core.List.{List, map}
 use lib.ListN.{length, take, drop}
 use mir.Facts.{to_z-of_z}
-use Rattle.instances.proofs.Picked.{entry_at, Picked, picked_none, picked-skip, picked-full, picked-take, picked-done}
-use Rattle.instances.proofs.Picked.{entries_counted, Listing, listing-first, listing-room, listing-next}
-use Rattle.instances.proofs.Runs.{next-is, none_left}
+use Rattle.instances.proofs.Picked.{entry_at, Picked, picked_none, picked_skip, picked_full, picked_take, picked_done}
+use Rattle.instances.proofs.Picked.{entries_counted, Listing, listing_first, listing_room, listing_next}
+use Rattle.instances.proofs.Runs.{next_is, none_left}
 use Rattle.instances.specs.Run.{instances_of, listed, entry_for}
 use Rattle.instances.specs.Places.{run_most}
 use Rattle.instances.specs.Instance.{chosen}
-use Rattle.lists.proofs.Heads.{head-after, list-none, list_all}
+use Rattle.lists.proofs.Heads.{head_after, list_none, list_all}
 use Rattle.lists.specs.declared.entry.Entry.{Entry}
 use Rattle.lists.specs.Entries.{instances_most, entries_octets}
 use Rattle.lists.specs.Entry.{entry_size}
-use Rattle.laws.proofs.Thoses.{those-take, those-skip, those_none}
+use Rattle.laws.proofs.Thoses.{those_take, those_skip, those_none}
 use Rattle.laws.proofs.Parts.{unmapped}
 use borrow.Author.Rules.{rules}
 use Rattle.instances.proofs.run.Run.put_listed.Statement.{statement}
@@ -62,7 +62,7 @@ add-size : tie.Need-overflow-add-size invariant-loop decreases-loop invariant-lo
 add-size c =
     omega (
       arith,
-      c.listed-size.ensures.1,
+      c.listed_size.ensures.1,
       c.before.before.before.before.before.before.before.loop.invariant.3.within,
       c.before.before.before.before.before.before.before.loop.invariant.3.few,
     )
@@ -92,25 +92,25 @@ loop-again c =
     let l = c.before.before.before.before.loop in
     let a = c.before.before.before.before.before.before.before.before.args in
     let more = c.before.before.before.loop-test.true in
-    let on = next-is a.t1 _ l.i l.invariant.1 l.invariant.2 more in
+    let on = next_is a.t1 _ l.i l.invariant.1 l.invariant.2 more in
     let test = sym c.before.is_chosen.ensures in
     let f = map (entry_for a.p.numbers) in
     ⊎_elim
     (λ v.
-    let takes = ap f (those-take (chosen a.sel) _ _ _ on (test ∙ v.0.taken)) in
+    let takes = ap f (those_take (chosen a.sel) _ _ _ on (test ∙ v.0.taken)) in
     rw (v.4, v.5, v.6) (
       omega (arith, more),
       l.invariant.1,
       l.invariant.2,
-      picked-take _ _ l.invariant.3 _ _ _ v.1.taken takes refl
+      picked_take _ _ l.invariant.3 _ _ _ v.1.taken takes refl
           (rw v.2.ensures at v.3.ensures.0) v.3.ensures.1,
     ))
     (λ w.
     ⊎_elim
-    (λ v. rw (v.2, v.3, v.4) (omega (arith, more), l.invariant.1, l.invariant.2, picked-full _ _ l.invariant.3 _ (λ h. omega (arith, v.1.left))))
+    (λ v. rw (v.2, v.3, v.4) (omega (arith, more), l.invariant.1, l.invariant.2, picked_full _ _ l.invariant.3 _ (λ h. omega (arith, v.1.left))))
     (λ v.
-    let skips = ap f (those-skip (chosen a.sel) _ _ _ on (test ∙ v.0.left)) in
-    rw (v.1, v.2, v.3) (omega (arith, more), l.invariant.1, l.invariant.2, picked-skip _ _ l.invariant.3 _ skips))
+    let skips = ap f (those_skip (chosen a.sel) _ _ _ on (test ∙ v.0.left)) in
+    rw (v.1, v.2, v.3) (omega (arith, more), l.invariant.1, l.invariant.2, picked_skip _ _ l.invariant.3 _ skips))
     w)
     c.if1.branch
 
@@ -128,11 +128,11 @@ returns c = let l = c.before.before.before.before.before.before.loop in
     let whole = f (listed a.sel (instances_of a.t1)) in
     let none = ap f (those_none (chosen a.sel) _
     (none_left a.t1 _ l.i l.invariant.1 l.invariant.2 c.before.before.before.before.before.loop-test.false)) in
-    let all = picked-done (entry_at a.p.numbers a.t1.run) whole l.invariant.3 none in
+    let all = picked_done (entry_at a.p.numbers a.t1.run) whole l.invariant.3 none in
     let is = l.invariant.3.sum ∙ ap (λ (es : List Entry). length (entries_octets es)) all in
     let few : l.size ≤ entry_size * instances_most = omega (arith, l.invariant.3.within, l.invariant.3.few) in
     let head = rw id at c.before.before.before.put-list-head.ensures in
-    rw (entries_counted (take instances_most whole)) (list-none a.identifier (take instances_most whole) is few head c.if3.true)
+    rw (entries_counted (take instances_most whole)) (list_none a.identifier (take instances_most whole) is few head c.if3.true)
 
 loop2-holds : tie.Need-loop2-init invariant-loop decreases-loop invariant-loop2 decreases-loop2
 loop2-holds c = let l = c.before.before.before.before.before.before.loop in
@@ -142,13 +142,13 @@ loop2-holds c = let l = c.before.before.before.before.before.before.loop in
     let whole = f (listed a.sel (instances_of a.t1)) in
     let none = ap f (those_none (chosen a.sel) _
     (none_left a.t1 _ l.i l.invariant.1 l.invariant.2 c.before.before.before.before.before.loop-test.false)) in
-    let all = picked-done (entry_at a.p.numbers a.t1.run) whole l.invariant.3 none in
+    let all = picked_done (entry_at a.p.numbers a.t1.run) whole l.invariant.3 none in
     let is = l.invariant.3.sum ∙ ap (λ (es : List Entry). length (entries_octets es)) all in
     let few : l.size ≤ entry_size * instances_most = omega (arith, l.invariant.3.within, l.invariant.3.few) in
     let head = rw id at c.before.before.before.put-list-head.ensures in (
       refl,
-      listing-first _ _ _ _ (omega (arith, l.invariant.3.long, l.invariant.3.few))
-          (head-after a.identifier (take instances_most whole) is few head c.if3.false) l.invariant.3.sum,
+      listing_first _ _ _ _ (omega (arith, l.invariant.3.long, l.invariant.3.few))
+          (head_after a.identifier (take instances_most whole) is few head c.if3.false) l.invariant.3.sum,
     )
 
 array-read-place : tie.Need-array-read-place invariant-loop decreases-loop invariant-loop2 decreases-loop2
@@ -196,7 +196,7 @@ served-number-requires-2 c κs = search rules
 write-listed-requires : tie.Need-write-listed-requires invariant-loop decreases-loop invariant-loop2 decreases-loop2
 write-listed-requires c κs =
     rw c.before.served-number2.ensures
-    (listing-room _ _ _ _ c.before.before.before.before.loop2.invariant.1 c.before.before.before.loop2-test.true)
+    (listing_room _ _ _ _ c.before.before.before.before.loop2.invariant.1 c.before.before.before.loop2-test.true)
 
 add-m : tie.Need-overflow-add-m invariant-loop decreases-loop invariant-loop2 decreases-loop2
 add-m c = search rules
@@ -207,7 +207,7 @@ loop2-less c = search rules
 loop2-again : tie.Need-loop2-preserved invariant-loop decreases-loop invariant-loop2 decreases-loop2
 loop2-again c = (
   search rules,
-  listing-next _ _ _ _ c.before.before.before.before.before.before.before.loop2.invariant.1
+  listing_next _ _ _ _ c.before.before.before.before.before.before.before.loop2.invariant.1
       c.before.before.before.before.before.before.loop2-test.true
       (rw c.before.before.before.before.served-number2.ensures at c.before.before.write-listed.ensures),
 )
@@ -224,7 +224,7 @@ returns_2 c = let l = c.before.before.before.before.before.before.before.before.
     let whole = f (listed a.sel (instances_of a.t1)) in
     let none = ap f (those_none (chosen a.sel) _
     (none_left a.t1 _ l.i l.invariant.1 l.invariant.2 c.before.before.before.before.before.before.before.loop-test.false)) in
-    let all = picked-done (entry_at a.p.numbers a.t1.run) whole l.invariant.3 none in
+    let all = picked_done (entry_at a.p.numbers a.t1.run) whole l.invariant.3 none in
     let is = l.invariant.3.sum ∙ ap (λ (es : List Entry). length (entries_octets es)) all in
     let few : l.size ≤ entry_size * instances_most = omega (arith, l.invariant.3.within, l.invariant.3.few) in
     let head = rw id at c.before.before.before.before.before.put-list-head.ensures in

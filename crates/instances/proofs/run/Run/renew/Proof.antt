@@ -7,14 +7,14 @@ use lib.ListN.{length}
 use Rattle.laws.proofs.Parts.{unmapped}
 use Rattle.instances.specs.Instance.{blank_instance}
 use Rattle.instances.specs.Places.{run_most}
-use Rattle.instances.proofs.Renewals.{renewedTo, renews-one, spares-one, blanks-one, renew_answer}
+use Rattle.instances.proofs.Renewals.{renewed_to, renews_one, spares_one, blanks_one, renew_answer}
 use Rattle.instances.proofs.run.Run.renew.Statement.{statement}
 use Rattle.instances.proofs.run.Run.renew.Tie as tie
 
 abbrev invariant-loop : tie.invariant-loop
 invariant-loop sel address none n next₀ i₀ next i =
     (i ≤ run_most) × (n ≡ min next₀.count run_most) × (length next₀.run ≡ run_most) × (none ≡ blank_instance) ×
-    (next.run ≡ renewedTo sel address n next₀.run i)
+    (next.run ≡ renewed_to sel address n next₀.run i)
 
 abbrev decreases-loop : tie.decreases-loop
 decreases-loop sel address none n next₀ i₀ next i = run_most - i
@@ -64,10 +64,10 @@ loop-again c =
       l.invariant.2,
       l.invariant.3,
       ⊎_elim
-          (λ v. rw v.4 (renews-one _ _ _ _ _ _ so v.0.taken (sym v.2.ensures ∙ v.3.taken)))
+          (λ v. rw v.4 (renews_one _ _ _ _ _ _ so v.0.taken (sym v.2.ensures ∙ v.3.taken)))
           (⊎_elim
-          (λ v. rw v.4 (spares-one _ _ _ _ _ _ so v.0.taken (sym v.2.ensures ∙ v.3.left)))
-          (λ v. rw (v.1, l.invariant.3) (blanks-one _ _ _ _ _ _ so v.0.left)))
+          (λ v. rw v.4 (spares_one _ _ _ _ _ _ so v.0.taken (sym v.2.ensures ∙ v.3.left)))
+          (λ v. rw (v.1, l.invariant.3) (blanks_one _ _ _ _ _ _ so v.0.left)))
           c.if1.branch,
     )
 
