@@ -22,12 +22,12 @@ use Rattle.octets.specs.Spelt.{Spells}
 use Rattle.octets.specs.declared.head.Head.{Head}
 use Rattle.octets.specs.declared.head.Head.TheVariants as head
 use Rattle.octets.proofs.Slices.{slice_join}
-use Rattle.octets.proofs.Spellings.{HeadSpelt, head-only}
+use Rattle.octets.proofs.Spellings.{HeadSpelt, head_only}
 use Rattle.values.specs.Enumerated.{enumerated_tag, enumerated_at}
 use Rattle.values.specs.declared.enumerated.Enumerated.{Enumerated}
 use Rattle.values.specs.declared.enumerated.Enumerated.TheVariants as enumerated
 use Rattle.values.proofs.Enumerateds.{enumerated_within}
-use Rattle.values.proofs.Spellings.{enumerated-only}
+use Rattle.values.proofs.Spellings.{enumerated_only}
 use Rattle.numbers.specs.Number.{most, unknown, padded, fair, digits_good}
 use Rattle.numbers.specs.Number.{digits_in, value_of, string_of, string_at, public_in, other_tag, number_in, number_at}
 use Rattle.numbers.specs.Address.{octets_in, sub_in, sub_at, address_in, address_at}
@@ -44,28 +44,28 @@ module _ (s : List ℕ) (small : (i : ℕ) → get_or s i 0 < 256) where
   abbrev Spelt : ℕ → Number → ℕ → Type 0
   Spelt at n next = NumberSpelt n (slice at next s)
 
-  unknown-only :
+  unknown_only :
       (at start stop next : ℕ) → Spells 0x80 (slice start stop s) (slice at next s) →
       FoundAt (Spelt at) (digits_in unknown 0 s start stop next)
   unfolding digits_in
-  unknown-only at start stop next sp =
+  unknown_only at start stop next sp =
       pick_ind (FoundAt (Spelt at)) (digits_good (slice start stop s))
       (λ good. inl (record { digits = slice start stop s; good = good; spells = sp; is = refl }))
       (λ _. tt)
 
   -- a type from `start` up to `place`, and the head of a numeric string there
-  string-head :
+  string_head :
       (depth at start stop next kind place : ℕ) → start ≤ place → type_good kind ≡ true →
       Spells enumerated_tag (kind ∷ []) (slice start place s) → Spells 0xA1 (slice start stop s) (slice at next s) →
       (h : Head) → head_at depth s place stop ≡ h → FoundAt (Spelt at) (string_of kind s stop next h)
   unfolding digits_in
-  string-head depth at start stop next kind place le kinds first sp (head.Is tag from to last) e =
+  string_head depth at start stop next kind place le kinds first sp (head.Is tag from to last) e =
       pick_ind (FoundAt (Spelt at)) (all (eqb tag 0x12 ∷ eqb last stop ∷ []))
       (λ both.
       pick_ind (FoundAt (Spelt at)) (digits_good (slice from to s))
       (λ good.
       let b = both_hold (eqb tag 0x12) (eqb last stop) both in
-      let h : HeadSpelt depth s place stop tag from to last = head-only s small depth place stop e in
+      let h : HeadSpelt depth s place stop tag from to last = head_only s small depth place stop e in
       let ends : last ≡ stop = eqb-true last stop b.1 in
       inr (inl (record {
         kind = kind;
@@ -81,14 +81,14 @@ module _ (s : List ℕ) (small : (i : ℕ) → get_or s i 0 < 256) where
       })))
       (λ _. tt))
       (λ _. tt)
-  string-head depth at start stop next kind place le kinds first sp head.Bad e = tt
+  string_head depth at start stop next kind place le kinds first sp head.Bad e = tt
 
   -- the contents of a public number
-  public-only :
+  public_only :
       (depth at start stop next : ℕ) → Spells 0xA1 (slice start stop s) (slice at next s) →
       FoundAt (Spelt at) (public_in depth s start stop next)
   unfolding public_in string_at
-  public-only depth at start stop next sp = from (enumerated_at depth s start stop) refl
+  public_only depth at start stop next sp = from (enumerated_at depth s start stop) refl
     where
       from :
           (v : Enumerated) → enumerated_at depth s start stop ≡ v →
@@ -97,37 +97,37 @@ module _ (s : List ℕ) (small : (i : ℕ) → get_or s i 0 < 256) where
       from (enumerated.Is kind place) e =
           pick_ind (FoundAt (Spelt at)) (type_good kind)
           (λ kinds.
-          string-head depth at start stop next kind place (omega (arith, enumerated_within depth s start stop e)) kinds
-          (enumerated-only s small depth start stop e) sp (head_at depth s place stop) refl)
+          string_head depth at start stop next kind place (omega (arith, enumerated_within depth s start stop e)) kinds
+          (enumerated_only s small depth start stop e) sp (head_at depth s place stop) refl)
           (λ _. tt)
       from enumerated.Unreadable e = tt
 
-  number-head :
+  number_head :
       (depth at end : ℕ) (h : Head) → head_at depth s at end ≡ h →
       FoundAt (Spelt at) (number_in depth s h)
-  number-head depth at end (head.Is tag start stop next) e =
+  number_head depth at end (head.Is tag start stop next) e =
       let P : Got Number → Type 0 = FoundAt (Spelt at) in
-      let sp : Spells tag (slice start stop s) (slice at next s) = (head-only s small depth at end e).spells in
-      pick_ind P (eqb tag 0x80) (λ t. unknown-only at start stop next (rw (eqb-true tag 0x80 t) at sp)) (λ _.
-      pick_ind P (eqb tag 0xA1) (λ t. public-only (depth - 1) at start stop next (rw (eqb-true tag 0xA1 t) at sp)) (λ _.
+      let sp : Spells tag (slice start stop s) (slice at next s) = (head_only s small depth at end e).spells in
+      pick_ind P (eqb tag 0x80) (λ t. unknown_only at start stop next (rw (eqb-true tag 0x80 t) at sp)) (λ _.
+      pick_ind P (eqb tag 0xA1) (λ t. public_only (depth - 1) at start stop next (rw (eqb-true tag 0xA1 t) at sp)) (λ _.
       pick_ind P (other_tag tag)
       (λ kinds. inr (inr (record { tag = tag; contents = slice start stop s; kinds = kinds; spells = sp; is = refl })))
       (λ _. tt)))
-  number-head depth at end head.Bad e = tt
+  number_head depth at end head.Bad e = tt
 
   -- what is accepted as a number spells it
-  pub number-only :
+  pub number_only :
       (depth at end : ℕ) {n : Number} {next : ℕ} → number_at depth s at end ≡ got n next → NumberSpelt n (slice at next s)
   unfolding number_at
-  number-only depth at end e = rw e at (number-head depth at end (head_at depth s at end) refl)
+  number_only depth at end e = rw e at (number_head depth at end (head_at depth s at end) refl)
 
   -- ---- addresses
 
-  octets-only :
+  octets_only :
       (at start stop end : ℕ) → stop ≤ length s → Spells 0x04 (slice start stop s) (slice at end s) →
       Something (λ sub. SubSpelt sub (slice at end s)) (octets_in s start stop)
   unfolding octets_in
-  octets-only at start stop end inside sp =
+  octets_only at start stop end inside sp =
       pick_ind (Something (λ sub. SubSpelt sub (slice at end s))) (fair (stop - start))
       (λ good.
       inr (inl (record {
@@ -138,12 +138,12 @@ module _ (s : List ℕ) (small : (i : ℕ) → get_or s i 0 < 256) where
       })))
       (λ _. tt)
 
-  sub-head :
+  sub_head :
       (depth at end : ℕ) (h : Head) → head_at depth s at end ≡ h →
       Something (λ sub. SubSpelt sub (slice at end s)) (sub_in s end h)
-  sub-head depth at end (head.Is tag start stop next) e =
+  sub_head depth at end (head.Is tag start stop next) e =
       let P : Got Sub → Type 0 = Something (λ sub. SubSpelt sub (slice at end s)) in
-      let h : HeadSpelt depth s at end tag start stop next = head-only s small depth at end e in
+      let h : HeadSpelt depth s at end tag start stop next = head_only s small depth at end e in
       pick_ind P (eqb next end)
       (λ last.
       let sp : Spells tag (slice start stop s) (slice at end s) = rw (eqb-true next end last) at h.spells in
@@ -151,28 +151,28 @@ module _ (s : List ℕ) (small : (i : ℕ) → get_or s i 0 < 256) where
       (λ t. inr (inr (record { contents = slice start stop s; spells = rw (eqb-true tag 0x30 t) at sp; is = refl }))) (λ _.
       pick_ind P (eqb tag 0x04)
       (λ t.
-      octets-only at start stop end (omega (arith, h.nexts, h.ends, h.inside)) (rw (eqb-true tag 0x04 t) at sp))
+      octets_only at start stop end (omega (arith, h.nexts, h.ends, h.inside)) (rw (eqb-true tag 0x04 t) at sp))
       (λ _. tt)))
       (λ _. tt)
-  sub-head depth at end head.Bad e = tt
+  sub_head depth at end head.Bad e = tt
 
   -- what is accepted as the rest of an address spells it
-  pub sub-only :
+  pub sub_only :
       (depth at end : ℕ) {sub : Sub} {last : ℕ} → sub_at depth s at end ≡ got sub last → SubSpelt sub (slice at end s)
   unfolding sub_at
-  sub-only depth at end e =
+  sub_only depth at end e =
       found_is (λ sub. SubSpelt sub (slice at end s)) e
       (pick_ind (Something (λ sub. SubSpelt sub (slice at end s))) (eqb at end)
       (λ same. inl (record { none = rw (eqb-true at end same) (slice_empty end s); is = refl }))
-      (λ _. sub-head depth at end (head_at depth s at end) refl))
+      (λ _. sub_head depth at end (head_at depth s at end) refl))
 
-  address-head :
+  address_head :
       (depth at end : ℕ) (h : Head) → head_at depth s at end ≡ h →
       FoundAt (λ to next. AddressSpelt to (slice at next s)) (address_in depth s h)
-  address-head depth at end (head.Is tag start stop next) e =
+  address_head depth at end (head.Is tag start stop next) e =
       let P : Forwarded → ℕ → Type 0 = λ to next. AddressSpelt to (slice at next s) in
       let inner : ℕ = depth - 1 in
-      let sp : Spells tag (slice start stop s) (slice at next s) = (head-only s small depth at end e).spells in
+      let sp : Spells tag (slice start stop s) (slice at next s) = (head_only s small depth at end e).spells in
       pick_ind (FoundAt P) (eqb tag 0x30)
       (λ t.
       found_at_then P (number_at inner s start stop) _ (λ number place f.
@@ -183,22 +183,22 @@ module _ (s : List ℕ) (small : (i : ℕ) → get_or s i 0 < 256) where
         sub = sub;
         first = slice start place s;
         second = slice place stop s;
-        numbers = number-only inner start stop f;
-        subs = sub-only inner place stop g;
+        numbers = number_only inner start stop f;
+        subs = sub_only inner place stop g;
         spells =
             rw (slice_join start place stop s (omega (arith, in_order)) (omega (arith, in_order)))
             (rw (eqb-true tag 0x30 t) at sp);
         is = refl;
       })))
       (λ _. tt)
-  address-head depth at end head.Bad e = tt
+  address_head depth at end head.Bad e = tt
 
   -- what is accepted as an address spells it
-  pub address-only :
+  pub address_only :
       (depth at end : ℕ) {to : Forwarded} {next : ℕ} → address_at depth s at end ≡ got to next →
       AddressSpelt to (slice at next s)
   unfolding address_at
-  address-only depth at end e = rw e at (address-head depth at end (head_at depth s at end) refl)
+  address_only depth at end e = rw e at (address_head depth at end (head_at depth s at end) refl)
 
 -- ---- digits and octets with zeros past them
 

@@ -1,0 +1,6 @@
+use Rattle.numbers.proofs.Readers.{padded_over}
+use borrow.Author.Rules.{rules}
+use Rattle.numbers.proofs.number.padded_of.Goals as goal
+
+pub returns : goal.returns
+returns c = padded_over c.requires c.put_all.ensures
