@@ -45,11 +45,11 @@ pub contents_one :
     (depth : ℕ) (s : List ℕ) (start stop : ℕ) (b : Bool) → start < stop →
     skip_element depth s start stop ≡ pick b (To stop) Wrong → skip_contents depth s start stop ≡ b
 contents_one depth s start stop b some e =
-    contents_step depth s start stop some ∙ ap (after_skip (λ next. skip_contents depth s next stop)) e ∙ by-test b
+    contents_step depth s start stop some ∙ ap (after_skip (λ next. skip_contents depth s next stop)) e ∙ by_test b
   where
-    by-test : (t : Bool) → after_skip (λ next. skip_contents depth s next stop) (pick t (To stop) Wrong) ≡ t
-    by-test true = contents_end depth s stop stop (omega arith) ∙ eq-eqb stop stop refl
-    by-test false = refl
+    by_test : (t : Bool) → after_skip (λ next. skip_contents depth s next stop) (pick t (To stop) Wrong) ≡ t
+    by_test true = contents_end depth s stop stop (omega arith) ∙ eq-eqb stop stop refl
+    by_test false = refl
 
 -- ---- n elements around another
 
@@ -87,23 +87,23 @@ module _ (tag : ℕ) (low : tag % 32 ≡ 31 → ⊥) (holds : tag / 32 % 2 ≡ 1
       ∙ rw (contents_end (suc depth - 1) s i.start (i.start + 0) (omega arith), eq-eqb i.start (i.start + 0) here))
 
   module _ (inmost : List ℕ) (leaf : Leaf inmost) where
-    around-some : (n : ℕ) → 0 < length (nested_around tag n inmost)
+    around_some : (n : ℕ) → 0 < length (nested_around tag n inmost)
     unfolding nested_around
-    around-some zero = leaf.some
-    around-some (suc n) = omega (arith, length_element tag (nested_around tag n inmost))
+    around_some zero = leaf.some
+    around_some (suc n) = omega (arith, length_element tag (nested_around tag n inmost))
 
     -- n elements around it are skipped exactly if n + 1 is no deeper than allowed
-    pub around-skipped :
+    pub around_skipped :
         (n depth : ℕ) (s : List ℕ) (at end : ℕ) → length (nested_around tag n inmost) < 65536 →
         Stands s at (nested_around tag n inmost) → at + length (nested_around tag n inmost) ≤ end → end ≤ length s →
         skip_element depth s at end ≡ pick (leb (suc n) depth) (To (at + length (nested_around tag n inmost))) Wrong
     unfolding nested_around
-    around-skipped zero depth s at end small st fit in-s = leaf.skipped depth s at end st fit in-s
-    around-skipped (suc n) zero s at end small st fit in-s = rw (leb-suc-zero (suc n)) (skip_none s at end)
-    around-skipped (suc n) (suc depth) s at end small st fit in-s =
+    around_skipped zero depth s at end small st fit in-s = leaf.skipped depth s at end st fit in-s
+    around_skipped (suc n) zero s at end small st fit in-s = rw (leb-suc-zero (suc n)) (skip_none s at end)
+    around_skipped (suc n) (suc depth) s at end small st fit in-s =
         let ws : List ℕ = nested_around tag n inmost in
         let long = length_element tag ws in
-        let some = around-some n in
+        let some = around_some n in
         let i = inside_element (suc depth) s at end tag ws (λ e. omega arith) low (omega arith) st fit in-s in
         let less : suc depth - 1 ≡ depth = omega arith in
         skip_constructed (suc depth) s at end tag ws holds i
@@ -111,29 +111,29 @@ module _ (tag : ℕ) (low : tag % 32 ≡ 31 → ⊥) (holds : tag / 32 % 2 ≡ 1
           leb-suc-suc (suc n) depth,
           less,
           contents_one depth s i.start (i.start + length ws) (leb (suc n) depth) (omega arith)
-              (around-skipped n depth s i.start (i.start + length ws) (omega arith) i.stands (omega arith) i.room),
+              (around_skipped n depth s i.start (i.start + length ws) (omega arith) i.stands (omega arith) i.room),
         )
 
     -- their octets are skipped to the end exactly if n + 1 is at most 8
-    pub depth-eight :
+    pub depth_eight :
         (n : ℕ) → length (nested_around tag n inmost) < 65536 →
         skip_at (nested_around tag n inmost) 0 (length (nested_around tag n inmost))
         ≡ pick (leb (suc n) skip_depth) (To (length (nested_around tag n inmost))) Wrong
-    depth-eight n small =
+    depth_eight n small =
         let s : List ℕ = nested_around tag n inmost in
         rw (zero-add (length s)) at
-        (around-skipped n skip_depth s 0 (length s) small (stands_whole s) (omega arith) (omega arith))
+        (around_skipped n skip_depth s 0 (length s) small (stands_whole s) (omega arith) (omega arith))
 
   -- n + 1 elements of which the innermost is empty are n around that one
-  nested-around : (n : ℕ) → nested tag (suc n) ≡ nested_around tag n (element tag [])
+  nested_around_lem : (n : ℕ) → nested tag (suc n) ≡ nested_around tag n (element tag [])
   unfolding nested_around
-  nested-around zero = refl
-  nested-around (suc n) = ap (element tag) (nested-around n)
+  nested_around_lem zero = refl
+  nested_around_lem (suc n) = ap (element tag) (nested_around_lem n)
 
   -- n elements, each within the next and the innermost empty, are skipped exactly if n is at most 8
-  pub nested-eight :
+  pub nested_eight :
       (n : ℕ) → (n ≡ 0 → ⊥) → length (nested tag n) < 65536 →
       skip_at (nested tag n) 0 (length (nested tag n)) ≡ pick (leb n skip_depth) (To (length (nested tag n))) Wrong
-  nested-eight zero some small = absurd (some refl)
-  nested-eight (suc n) some small =
-      rw (nested-around n) (depth-eight (element tag []) empty_leaf n (rw (nested-around n) at small))
+  nested_eight zero some small = absurd (some refl)
+  nested_eight (suc n) some small =
+      rw (nested_around_lem n) (depth_eight (element tag []) empty_leaf n (rw (nested_around_lem n) at small))

@@ -14,14 +14,14 @@ use Rattle.laws.proofs.Picks.{pick_ind, pick_last, by_bool}
 use Rattle.octets.specs.Head.{head_at}
 use Rattle.octets.specs.declared.head.Head.{Head}
 use Rattle.octets.specs.declared.head.Head.TheVariants as head
-use Rattle.octets.proofs.Spellings.{head-only, spells_length, spells_back, spells_contents}
+use Rattle.octets.proofs.Spellings.{head_only, spells_length, spells_back, spells_contents}
 use Rattle.skip.specs.Skip.{past_element, skip_element}
 use Rattle.skip.specs.Spelt.{Run, SkipSpelt, Skippable}
 use Rattle.skip.specs.inner.Skip.{skip_contents}
 use Rattle.skip.specs.declared.skip.Skip.{Skip}
 use Rattle.skip.specs.declared.skip.Skip.TheVariants.{To, Wrong}
 use Rattle.skip.proofs.Skips.{further, element_step}
-use Rattle.skip.proofs.Runs.{run-fills, run_only}
+use Rattle.skip.proofs.Runs.{run_fills, run_only}
 use Rattle.skip.proofs.Depths.{skip_none}
 
 -- ---- what spells such elements is skipped
@@ -56,7 +56,7 @@ skip_back zero ws s at end k st fit in-s = absurd k
 skip_back (suc depth) ws s at end k st fit in-s =
     spelt_back (Run (Skippable depth)) depth ws s at end k
     (λ cs start run here room.
-    run-fills (Skippable depth) (λ a. skip_element depth s a (start + length cs)) s (start + length cs)
+    run_fills (Skippable depth) (λ a. skip_element depth s a (start + length cs)) s (start + length cs)
     (λ a. further depth s a (start + length cs))
     (λ vs a p stands fits. skip_back depth vs s a (start + length cs) p stands fits room) run start here refl)
     st fit in-s
@@ -74,16 +74,16 @@ apart e = let z : ◌≡◌ {A = ℕ} 0 1 = cc in omega arith
 
 module _ (s : List ℕ) (small : (i : ℕ) → get_or s i 0 < 256) where
   -- an element whose contents, where it is constructed, were found good
-  spelt-only :
+  spelt_only :
       (inside : List ℕ → Type 0) (depth at end : ℕ) →
       ((start stop : ℕ) → start ≤ stop → skip_contents depth s start stop ≡ true → inside (slice start stop s)) →
       (x : Head) → head_at (suc depth) s at end ≡ x → (next : ℕ) → past_element (skip_contents depth s) x ≡ To next →
       SkipSpelt inside (slice at next s)
-  spelt-only inside depth at end good (head.Is tag start stop after) e next h =
+  spelt_only inside depth at end good (head.Is tag start stop after) e next h =
       pick_ind (λ (x : Skip). x ≡ To next → SkipSpelt inside (slice at next s))
       (any (eqb (tag / 32 % 2) 0 ∷ skip_contents depth s start stop ∷ []))
       (λ passed same.
-      let found = head-only s small (suc depth) at end e in
+      let found = head_only s small (suc depth) at end e in
       let place : after ≡ next = cc in
       record {
         tag = tag;
@@ -95,17 +95,17 @@ module _ (s : List ℕ) (small : (i : ℕ) → get_or s i 0 < 256) where
             ∙ rw (ne_eqb (tag / 32 % 2) 0 (λ zero. omega arith)) at passed);
       })
       (λ _ same. absurd (apart same)) h
-  spelt-only inside depth at end good head.Bad e next h = absurd (apart h)
+  spelt_only inside depth at end good head.Bad e next h = absurd (apart h)
 
-  pub skip-only :
+  pub skip_only :
       (depth at end next : ℕ) → skip_element depth s at end ≡ To next → Skippable depth (slice at next s)
   unfolding skip_contents
-  skip-only zero at end next h = apart (sym (skip_none s at end) ∙ h)
-  skip-only (suc depth) at end next h =
+  skip_only zero at end next h = apart (sym (skip_none s at end) ∙ h)
+  skip_only (suc depth) at end next h =
       let less : suc depth - 1 ≡ depth = omega arith in
-      spelt-only (Run (Skippable depth)) depth at end
+      spelt_only (Run (Skippable depth)) depth at end
       (λ start stop le good.
       run_only (Skippable depth) (λ a. skip_element depth s a stop) s stop (λ a. further depth s a stop)
-      (λ a place e. skip-only depth a stop place e) start le good)
+      (λ a place e. skip_only depth a stop place e) start le good)
       (head_at (suc depth) s at end) refl next
       (rw less at (sym (element_step (suc depth) s at end) ∙ h))

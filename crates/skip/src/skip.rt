@@ -9,7 +9,7 @@ use octets::{Head, head_at};
 pub(crate) const SKIPDEPTH: u8 = 8;
 
 // The place after a skipped element.
-#[derive(Drop)]
+#[derive(Clone, Copy)]
 pub enum Skip {
     To(usize),
     Wrong,
