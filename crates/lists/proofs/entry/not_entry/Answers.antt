@@ -1,0 +1,5 @@
+use borrow.Author.Rules.{rules}
+use Rattle.lists.proofs.entry.not_entry.Goals as goal
+
+pub returns : goal.returns
+returns c = rw c.no_entry-entry.ensures
