@@ -186,8 +186,8 @@ module _ (w : Places) (many m : ℕ) (few : many ≡ min w.count run_most) (long
   pub next_place : m < many → drop m (places_in w) ≡ get_or w.places m no_place ∷ drop (m + 1) (places_in w)
   next_place h = step w.count w.places m no_place (omega arith) (omega arith)
 
-  pub no_place : many ≤ m → drop m (places_in w) ≡ []
-  no_place h = left_none w.count w.places m (omega (arith, few, long))
+  pub no_place_lem : many ≤ m → drop m (places_in w) ≡ []
+  no_place_lem h = left_none w.count w.places m (omega (arith, few, long))
 
 pub placed_back : (w : Places) (ws : List Place) → w ≡ placed ws → places_in w ≡ ws
 placed_back w ws e = rw e (take-append_seam ws (replicate (run_most - length ws) no_place))

@@ -1,0 +1,33 @@
+use borrow.Author.Rules.{rules}
+use Prim.Native.Nat.{◌+◌, ◌-◌, ◌*◌, ◌≤◌}
+use mathlib.Core.Path.{◌≡◌, sym, ◌∙◌}
+use mathlib.Core.List.{◌++◌}
+use mathlib.Core.Logic.{⊎_elim}
+use native.Mathlib.Nat.{sub-zero}
+use native.Mathlib.Omega.{arith}
+use lib.ListN.{length, take, length-take}
+use lib.Seq.{get_or-take}
+use Rattle.laws.proofs.Filled.{Filled, filled_none, filled_next, filled_done}
+use Rattle.profile.specs.Profile.{services_most}
+use Rattle.instances.specs.Places.{run_most}
+use Rattle.instances.specs.inner.Places.{no_place, places_named}
+use Rattle.instances.proofs.Placings.{places_left, number_named, number_other, number_none, row_left, place_next, place_none, placed_done}
+use Rattle.instances.proofs.places.places_named.Given as goal
+
+abbrev pub invariant-loop-b : goal.invariant-loop-b
+invariant-loop-b l =
+    (l.b ≤ l.count) × (l.k ≤ l.a * services_most + l.b) ×
+    Filled run_most no_place (places_named l.asked (take l.count l.services) l.numbers 0)
+    (row_left (take l.count l.services) l.a l.b ++ places_left l.asked (take l.count l.services) l.numbers (l.a + 1)) l.k l.next.places
+
+abbrev pub decreases-loop-b : goal.decreases-loop-b
+decreases-loop-b l = l.count - l.b
+
+abbrev pub invariant-loop-a : goal.invariant-loop-a
+invariant-loop-a l =
+    (l.a ≤ l.numbers) × (length l.services ≡ services_most) × (l.k ≤ l.a * services_most) ×
+    Filled run_most no_place (places_named l.asked (take l.count l.services) l.numbers 0)
+    (places_left l.asked (take l.count l.services) l.numbers l.a) l.k l.next.places
+
+abbrev pub decreases-loop-a : goal.decreases-loop-a
+decreases-loop-a l = l.numbers - l.a

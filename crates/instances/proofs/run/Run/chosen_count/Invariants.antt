@@ -1,0 +1,21 @@
+use borrow.Author.Rules.{rules}
+use Prim.Native.Nat.{◌+◌, ◌-◌, ◌≤◌, min}
+use mathlib.Core.Path.{◌≡◌, sym, ap, ◌∙◌}
+use mathlib.Core.Logic.{⊎_elim}
+use native.Mathlib.Omega.{arith}
+use lib.ListN.{length, drop}
+use Rattle.laws.proofs.Parts.{unmapped}
+use Rattle.instances.specs.Instance.{chosen}
+use Rattle.instances.specs.Places.{run_most}
+use Rattle.instances.specs.Run.{instances_of, listed}
+use Rattle.instances.proofs.Runs.{next_is, none_left}
+use Rattle.laws.proofs.Thoses.{those_take, those_skip, those_none}
+use Rattle.instances.proofs.run.Run.chosen_count.Given as goal
+
+abbrev pub invariant-loop-i : goal.invariant-loop-i
+invariant-loop-i l =
+    (l.i ≤ l.n) × (l.n ≡ min l.self.count run_most) × (length l.self.run ≡ run_most) × (l.k ≤ l.i) ×
+    (l.k + length (listed l.sel (drop l.i (instances_of l.self))) ≡ length (listed l.sel (instances_of l.self)))
+
+abbrev pub decreases-loop-i : goal.decreases-loop-i
+decreases-loop-i l = l.n - l.i

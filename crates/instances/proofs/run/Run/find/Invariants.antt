@@ -1,0 +1,19 @@
+use borrow.Author.Rules.{rules}
+use Prim.Native.Nat.{◌-◌, ◌≤◌, min}
+use mathlib.Core.Path.{◌≡◌, refl, sym, ap, ◌∙◌}
+use native.Mathlib.Omega.{arith}
+use lib.ListN.{length, drop}
+use Rattle.laws.proofs.Parts.{unmapped}
+use Rattle.instances.specs.Places.{run_most}
+use Rattle.instances.specs.Run.{instances_of, forwarded_to, found_by}
+use Rattle.instances.proofs.Runs.{next_is, none_left}
+use Rattle.instances.proofs.Choices.{find_here, find_on, find_none}
+use Rattle.instances.proofs.run.Run.find.Given as goal
+
+abbrev pub invariant-loop-i : goal.invariant-loop-i
+invariant-loop-i l =
+    (l.i ≤ l.n) × (l.n ≡ min l.self.count run_most) × (length l.self.run ≡ run_most) ×
+    (forwarded_to l.procedure l.number l.service (instances_of l.self) ≡ forwarded_to l.procedure l.number l.service (drop l.i (instances_of l.self)))
+
+abbrev pub decreases-loop-i : goal.decreases-loop-i
+decreases-loop-i l = l.n - l.i

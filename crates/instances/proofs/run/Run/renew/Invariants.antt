@@ -1,0 +1,19 @@
+use borrow.Author.Rules.{rules}
+use Prim.Native.Nat.{◌-◌, ◌≤◌, min}
+use mathlib.Core.Path.{◌≡◌, refl, sym, ◌∙◌}
+use mathlib.Core.Logic.{⊎_elim}
+use native.Mathlib.Omega.{arith}
+use lib.ListN.{length}
+use Rattle.laws.proofs.Parts.{unmapped}
+use Rattle.instances.specs.Instance.{blank_instance}
+use Rattle.instances.specs.Places.{run_most}
+use Rattle.instances.proofs.Renewals.{renewed_to, renews_one, spares_one, blanks_one, renew_answer}
+use Rattle.instances.proofs.run.Run.renew.Given as goal
+
+abbrev pub invariant-loop-i : goal.invariant-loop-i
+invariant-loop-i l =
+    (l.i ≤ run_most) × (l.n ≡ min l.initial.next.count run_most) × (length l.initial.next.run ≡ run_most) × (l.none ≡ blank_instance) ×
+    (l.next.run ≡ renewed_to l.sel l.address l.n l.initial.next.run l.i)
+
+abbrev pub decreases-loop-i : goal.decreases-loop-i
+decreases-loop-i l = run_most - l.i

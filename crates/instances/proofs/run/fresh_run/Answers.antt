@@ -1,0 +1,5 @@
+use borrow.Author.Rules.{rules}
+use Rattle.instances.proofs.run.fresh_run.Goals as goal
+
+pub returns : goal.returns
+returns c = rw c.blank_instance-none.ensures
