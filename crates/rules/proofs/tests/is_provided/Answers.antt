@@ -1,0 +1,5 @@
+use borrow.Author.Rules.{rules}
+use Rattle.rules.proofs.tests.is_provided.Goals as goal
+
+pub returns : goal.returns
+returns c = rw (← c.service_slot.ensures)

@@ -1,0 +1,17 @@
+use Rattle.rules.proofs.TestLaws.{Compared, compared_here, compared_skip, compared_other, compared_none}
+use Rattle.profile.specs.Profile.{numbers_most}
+use Rattle.laws.proofs.Parts.{unmapped}
+use borrow.Author.Rules.{rules}
+use native.Mathlib.Omega.{arith}
+use lib.ListN.{length}
+use Prim.Native.Nat.{◌-◌, ◌≤◌}
+use mathlib.Core.Path.{◌≡◌, refl, sym, ◌∙◌}
+use mathlib.Core.Logic.{⊎_elim}
+use Rattle.rules.proofs.tests.selected_same.Given as goal
+
+abbrev pub invariant-loop-k : goal.invariant-loop-k
+invariant-loop-k l =
+    (l.k ≤ numbers_most) × (length l.numbers ≡ numbers_most) × Compared l.p l.asked l.count l.numbers l.to l.k
+
+abbrev pub decreases-loop-k : goal.decreases-loop-k
+decreases-loop-k l = numbers_most - l.k
