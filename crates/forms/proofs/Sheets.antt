@@ -118,9 +118,9 @@ module _ (f : Form) (s : List ℕ) where
           ∙ rw (opened, found, e)
           (pick_ind (λ t. pick t (got sheet next) wrong ≡ wrong) (eqb next (length s)) {x = false} {y = false} (λ _. refl) (λ _. refl))
 
-      in_order :
+      in_order_lem :
           next ≡ length s → in_order f is ≡ true → sheet_in f s ≡ got (record { last = o.last; instances = is }) next
-      in_order e h = sheet_parts ∙ rw (opened, found, eq-eqb next (length s) e, h)
+      in_order_lem e h = sheet_parts ∙ rw (opened, found, eq-eqb next (length s) e, h)
 
       fits : Each (FieldsFit f) is
       fits = found_is (Each (FieldsFit f)) found (instances_fit s f o.count a)
@@ -151,7 +151,7 @@ module _ (f : Form) (s : List ℕ) where
         pub sheet_read :
             next ≡ length s → t ≡ true →
             ◌≡◌ {A = FormRead} record { ok = true; last = o.last; run = run } (form_read (sheet_in f s))
-        sheet_read e h = rw (in_order e (sym order_told ∙ h), held)
+        sheet_read e h = rw (in_order_lem e (sym order_told ∙ h), held)
 
     pub sheet_many : Fitting f → run_most < o.count → sheet_in f s ≡ wrong
     sheet_many fitting h = each (instances_from f o.count s a) refl

@@ -1,0 +1,13 @@
+use Rattle.forms.proofs.Readers.{instance_found, instance_none}
+use Rattle.forms.proofs.Instances.{Going, going_first, going_wrong, going_next, going_all}
+use Rattle.forms.specs.Instance.{instance_from}
+use borrow.Author.Tests.{not-true, not-false}
+use borrow.Author.Rules.{rules}
+use Prim.Native.Nat.{◌-◌}
+use Rattle.forms.proofs.sheet.instances_from.Given as goal
+
+abbrev pub invariant-loop-i : goal.invariant-loop-i
+invariant-loop-i l = Going l.f l.s l.at l.count l.i l.here l.run.run
+
+abbrev pub decreases-loop-i : goal.decreases-loop-i
+decreases-loop-i l = l.count - l.i
