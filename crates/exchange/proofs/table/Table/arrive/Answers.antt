@@ -1,0 +1,139 @@
+use Rattle.exchange.proofs.Arrivals.{done_short, done_long, done_profile, done_table, refused_arrives}
+use Rattle.exchange.proofs.Arrivals.{says_arrives, fails_arrives, lists_arrives, changes_arrives, renews_applied}
+use Rattle.exchange.proofs.Tables.{table_over, table_run}
+use Rattle.refusals.specs.declared.refusal.Refusal.TheVariants.{ShortOutput, LongComponent, BadProfile, BadTable}
+use Rattle.lists.specs.Entries.{instances_most}
+use Rattle.rules.specs.Judge.{applied}
+use Rattle.profile.specs.declared.access.AccessRead.{AccessRead}
+use lib.ListN.{length}
+use mathlib.Core.Path.{◌≡◌, sym, ap, ◌∙◌}
+use mir.Facts.{to_z-of_z}
+use mir.Syntax.{w16}
+use mir.Val.{SFits}
+use native.Mathlib.Omega.{arith}
+use borrow.Author.Tests.{not-true, not-false}
+use borrow.Author.Rules.{rules}
+use Rattle.exchange.proofs.table.Table.arrive.Goals as goal
+use Rattle.exchange.proofs.table.Table.arrive.Goals.{else-renews, then-renews}
+
+pub returns-then-out-lt-OUTPUTLEAST : goal.returns-then-out-lt-OUTPUTLEAST
+returns-then-out-lt-OUTPUTLEAST c =
+    let a = c.args in
+    refused_arrives a.access.now a.self a.component.now a.out.now ShortOutput _
+    (done_short a.access.now a.self a.component.now (length a.out.now) (omega (arith, c.if-out-lt-OUTPUTLEAST.true)))
+    c.refuses.ensures
+
+pub returns-then-component-gt-COMPONENTMOST : goal.returns-then-component-gt-COMPONENTMOST
+returns-then-component-gt-COMPONENTMOST c =
+    let a = c.args in
+    refused_arrives a.access.now a.self a.component.now a.out.now LongComponent _
+    (done_long a.access.now a.self a.component.now (length a.out.now) (omega (arith, c.if-out-lt-OUTPUTLEAST.false))
+    (omega (arith, c.if-component-gt-COMPONENTMOST.true)))
+    c.refuses-then-component-gt-COMPONENTMOST.ensures
+
+pub returns-then-not-read : goal.returns-then-not-read
+returns-then-not-read c =
+    let a = c.args in
+    refused_arrives a.access.now a.self a.component.now a.out.now BadProfile _
+    (done_profile a.access.now a.self a.component.now (length a.out.now)
+    (omega (arith, c.if-out-lt-OUTPUTLEAST.false)) (omega (arith, c.if-component-gt-COMPONENTMOST.false))
+    (ap (λ (r : AccessRead). r.ok) (sym c.read_access-read.ensures) ∙ not-true _ c.if-not-read.true))
+    c.refuses-then-not-read.ensures
+
+pub returns-then-self-gt-LASTMOST : goal.returns-then-self-gt-LASTMOST
+returns-then-self-gt-LASTMOST c =
+    let a = c.args in
+    refused_arrives a.access.now a.self a.component.now a.out.now BadTable _
+    (done_table a.access.now a.self a.component.now (length a.out.now)
+    (omega (arith, c.if-out-lt-OUTPUTLEAST.false))
+    (omega (arith, c.if-component-gt-COMPONENTMOST.false))
+    (ap (λ (r : AccessRead). r.ok) (sym c.read_access-read.ensures) ∙ not-false _ c.if-not-read.false)
+    (table_over instances_most _ a.self c.if-self-gt-LASTMOST.true))
+    c.refuses-then-self-gt-LASTMOST.ensures
+
+pub returns-then-not-good : goal.returns-then-not-good
+returns-then-not-good c =
+    let a = c.args in
+    refused_arrives a.access.now a.self a.component.now a.out.now BadTable _
+    (done_table a.access.now a.self a.component.now (length a.out.now)
+    (omega (arith, c.if-out-lt-OUTPUTLEAST.false))
+    (omega (arith, c.if-component-gt-COMPONENTMOST.false))
+    (ap (λ (r : AccessRead). r.ok) (sym c.read_access-read.ensures) ∙ not-false _ c.if-not-read.false)
+    (rw c.read_access-read.ensures at
+    (table_run instances_most _ a.self c.if-self-gt-LASTMOST.false ∙ sym c.good.ensures
+    ∙ c.if-not-good.true)))
+    c.refuses-then-not-good.ensures
+
+pub returns-then-not-q : goal.returns-then-not-q
+returns-then-not-q c =
+    let a = c.args in
+    rw c.answers.ensures
+    (says_arrives a.access.now a.self a.component.now a.out.now c.read_access-read.result c.read_access-read.ensures
+    (omega (arith, c.if-out-lt-OUTPUTLEAST.false))
+    (omega (arith, c.if-component-gt-COMPONENTMOST.false))
+    (not-false _ c.if-not-read.false)
+    c.if-self-gt-LASTMOST.false (sym c.good.ensures ∙ c.if-not-good.false)
+    c.question_of-q.result c.question_of-q.ensures _ _
+    (not-true _ c.if-not-q.true) c.put_answer-count.ensures)
+
+pub returns-in-Fails : goal.returns-in-Fails
+returns-in-Fails c =
+    let a = c.args in
+    let id : SFits w16 c.question_of-q.result.identifier = search (rules, c.question_of-q.type_inv) in
+    rw (c.answers-in-Fails.ensures, to_z-of_z id)
+    (fails_arrives a.access.now a.self a.component.now a.out.now c.read_access-read.result c.read_access-read.ensures
+    (omega (arith, c.if-out-lt-OUTPUTLEAST.false))
+    (omega (arith, c.if-component-gt-COMPONENTMOST.false))
+    (not-false _ c.if-not-read.false)
+    c.if-self-gt-LASTMOST.false (sym c.good.ensures ∙ c.if-not-good.false)
+    c.question_of-q.result c.question_of-q.ensures _ _
+    (not-false _ c.if-not-q.false) _
+    (rw (to_z-of_z id) at c.last_after-last.ensures)
+    _ c.judge_request.ensures.verdict _
+    c.in-Fails.is
+    (rw (to_z-of_z id) at c.put_answer-count-in-Fails.ensures))
+
+pub returns-then-operation-eq-INTERROGATION : goal.returns-then-operation-eq-INTERROGATION
+returns-then-operation-eq-INTERROGATION c =
+    let a = c.args in
+    let id : SFits w16 c.question_of-q.result.identifier = search (rules, c.question_of-q.type_inv) in
+    rw (c.answers-then-operation-eq-INTERROGATION.ensures, to_z-of_z id)
+    (lists_arrives a.access.now a.self a.component.now a.out.now c.read_access-read.result c.read_access-read.ensures
+    (omega (arith, c.if-out-lt-OUTPUTLEAST.false))
+    (omega (arith, c.if-component-gt-COMPONENTMOST.false))
+    (not-false _ c.if-not-read.false)
+    c.if-self-gt-LASTMOST.false (sym c.good.ensures ∙ c.if-not-good.false)
+    c.question_of-q.result c.question_of-q.ensures _ _
+    (not-false _ c.if-not-q.false) _ (rw (to_z-of_z id) at c.last_after-last.ensures)
+    _ c.judge_request.ensures _
+    c.in-Passes.is
+    c.if-operation-eq-INTERROGATION.true
+    (rw c.selection_of-sel.ensures at
+    (rw (to_z-of_z id) at c.put_listed-count.ensures)))
+
+pub returns-after-renews : goal.returns-after-renews
+returns-after-renews c =
+    let a = c.args in
+    let id : SFits w16 c.question_of-q.result.identifier = search (rules, c.question_of-q.type_inv) in
+    let good = sym c.good.ensures ∙ c.if-not-good.false in
+    let applies : c.if-renews.next ≡ applied c.read_access-read.result.profile
+    c.question_of-q.result.operation c.question_of-q.result.request a.self.run =
+    elim c.if-renews.branch [
+      then-renews v ↦ v.next-is ∙ renews_applied a.access.now c.read_access-read.result c.read_access-read.ensures
+    (not-false _ c.if-not-read.false) a.self.run good _ _ _
+    c.judge_request.ensures _
+    c.in-Passes.is v.if-renews.true _ v.renew_request-next.ensures
+      | else-renews v ↦ v.next-is ∙ v.apply_request-next.ensures
+    ] in
+    rw (c.answers-else-operation-eq-INTERROGATION.ensures, to_z-of_z id)
+    (changes_arrives a.access.now a.self a.component.now a.out.now c.read_access-read.result c.read_access-read.ensures
+    (omega (arith, c.if-out-lt-OUTPUTLEAST.false))
+    (omega (arith, c.if-component-gt-COMPONENTMOST.false))
+    (not-false _ c.if-not-read.false)
+    c.if-self-gt-LASTMOST.false good
+    c.question_of-q.result c.question_of-q.ensures _ _
+    (not-false _ c.if-not-q.false) _ (rw (to_z-of_z id) at c.last_after-last.ensures)
+    _ c.judge_request.ensures _
+    c.in-Passes.is
+    c.if-operation-eq-INTERROGATION.false _ applies
+    (rw (to_z-of_z id) at c.put_answer-count-else-operation-eq-INTERROGATION.ensures))
