@@ -18,7 +18,7 @@ use Rattle.instances.specs.Places.{run_most}
 use Rattle.instances.specs.Run.{instances_of, packed, merged, deactivated, is_of, each_good}
 use Rattle.instances.specs.declared.instance.Instance.{Instance}
 use Rattle.instances.specs.declared.run.Run.{Run}
-use Rattle.instances.specs.contracts.instance.Instance.{the_field}
+use Rattle.instances.specs.contracts.instance.Instance.{the_row}
 use Rattle.instances.proofs.Runs.{outside, next_is, none_left, packed_done, packed_full}
 use Rattle.instances.proofs.Choices.{chosen_every, kept_test, gone_test}
 use Rattle.instances.proofs.Keys.{Small, key_procedure}
@@ -60,7 +60,7 @@ module _ (run : Run) (n i : ℕ) (met : Met run n i) where
 -- an array of instances that is owned: the numbers and services are octets
 pub owned_small :
     (l : List Instance) (us : List Val) (i : ℕ) →
-    shadow (each the_field.row.Denot the_field.row.own_val (map the_field.into l) us) → Small (get_or l i outside)
+    shadow (each the_row.Denot the_row.own_val l us) → Small (get_or l i outside)
 owned_small [] us i s = (omega arith, omega arith)
 owned_small (x ∷ l) [] i s = absurd s
 owned_small (x ∷ l) (u ∷ us) zero s = (search (rules, s.0), search (rules, s.0))

@@ -1,0 +1,22 @@
+use borrow.Author.Rules.{rules}
+use Prim.Native.Nat.{◌+◌, ◌-◌, ◌≤◌}
+use mathlib.Core.Logic.{⊎_elim}
+use native.Mathlib.Omega.{arith}
+use lib.ListN.{drop}
+use Rattle.laws.proofs.Parts.{unmapped}
+use Rattle.laws.proofs.Filled.{Filled, filled_none, filled_next}
+use Rattle.instances.specs.Instance.{blank_instance}
+use Rattle.instances.specs.Places.{run_most}
+use Rattle.instances.specs.Run.{instances_of}
+use Rattle.end.specs.Listed.{replaced}
+use Rattle.end.proofs.Replaced.{Met, met_next, owned_small, turn_skip, turn_rest, turn_lower, turn_higher, turn_last, answer_done, answer_full}
+use Rattle.end.proofs.picture.replaced_by.Given as goal
+
+abbrev pub invariant-loop-k : goal.invariant-loop-k
+invariant-loop-k l =
+    Met l.list l.many l.m × Met l.picture l.n l.i × (l.k ≤ run_most) ×
+    Filled run_most blank_instance (replaced l.procedure (instances_of l.list) (instances_of l.picture))
+    (replaced l.procedure (drop l.m (instances_of l.list)) (drop l.i (instances_of l.picture))) l.k l.next.run
+
+abbrev pub decreases-loop-k : goal.decreases-loop-k
+decreases-loop-k l = (l.n - l.i) + (l.many - l.m)

@@ -1,0 +1,7 @@
+use Rattle.end.specs.End.{closed}
+use borrow.Author.Rules.{rules}
+use Rattle.end.proofs.take.closed.Goals as goal
+
+pub returns : goal.returns
+unfolding closed
+returns c = rw (c.blank_request-request.ensures, c.marked.ensures)
