@@ -1,0 +1,5 @@
+use borrow.Author.Rules.{rules}
+use Rattle.sheets.proofs.read.refuses.Goals as goal
+
+pub returns : goal.returns
+returns c = rw c.fresh_table-table.ensures
