@@ -21,7 +21,7 @@ use Rattle.instances.specs.declared.instance.Instance.{Instance}
 use Rattle.instances.proofs.Keys.{key_more, key_number, key_procedure, key_some}
 use Rattle.grid.specs.Grid.{grid_procedures, row_at}
 use Rattle.grid.specs.Row.{Row, active, cell_at, number_of_place, places, service_of_place}
-use Rattle.grid.specs.Holds.{holds, place_instances, row_instances}
+use Rattle.grid.specs.Holds.{instance_in, holds, place_instances, row_instances}
 use Rattle.grid.specs.Table.{GridTable, grid_table_good}
 use Rattle.grid.proofs.Cells.{active_some}
 use Rattle.grid.proofs.RowInstances.{row_of, rows_all, service_small}
@@ -95,8 +95,8 @@ module _ (k m : ℕ) (row later : Row) (less : k < m)
   place_ahead j h =
       pick_ind (λ is. AllAhead is (row_instances m later)) (active row j)
       (λ there. (
-        gathered_ind (Ahead _) tt (ahead_both _) (place_instances m later) places (λ l lt.
-            pick_ind (Ahead _) (active later l) (λ _. (key_procedure _ _ _ _ _ _ (omega arith) (small j h there) less, tt)) (λ _. tt)),
+        gathered_ind (Ahead (instance_in k row j)) tt (ahead_both (instance_in k row j)) (place_instances m later) places (λ l lt.
+            pick_ind (Ahead (instance_in k row j)) (active later l) (λ _. (key_procedure _ _ _ _ _ _ (omega arith) (small j h there) less, tt)) (λ _. tt)),
         tt,
       ))
       (λ _. tt)
@@ -138,7 +138,7 @@ module _ (most : ℕ) (p : Profile) (t : GridTable) (good : grid_table_good most
         let rules = active_rules most p k row (table_row most p t good k h) in
         pick_ind (λ is. AllAhead is (place_instances k row j)) (active row i)
         (λ here. (
-          pick_ind (Ahead _) (active row j)
+          pick_ind (Ahead (instance_in k row i)) (active row j)
               (λ there. (
                 ⊎_elim
                     (λ (same : number_of_place i ≡ number_of_place j).
