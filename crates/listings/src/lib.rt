@@ -1,4 +1,6 @@
 // The listing of a night sheet (document 01, "Samples").
+#![tactic(auto)]
+
 mod line;
 mod list;
 mod word;

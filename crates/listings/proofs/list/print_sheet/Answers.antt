@@ -1,0 +1,38 @@
+use native.Mathlib.Omega.{arith}
+use borrow.Author.Tests.{not-true, not-false}
+use Rattle.laws.proofs.Over.{wrote_length}
+use Rattle.listings.proofs.Sheets.{listing_octets_lem, listing_asks, prints_short, prints_none, prints_sheet}
+use Rattle.listings.proofs.list.print_sheet.Goals as goal
+
+pub returns-then-out-lt-LISTINGMOST : goal.returns-then-out-lt-LISTINGMOST
+returns-then-out-lt-LISTINGMOST c =
+    let a = c.args in
+    prints_short a.s.now a.out.now (omega (arith, listing_octets_lem, c.if-out-lt-LISTINGMOST.true))
+
+pub returns-then-not-form : goal.returns-then-not-form
+returns-then-not-form c =
+    let a = c.args in
+    prints_none a.s.now a.out.now
+    (omega (arith, listing_octets_lem, c.if-out-lt-LISTINGMOST.false)) _
+    c.read_form-form.ensures
+    (not-true _ c.if-not-form.true)
+    c.put_all.ensures
+
+pub write_listing-requires : goal.write_listing-requires
+write_listing-requires c =
+    let a = c.args in
+    listing_asks a.s.now _ c.read_form-form.ensures (not-false _ c.if-not-form.false)
+    a.out.now
+    (omega (arith, listing_octets_lem, c.if-out-lt-LISTINGMOST.false))
+
+pub shape_of-out : goal.shape_of-out
+shape_of-out c = wrote_length c.write_listing.ensures
+
+pub returns : goal.returns
+returns c =
+    let a = c.args in
+    prints_sheet a.s.now a.out.now
+    (omega (arith, listing_octets_lem, c.if-out-lt-LISTINGMOST.false)) _
+    c.read_form-form.ensures
+    (not-false _ c.if-not-form.false)
+    c.write_listing.ensures
