@@ -3,6 +3,7 @@ use crate::say;
 use groups::Groups;
 use octets::Head;
 use skip::Skip;
+use std::io;
 use values::{Enumerated, Ident};
 
 // What is read.
@@ -36,57 +37,61 @@ pub(crate) fn reader_of(word: &[u8]) -> Reader {
 }
 
 // Prints what is read of `s`, and a mark for each cut: whether it is read too.
-pub(crate) fn whole_and_cut(by: Reader, s: &[u8]) {
-    reads(by, s, true);
-    say::text(b" cuts");
+pub(crate) fn whole_and_cut(rt: &impl Print, by: Reader, s: &[u8]) -> io::Result<()> {
+    reads(rt, by, s, true)?;
+    say::text(rt, b" cuts")?;
     if 0 < s.len() {
-        say::text(b" ");
+        say::text(rt, b" ")?;
     }
     let mut i = 0;
     while i < s.len() {
-        say_cut(reads(by, &s[..i], false));
+        say_cut(rt, reads(rt, by, &s[..i], false)?)?;
         i += 1;
     }
+    Ok(())
 }
 
-fn say_cut(read: bool) {
-    say::text(&[if read { b'+' } else { b'.' }]);
+fn say_cut(rt: &impl Print, read: bool) -> io::Result<()> {
+    say::text(rt, &[if read { b'+' } else { b'.' }])
 }
 
 // Whether `s` is read; what is read is printed where `told` says so.
-fn reads(by: Reader, s: &[u8], told: bool) -> bool {
+fn reads(rt: &impl Print, by: Reader, s: &[u8], told: bool) -> io::Result<bool> {
     match by {
-        Reader::Element => element(s, told),
-        Reader::Enumerated => enumerated(s, told),
-        Reader::Identifier => identifier(s, told),
-        Reader::Skip => skipped(s, told),
-        Reader::Groups => groups(s, told),
-        Reader::Unknown => refused(b"unknown", told),
+        Reader::Element => element(rt, s, told),
+        Reader::Enumerated => enumerated(rt, s, told),
+        Reader::Identifier => identifier(rt, s, told),
+        Reader::Skip => skipped(rt, s, told),
+        Reader::Groups => groups(rt, s, told),
+        Reader::Unknown => refused(rt, b"unknown", told),
     }
 }
 
 // Prints the word before a place, and the place, where `told` says so.
-fn tell(told: bool, word: &[u8], at: usize) {
+fn tell(rt: &impl Print, told: bool, word: &[u8], at: usize) -> io::Result<()> {
     if told {
-        say::place(word, at);
+        say::place(rt, word, at)?;
     }
+    Ok(())
 }
 
-fn tell_tag(told: bool, tag: u8) {
+fn tell_tag(rt: &impl Print, told: bool, tag: u8) -> io::Result<()> {
     if told {
-        say::text(b"tag ");
-        say::octet(tag);
+        say::text(rt, b"tag ")?;
+        say::octet(rt, tag)?;
     }
+    Ok(())
 }
 
-fn tell_signed(told: bool, value: i16) {
+fn tell_signed(rt: &impl Print, told: bool, value: i16) -> io::Result<()> {
     if told {
-        say::text(b"is ");
-        say::signed(value);
+        say::text(rt, b"is ")?;
+        say::signed(rt, value)?;
     }
+    Ok(())
 }
 
-fn element(s: &[u8], told: bool) -> bool {
+fn element(rt: &impl Print, s: &[u8], told: bool) -> io::Result<bool> {
     match octets::head_at(s, 0, s.len(), 1) {
         Head::Is {
             tag,
@@ -94,66 +99,66 @@ fn element(s: &[u8], told: bool) -> bool {
             stop,
             next,
         } => {
-            tell_tag(told, tag);
-            tell(told, b" contents ", start);
-            tell(told, b" ", stop);
-            tell(told, b" next ", next);
-            true
+            tell_tag(rt, told, tag)?;
+            tell(rt, told, b" contents ", start)?;
+            tell(rt, told, b" ", stop)?;
+            tell(rt, told, b" next ", next)?;
+            Ok(true)
         }
-        Head::Bad => refused(b"bad", told),
+        Head::Bad => refused(rt, b"bad", told),
     }
 }
 
-fn enumerated(s: &[u8], told: bool) -> bool {
+fn enumerated(rt: &impl Print, s: &[u8], told: bool) -> io::Result<bool> {
     match values::enumerated_at(s, 0, s.len(), 1) {
         Enumerated::Is { value, next } => {
-            tell(told, b"is ", value as usize);
-            tell(told, b" next ", next);
-            true
+            tell(rt, told, b"is ", value as usize)?;
+            tell(rt, told, b" next ", next)?;
+            Ok(true)
         }
-        Enumerated::Unreadable => refused(b"unreadable", told),
+        Enumerated::Unreadable => refused(rt, b"unreadable", told),
     }
 }
 
-fn identifier(s: &[u8], told: bool) -> bool {
+fn identifier(rt: &impl Print, s: &[u8], told: bool) -> io::Result<bool> {
     match values::ident_at(s, 0, s.len(), 1) {
         Ident::Is { value, next } => {
-            tell_signed(told, value);
-            tell(told, b" next ", next);
-            true
+            tell_signed(rt, told, value)?;
+            tell(rt, told, b" next ", next)?;
+            Ok(true)
         }
-        Ident::Unreadable => refused(b"unreadable", told),
+        Ident::Unreadable => refused(rt, b"unreadable", told),
     }
 }
 
-fn skipped(s: &[u8], told: bool) -> bool {
+fn skipped(rt: &impl Print, s: &[u8], told: bool) -> io::Result<bool> {
     match skip::skip_at(s, 0, s.len()) {
         Skip::To(next) => {
-            tell(told, b"to ", next);
-            true
+            tell(rt, told, b"to ", next)?;
+            Ok(true)
         }
-        Skip::Wrong => refused(b"wrong", told),
+        Skip::Wrong => refused(rt, b"wrong", told),
     }
 }
 
-fn groups(s: &[u8], told: bool) -> bool {
+fn groups(rt: &impl Print, s: &[u8], told: bool) -> io::Result<bool> {
     match groups::groups_at(s, 0, s.len()) {
         Groups::Is { value, next } => {
-            tell(told, b"is ", value as usize);
-            tell(told, b" next ", next);
-            true
+            tell(rt, told, b"is ", value as usize)?;
+            tell(rt, told, b" next ", next)?;
+            Ok(true)
         }
         Groups::Large { next } => {
-            tell(told, b"large next ", next);
-            true
+            tell(rt, told, b"large next ", next)?;
+            Ok(true)
         }
-        Groups::Bad => refused(b"bad", told),
+        Groups::Bad => refused(rt, b"bad", told),
     }
 }
 
-fn refused(word: &[u8], told: bool) -> bool {
+fn refused(rt: &impl Print, word: &[u8], told: bool) -> io::Result<bool> {
     if told {
-        say::text(word);
+        say::text(rt, word)?;
     }
-    false
+    Ok(false)
 }

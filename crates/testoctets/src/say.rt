@@ -1,46 +1,48 @@
 // What is printed.
+use std::io;
 use testtext::{hex_character, without_sign};
 
-pub(crate) fn text(s: &[u8]) {
-    io::write_all(libc::STDOUT_FILENO, s);
+pub(crate) fn text(rt: &impl Print, s: &[u8]) -> io::Result<()> {
+    rt.write_all(s)
 }
 
-fn decimal(n: usize) {
-    io::print_decimal(libc::STDOUT_FILENO, n as u64);
+fn decimal(rt: &impl Print, n: usize) -> io::Result<()> {
+    rt.print(n)
 }
 
 // An octet in hexadecimal.
-pub(crate) fn octet(b: u8) {
-    text(&[hex_character(b / 16), hex_character(b)]);
+pub(crate) fn octet(rt: &impl Print, b: u8) -> io::Result<()> {
+    text(rt, &[hex_character(b / 16), hex_character(b)])
 }
 
 // Octets in hexadecimal, separated by spaces.
-pub(crate) fn octets(s: &[u8]) {
+pub(crate) fn octets(rt: &impl Print, s: &[u8]) -> io::Result<()> {
     let mut i = 0;
     while i < s.len() {
         if 0 < i {
-            text(b" ");
+            text(rt, b" ")?;
         }
-        octet(s[i]);
+        octet(rt, s[i])?;
         i += 1;
     }
+    Ok(())
 }
 
 // A number with its sign.
-pub(crate) fn signed(v: i16) {
+pub(crate) fn signed(rt: &impl Print, v: i16) -> io::Result<()> {
     if v < 0 {
-        text(b"-");
+        text(rt, b"-")?;
     }
-    decimal(without_sign(v) as usize);
+    decimal(rt, without_sign(v) as usize)
 }
 
 // The word before a place, and the place.
-pub(crate) fn place(word: &[u8], at: usize) {
-    text(word);
-    decimal(at);
+pub(crate) fn place(rt: &impl Print, word: &[u8], at: usize) -> io::Result<()> {
+    text(rt, word)?;
+    decimal(rt, at)
 }
 
 // A mark: `.` for what is right, `!` for what is not.
-pub(crate) fn mark(right: bool) {
-    text(&[if right { b'.' } else { b'!' }]);
+pub(crate) fn mark(rt: &impl Print, right: bool) -> io::Result<()> {
+    text(rt, &[if right { b'.' } else { b'!' }])
 }

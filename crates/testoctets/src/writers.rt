@@ -1,5 +1,6 @@
 // The writing cases: each is written between octets that must stay, and then into every smaller room.
 use crate::say;
+use std::io;
 use testtext::{all_outside, find, last_identifier, last_number, octet_of};
 
 // What is written.
@@ -36,35 +37,36 @@ pub(crate) fn writer_of(word: &[u8]) -> Writer {
 }
 
 // Prints what is written for the words of `line`, and a mark for each smaller room: whether nothing was altered.
-pub(crate) fn with_and_without_room(by: Writer, line: &[u8]) {
+pub(crate) fn with_and_without_room(rt: &impl Print, by: Writer, line: &[u8]) -> io::Result<()> {
     let mut out = [BEFORE; 16];
     let next = writes(by, &mut out, line);
     if SIZE < next {
-        return;
+        return Ok(());
     }
     if next < AT {
-        return;
+        return Ok(());
     }
-    say::octets(&out[AT..next]);
-    say::text(b" room ");
+    say::octets(rt, &out[AT..next])?;
+    say::text(rt, b" room ")?;
     let mut size = AT;
     while size < next {
-        smaller(by, size, line);
+        smaller(rt, by, size, line)?;
         size += 1;
     }
     if !all_outside(&out, AT, next, BEFORE) {
-        say::text(b"!");
+        say::text(rt, b"!")?;
     }
+    Ok(())
 }
 
 // A room of `size` octets is too small: the answer is the place it began at, and every octet stays.
-fn smaller(by: Writer, size: usize, line: &[u8]) {
+fn smaller(rt: &impl Print, by: Writer, size: usize, line: &[u8]) -> io::Result<()> {
     let mut out = [BEFORE; 16];
     if SIZE < size {
-        return;
+        return Ok(());
     }
     let next = writes(by, &mut out[..size], line);
-    say::mark(next == AT && all_outside(&out, 0, 0, BEFORE));
+    say::mark(rt, next == AT && all_outside(&out, 0, 0, BEFORE))
 }
 
 // The octet of the word after the first.
