@@ -1,11 +1,16 @@
 // Explains the components on its standard input, one to a line, in hexadecimal.
+#![tactic(auto)]
+
 mod hex;
+mod input;
 
 ghost use Rattle.std.specs.Prelude.{◌≤◌, length};
 
 use explanations::explain;
 use hex::{Hex, octets_in};
+use input::read_full;
 use refusals::{Handling, Refusal, refusal_no};
+use std::io;
 
 // Room for the input; more is said to be too much.
 const SPACE: usize = 65536;
@@ -16,18 +21,17 @@ const COMPONENT: usize = 1025;
 // Room for the longest explanation.
 const LONGEST: usize = 30895;
 
-fn main() {
+fn main(rt: HostRuntime) -> io::Result<()> {
     let mut space = [0u8; SPACE];
-    let n = io::read_full(libc::STDIN_FILENO, &mut space);
+    let n = read_full(&mut rt.stdin(), &mut space)?;
     if n == SPACE {
-        say(b"too much input\n");
-        return;
+        return say(&rt, b"too much input\n");
     }
-    each_line(&space[..n]);
+    each_line(&rt, &space[..n])
 }
 
-fn say(text: &[u8]) {
-    io::write_all(libc::STDOUT_FILENO, text);
+fn say(rt: &impl Print, text: &[u8]) -> io::Result<()> {
+    rt.write_all(text)
 }
 
 // The end of the line that begins at `at`.
@@ -46,40 +50,41 @@ fn line_end(s: &[u8], at: usize) -> usize
 }
 
 // The first line is there even where the input is empty: the component without octets.
-fn each_line(s: &[u8]) {
+fn each_line(rt: &impl Print, s: &[u8]) -> io::Result<()> {
     let first = line_end(s, 0);
-    each(&s[..first]);
+    each(rt, &s[..first])?;
     let mut at = first + 1;
     while at < s.len() {
         let end = line_end(s, at);
-        each(&s[at..end]);
+        each(rt, &s[at..end])?;
         at = end + 1;
     }
+    Ok(())
 }
 
-fn each(line: &[u8]) {
+fn each(rt: &impl Print, line: &[u8]) -> io::Result<()> {
     let mut component = [0u8; COMPONENT];
     match octets_in(line, &mut component) {
-        Hex::Octets { count } => told(&component[..count]),
-        Hex::Bad => say(b"not octets in hexadecimal\n"),
+        Hex::Octets { count } => told(rt, &component[..count]),
+        Hex::Bad => say(rt, b"not octets in hexadecimal\n"),
     }
 }
 
-fn told(component: &[u8]) {
+fn told(rt: &impl Print, component: &[u8]) -> io::Result<()> {
     let mut out = [0u8; LONGEST];
     let written = explain(component, &mut out);
     let outcome = written.outcome;
     match outcome {
-        Handling::Refuses { refusal } => refused(refusal),
+        Handling::Refuses { refusal } => refused(rt, refusal),
         Handling::Done => {
             let count = written.count;
-            say(&out[..count]);
+            say(rt, &out[..count])
         }
     }
 }
 
-fn refused(refusal: Refusal) {
-    say(b"refused ");
-    io::print_decimal(libc::STDOUT_FILENO, refusal_no(refusal) as u64);
-    say(b"\n");
+fn refused(rt: &impl Print, refusal: Refusal) -> io::Result<()> {
+    say(rt, b"refused ")?;
+    rt.print(refusal_no(refusal))?;
+    say(rt, b"\n")
 }

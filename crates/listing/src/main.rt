@@ -1,5 +1,11 @@
 // Prints the listing of the night sheet on its standard input, or `refused 9` (document 01, "Samples").
+#![tactic(auto)]
+
+mod input;
+
+use input::read_full;
 use listings::print_sheet;
+use std::io;
 
 // Room for the input. A sheet has at most 1,613 octets, so input that fills this is none, and `refused 9` follows by itself
 // (crates/listings/proofs/Accepted.antt, `prints_long`).
@@ -8,10 +14,10 @@ const SPACE: usize = 2048;
 // Room for the longest listing.
 const LONGEST: usize = 1811;
 
-fn main() {
+fn main(rt: HostRuntime) -> io::Result<()> {
     let mut space = [0u8; SPACE];
-    let n = io::read_full(libc::STDIN_FILENO, &mut space);
+    let n = read_full(&mut rt.stdin(), &mut space)?;
     let mut out = [0u8; LONGEST];
     let count = print_sheet(&space[..n], &mut out);
-    io::write_all(libc::STDOUT_FILENO, &out[..count]);
+    rt.write_all(&out[..count])
 }
