@@ -1,0 +1,12 @@
+use Rattle.refusals.specs.Refusal.{refusal_in}
+use mathlib.Core.Path.{ap, ◌∙◌}
+use borrow.Author.Rules.{rules}
+use Rattle.sconcetoad.proofs.desk.sconcetoad_interrogate.Goals as goal
+
+pub returns : goal.returns
+returns c = record {
+  refusal = c.refusal_in.ensures ∙ ap refusal_in c.interrogate-sent.ensures.told;
+  count = c.interrogate-sent.ensures.count;
+  end = c.interrogate-sent.ensures.end;
+  lent = c.interrogate-sent.ensures.lent;
+}

@@ -1,0 +1,48 @@
+use Rattle.requests.proofs.Numbers.{hears_is}
+use Rattle.sconcetoad.proofs.Saids.{asked_found, asked_none}
+use Rattle.requests.specs.Request.{argument_at}
+use mir.Facts.{to_z-of_z}
+use mir.Val.{SFits}
+use mir.Syntax.{w16}
+use mathlib.Core.Path.{sym, ◌∙◌}
+use borrow.Author.Tests.{not-true, not-false}
+use borrow.Author.Rules.{rules}
+use Rattle.sconcetoad.proofs.said.sconcetoad_said.Goals as goal
+
+pub returns-then-not-read : goal.returns-then-not-read
+returns-then-not-read c =
+    let found = sym (hears_is c.hear.ensures)
+    ∙ c.in-Asks.is in
+    let identifier : SFits w16 c.in-Asks.identifier = search rules in
+    let operation : SFits w16 c.in-Asks.operation.value = search rules in
+    rw found ((rw (to_z-of_z identifier, to_z-of_z operation) at c.nothing_asked-then-not-read.ensures)
+    ∙ asked_none _ _ (argument_at _ _ _ _) _ c.argument_at-read.ensures
+    (not-true _ c.if-not-read.true))
+
+pub returns-in-NotOne : goal.returns-in-NotOne
+returns-in-NotOne c = rw (sym (hears_is c.hear.ensures) ∙ c.in-NotOne.is) c.nothing_asked.ensures
+
+pub returns-in-Silent : goal.returns-in-Silent
+returns-in-Silent c = rw (sym (hears_is c.hear.ensures) ∙ c.in-Silent.is) c.nothing_asked-in-Silent.ensures
+
+pub returns-in-OtherTag : goal.returns-in-OtherTag
+returns-in-OtherTag c = rw (sym (hears_is c.hear.ensures) ∙ c.in-OtherTag.is) c.nothing_asked-in-OtherTag.ensures
+
+pub returns-in-NoIdentifier : goal.returns-in-NoIdentifier
+returns-in-NoIdentifier c = rw (sym (hears_is c.hear.ensures) ∙ c.in-NoIdentifier.is) c.nothing_asked-in-NoIdentifier.ensures
+
+pub returns-in-NoOperation : goal.returns-in-NoOperation
+returns-in-NoOperation c =
+    let identifier : SFits w16 c.in-NoOperation.identifier = search rules in
+    rw (sym (hears_is c.hear.ensures) ∙ c.in-NoOperation.is)
+    (rw (to_z-of_z identifier) at c.nothing_asked-in-NoOperation.ensures)
+
+pub returns-else-not-read : goal.returns-else-not-read
+returns-else-not-read c =
+    let found = sym (hears_is c.hear.ensures)
+    ∙ c.in-Asks.is in
+    let identifier : SFits w16 c.in-Asks.identifier = search rules in
+    let operation : SFits w16 c.in-Asks.operation.value = search rules in
+    rw (to_z-of_z identifier, to_z-of_z operation, found)
+    (asked_found _ _ (argument_at _ _ _ _) _ c.argument_at-read.ensures
+    (not-false _ c.if-not-read.false))
