@@ -1,4 +1,6 @@
 // A component is told in words (document 01, "Replies, in the order checked").
+#![tactic(auto)]
+
 mod component;
 mod element;
 mod pen;
