@@ -30,7 +30,7 @@ use Rattle.answers.specs.Answer.{answer_no, answer_octets, Answered}
 use Rattle.answers.specs.Reply.{reply_no, reply}
 use Rattle.answers.specs.declared.answer.Answer.TheVariants as answer
 use Rattle.answers.specs.declared.reply.Reply.TheVariants.{Failed}
-use Rattle.answers.proofs.Answers.{error-back, result-back}
+use Rattle.answers.proofs.Answers.{error_back, result_back}
 use Rattle.exchange.specs.Question.{asks, question}
 use Rattle.exchange.specs.Step.{Step, handled}
 use Rattle.exchange.specs.Arrive.{Done, answered, done}
@@ -147,12 +147,12 @@ module _
         verdict p t identifier deactivation r ≡ some 46)
         (λ error h back.
         let fits = judge_errors instances_most p deactivation r before error h in
-        let same : Failed (pos error) ≡ Failed (pos 46) = sym (error-back identifier deactivation range error [] fits) ∙ back in
+        let same : Failed (pos error) ≡ Failed (pos 46) = sym (error_back identifier deactivation range error [] fits) ∙ back in
         h ∙ cc)
         (λ _ e _. absurd (omega arith))
-        (λ _ other back. absurd (omega (arith, ap reply_no (sym (result-back identifier deactivation range [] other) ∙ back))))
+        (λ _ other back. absurd (omega (arith, ap reply_no (sym (result_back identifier deactivation range [] other) ∙ back))))
         (ap (reply identifier deactivation) (sym (is_octets deactivation asked _ refl) ∙ failed)
-        ∙ error-back identifier deactivation range 46 [] (omega arith))
+        ∙ error_back identifier deactivation range 46 [] (omega arith))
 
     pub none_active : Asks deactivation → NoneActive
     none_active asked = record {

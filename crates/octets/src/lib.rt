@@ -1,5 +1,7 @@
 // Octets in the basic encoding rules: elements and numbers of several octets, read and written. Nothing here knows a component.
 // What is offered is total: a reader refuses what it cannot read, a writer that finds no room writes nothing.
+#![tactic(auto)]
+
 mod head;
 mod word;
 mod write;

@@ -26,7 +26,7 @@ use Rattle.answers.specs.Reply.{reply}
 use Rattle.answers.specs.declared.answer.Answer.TheVariants as answer
 use Rattle.answers.specs.declared.answer.Problem.{Problem}
 use Rattle.answers.specs.declared.answer.Whose.TheVariants.{Own}
-use Rattle.answers.proofs.Answers.{reject-back, error-back, result-back}
+use Rattle.answers.proofs.Answers.{reject_back, error_back, result_back}
 use Rattle.answers.proofs.Lists.{listing_back}
 use Rattle.exchange.specs.Question.{known_operation, code_of, question}
 use Rattle.exchange.specs.Step.{Step, stays, handled, step}
@@ -53,7 +53,7 @@ module _ (identifier : ℤ) (operation : ℕ) where
   rejected_said :
       (t : Table) (problem : Problem) → StepFits (stays t (answer.Reject (Own identifier) problem)) →
       Said (stays t (answer.Reject (Own identifier) problem))
-  rejected_said t problem fits = (refl, reject-back identifier operation fits.answer problem [])
+  rejected_said t problem fits = (refl, reject_back identifier operation fits.answer problem [])
 
   module _ (p : Profile) (t : Table) (r : Request) where
     listed_said :
@@ -74,9 +74,9 @@ module _ (identifier : ℤ) (operation : ℕ) where
     handled_said : Known operation → StepFits (handled p t identifier operation r) → Said (handled p t identifier operation r)
     handled_said is =
         handled_ind p t identifier operation r (λ y. StepFits y → Said y)
-        (λ error _ fits. (refl, error-back identifier operation fits.answer.0 error [] fits.answer.1))
+        (λ error _ fits. (refl, error_back identifier operation fits.answer.0 error [] fits.answer.1))
         (λ _ asks fits. (refl, asks, listed_said asks fits))
-        (λ _ other fits. (refl, changing is other, result-back identifier operation fits.answer [] other))
+        (λ _ other fits. (refl, changing is other, result_back identifier operation fits.answer [] other))
 
 module _ (p : Profile) (t : Table) (s : List ℕ) (identifier : ℤ) (operation : Operation) (n : ℕ) where
   step_said :

@@ -1,4 +1,6 @@
 // Local refusals, by their numbers, and what is told (document 01, "Local refusals").
+#![tactic(auto)]
+
 mod handling;
 mod refusal;
 

@@ -1,6 +1,5 @@
 use Rattle.octets.specs.Head.{head_at}
 use Rattle.laws.proofs.Cases.{cases}
-use borrow.Author.Rules.{rules}
 use Rattle.octets.proofs.head.head_at.Goals as goal
 
 pub returns-then-depth-eq0 : goal.returns-then-depth-eq0

@@ -3,7 +3,6 @@ use native.Mathlib.Omega.{arith}
 use Rattle.laws.proofs.Cases.{cases}
 use Rattle.octets.specs.Head.{length_at}
 use Rattle.octets.proofs.Lengths.{length_past, length_by}
-use borrow.Author.Rules.{rules}
 use Rattle.octets.proofs.head.length_at.Goals as goal
 
 pub returns-then-end-at : goal.returns-then-end-at

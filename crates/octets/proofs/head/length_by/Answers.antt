@@ -1,7 +1,6 @@
 use mathlib.Core.Path.{sym}
 use native.Mathlib.Omega.{arith}
 use Rattle.octets.proofs.Lengths.{span_past}
-use borrow.Author.Rules.{rules}
 use Rattle.octets.proofs.head.length_by.Goals as goal
 
 pub returns-then-end-at : goal.returns-then-end-at

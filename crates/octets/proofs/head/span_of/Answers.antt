@@ -1,7 +1,6 @@
 use mathlib.Core.Path.{sym}
 use native.Mathlib.Omega.{arith}
 use Rattle.octets.proofs.Lengths.{span_fits, span_past}
-use borrow.Author.Rules.{rules}
 use Rattle.octets.proofs.head.span_of.Goals as goal
 
 pub returns-then-n-end : goal.returns-then-n-end

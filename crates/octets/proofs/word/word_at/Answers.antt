@@ -1,8 +1,7 @@
 use mathlib.Core.Path.{◌≡◌}
-use Prim.Native.Nat.{◌+◌, ◌-◌, ◌≤◌}
+use Prim.Native.Nat.{◌+◌}
 use native.Mathlib.Omega.{arith}
 use borrow.Author.Rules.{rules}
-use Rattle.octets.specs.inner.Word.{WordAt}
 use Rattle.octets.proofs.Words.{word_none, word_more, word_fits}
 use Rattle.octets.proofs.word.word_at.Goals as goal
 

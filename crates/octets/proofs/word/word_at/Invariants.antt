@@ -1,9 +1,5 @@
-use mathlib.Core.Path.{◌≡◌}
-use Prim.Native.Nat.{◌+◌, ◌-◌, ◌≤◌}
-use native.Mathlib.Omega.{arith}
-use borrow.Author.Rules.{rules}
+use Prim.Native.Nat.{◌-◌, ◌≤◌}
 use Rattle.octets.specs.inner.Word.{WordAt}
-use Rattle.octets.proofs.Words.{word_none, word_more, word_fits}
 use Rattle.octets.proofs.word.word_at.Given as goal
 
 abbrev pub invariant-loop-i : goal.invariant-loop-i

@@ -1,5 +1,4 @@
 use native.Mathlib.Omega.{arith}
-use borrow.Author.Rules.{rules}
 use Rattle.octets.proofs.Words.{word_found, word_short, word_many}
 use Rattle.octets.proofs.word.word_in.Goals as goal
 

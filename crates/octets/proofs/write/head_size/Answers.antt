@@ -1,6 +1,5 @@
 use Rattle.octets.proofs.Lengths.{shortest_most}
 use native.Mathlib.Omega.{arith}
-use borrow.Author.Rules.{rules}
 use Rattle.octets.proofs.write.head_size.Goals as goal
 
 pub overflow_add-result : goal.overflow_add-result

@@ -1,10 +1,8 @@
 use Rattle.laws.proofs.Over.{over_nil, over_more, puts_none, puts_all}
 use native.Mathlib.Numerals.{add-one}
 use lib.Seq.{take-length}
-use Rattle.laws.specs.Over.{over}
-use lib.ListN.{length, take, length-set}
+use lib.ListN.{length, length-set}
 use mathlib.Core.Path.{◌≡◌, refl, sym, ◌∙◌}
-use Prim.Native.Nat.{◌-◌, ◌≤◌}
 use native.Mathlib.Omega.{arith}
 use borrow.Author.Rules.{rules}
 use Rattle.octets.proofs.write.put_all.Goals as goal

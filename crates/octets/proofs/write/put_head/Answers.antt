@@ -2,7 +2,6 @@ use Rattle.octets.proofs.Elements.{length_head}
 use Rattle.octets.proofs.Lengths.{shortest_most, shortest_holds}
 use Rattle.laws.proofs.Over.{puts_none, puts_all}
 use native.Mathlib.Omega.{arith}
-use borrow.Author.Rules.{rules}
 use Rattle.octets.proofs.write.put_head.Goals as goal
 
 pub overflow_add-need : goal.overflow_add-need

@@ -1,5 +1,4 @@
 use native.Mathlib.Omega.{arith}
-use borrow.Author.Rules.{rules}
 use Rattle.laws.proofs.Over.{puts_none, puts_all}
 use Rattle.octets.proofs.Words.{length_word}
 use Rattle.octets.proofs.write.put_word.Goals as goal

@@ -2,7 +2,6 @@ use Rattle.octets.proofs.Lengths.{length_short, length_long}
 use Rattle.octets.specs.Element.{length_with}
 use Rattle.laws.proofs.Over.{then}
 use native.Mathlib.Omega.{arith}
-use borrow.Author.Rules.{rules}
 use Rattle.octets.proofs.write.write_head.Goals as goal
 
 pub overflow_cast-n : goal.overflow_cast-n

@@ -1,7 +1,6 @@
 use Rattle.laws.proofs.Over.{over_one}
 use mathlib.Core.Path.{sym}
 use mathlib.Core.Path.{refl}
-use borrow.Author.Rules.{rules}
 use Rattle.octets.proofs.write.write_octet.Goals as goal
 
 pub returns : goal.returns

@@ -1,9 +1,7 @@
 use Rattle.octets.proofs.Words.{length_word, word_turn, word_over}
-use Rattle.octets.specs.Word.{word_octets}
-use Rattle.laws.specs.Over.{over}
-use lib.ListN.{length, length-set}
+use lib.ListN.{length-set}
 use mathlib.Core.Path.{◌≡◌, refl, sym, ap, ◌∙◌}
-use Prim.Native.Nat.{ℕ, ◌+◌, ◌≤◌}
+use Prim.Native.Nat.{ℕ, ◌+◌}
 use native.Mathlib.Omega.{arith}
 use borrow.Author.Rules.{rules}
 use Rattle.octets.proofs.write.write_word.Goals as goal

@@ -1,11 +1,8 @@
-use Rattle.octets.proofs.Words.{length_word, word_turn, word_over}
 use Rattle.octets.specs.Word.{word_octets}
 use Rattle.laws.specs.Over.{over}
-use lib.ListN.{length, length-set}
-use mathlib.Core.Path.{◌≡◌, refl, sym, ap, ◌∙◌}
-use Prim.Native.Nat.{ℕ, ◌+◌, ◌≤◌}
-use native.Mathlib.Omega.{arith}
-use borrow.Author.Rules.{rules}
+use lib.ListN.{length}
+use mathlib.Core.Path.{◌≡◌}
+use Prim.Native.Nat.{◌≤◌}
 use Rattle.octets.proofs.write.write_word.Given as goal
 
 abbrev pub invariant-loop-i : goal.invariant-loop-i

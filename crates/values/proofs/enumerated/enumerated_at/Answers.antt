@@ -3,7 +3,6 @@ use Rattle.octets.proofs.Within.{within}
 use Rattle.values.specs.Enumerated.{enumerated_at}
 use mathlib.Core.Path.{sym, ◌∙◌}
 use native.Mathlib.Omega.{arith}
-use borrow.Author.Rules.{rules}
 use Rattle.values.proofs.enumerated.enumerated_at.Goals as goal
 
 pub returns-then-tag-ne-ENUMERATEDTAG : goal.returns-then-tag-ne-ENUMERATEDTAG

@@ -2,7 +2,6 @@ use Rattle.octets.proofs.Elements.{element_small}
 use Rattle.values.specs.Enumerated.{enumerated_tag}
 use mathlib.Core.List.{[], ◌∷◌}
 use native.Mathlib.Omega.{arith}
-use borrow.Author.Rules.{rules}
 use Rattle.values.proofs.enumerated.put_enumerated.Goals as goal
 
 pub returns : goal.returns

@@ -3,7 +3,6 @@ use Rattle.octets.proofs.Within.{within}
 use Rattle.values.specs.Ident.{ident_at}
 use mathlib.Core.Path.{sym, ◌∙◌}
 use native.Mathlib.Omega.{arith}
-use borrow.Author.Rules.{rules}
 use Rattle.values.proofs.ident.ident_at.Goals as goal
 
 pub returns-then-tag-ne-IDENTTAG : goal.returns-then-tag-ne-IDENTTAG

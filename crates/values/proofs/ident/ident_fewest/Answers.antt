@@ -5,7 +5,6 @@ use borrow.Author.Tests.{lt-ltb, le-ltb}
 use lib.Signed.{mag}
 use mir.Facts.{to_z-of_z}
 use native.Mathlib.Omega.{arith}
-use borrow.Author.Rules.{rules}
 use Rattle.values.proofs.ident.ident_fewest.Goals as goal
 
 pub returns-then-m-lt128 : goal.returns-then-m-lt128

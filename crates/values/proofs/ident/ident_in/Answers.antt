@@ -7,7 +7,6 @@ use mir.Facts.{to_z-of_z}
 use Rattle.octets.proofs.Words.{word_whole}
 use Rattle.values.specs.Ident.{half}
 use Rattle.values.proofs.Idents.{ident_none, ident_many, ident_not_shortest, ident_read}
-use borrow.Author.Rules.{rules}
 use Rattle.values.proofs.ident.ident_in.Goals as goal
 
 pub returns-then-w-eq0 : goal.returns-then-w-eq0

@@ -4,7 +4,6 @@ use lib.ListN.{length}
 use mir.Facts.{to_z-of_z}
 use mathlib.Core.Path.{ap}
 use native.Mathlib.Omega.{arith}
-use borrow.Author.Rules.{rules}
 use Rattle.values.proofs.ident.ident_size.Goals as goal
 
 pub overflow_add-result : goal.overflow_add-result

@@ -1,7 +1,6 @@
 use native.Mathlib.Omega.{arith}
 use Rattle.values.specs.Ident.{half}
 use Rattle.values.proofs.Signs.{twos_low, twos_high}
-use borrow.Author.Rules.{rules}
 use Rattle.values.proofs.ident.magnitude.Goals as goal
 
 pub returns-then-u-all : goal.returns-then-u-all

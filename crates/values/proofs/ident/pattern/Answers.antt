@@ -2,7 +2,6 @@ use native.Mathlib.Omega.{arith}
 use mir.Facts.{to_z-of_z}
 use Rattle.values.specs.Ident.{half}
 use Rattle.values.proofs.Signs.{bits_negative, bits_positive}
-use borrow.Author.Rules.{rules}
 use Rattle.values.proofs.ident.pattern.Goals as goal
 
 pub overflow_sub-result : goal.overflow_sub-result

@@ -7,7 +7,6 @@ use mir.Facts.{to_z-of_z}
 use mathlib.Core.Path.{ap, ◌∙◌}
 use Prim.Native.Nat.{ℕ}
 use native.Mathlib.Omega.{arith}
-use borrow.Author.Rules.{rules}
 use Rattle.values.proofs.ident.put_ident.Goals as goal
 
 pub overflow_add-need : goal.overflow_add-need

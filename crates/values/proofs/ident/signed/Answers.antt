@@ -6,7 +6,6 @@ use mir.Val.{SFits}
 use mir.Facts.{to_z-of_z, to_z_pos}
 use Rattle.values.specs.Ident.{half}
 use Rattle.values.proofs.Signs.{minus, twos_low, twos_high}
-use borrow.Author.Rules.{rules}
 use Rattle.values.proofs.ident.signed.Goals as goal
 
 pub overflow_sub-result-else-u-all-2 : goal.overflow_sub-result-else-u-all-2
