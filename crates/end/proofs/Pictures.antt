@@ -126,7 +126,7 @@ pub replaced_good :
 replaced_good most p procedure new is profile list picture =
     list_good_lem p most (replaced procedure new is) (replaced_of most p procedure new is profile list picture)
 
--- so the record of the picture leaves none out (`Packed-all`)
+-- so the record of the picture leaves none out (`packed_all`)
 pub replaced_few :
     (p : Profile) (procedure : ℕ) (new is : List Instance) → profile_good p ≡ true →
     list_good instances_most p procedure new ≡ true →

@@ -34,7 +34,7 @@ key_of x = key x.procedure x.number x.service
 
 -- ---- selections: of a procedure, one number or all, and one service or all
 
--- "all_numbers", and "code 0: all subscribed"
+-- "allNumbers", and "code 0: all subscribed"
 abbrev pub every_number : ℕ
 every_number = 255
 

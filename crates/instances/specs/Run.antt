@@ -29,7 +29,7 @@ abbrev pub instances_of : Run → List Instance
 instances_of run = take run.count run.run
 
 -- the record of instances, with blanks after them: of as many as there is room for, which are all where none breaks a rule
--- (`Packed-all`)
+-- (`packed_all`)
 abbrev pub packed : List Instance → Run
 packed is = record {
   count = length (take run_most is);

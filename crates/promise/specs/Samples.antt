@@ -236,7 +236,7 @@ samples =
     ∷ reads_identifier (0x02 ∷ 0x01 ∷ 0x80 ∷ []) (ident.Is (negsuc 127) 3)
     ∷ writes_identifier (negsuc 127) (0x02 ∷ 0x01 ∷ 0x80 ∷ [])
     ∷ reads_identifier (0x02 ∷ 0x02 ∷ 0x00 ∷ 0x7F ∷ []) ident.Unreadable
-    -- "300 in groups: `Ac 02`"; "`80 00` refused"
+    -- "300 in groups: `AC 02`"; "`80 00` refused"
     ∷ reads_groups (0xAC ∷ 0x02 ∷ []) (groups.Is 300 2)
     ∷ writes_groups 300 (0xAC ∷ 0x02 ∷ [])
     ∷ reads_groups (0x80 ∷ 0x00 ∷ []) groups.Bad
