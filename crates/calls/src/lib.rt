@@ -1,4 +1,6 @@
 // Calls that come to the access: diverted, not diverted or refused (document 01, "Calls"; Q.732.2-5, 2.5.2.5.1.2).
+#![tactic(auto)]
+
 mod call;
 mod diverting;
 mod onward;

@@ -12,7 +12,6 @@ use lib.ListN.{length, get_or, drop}
 use lib.Seq.{drop-cons, drop-length}
 use lib.Dec.{ltb, eqb}
 use borrow.Author.Tests.{lt-ltb, ltb-true, eqb-true, eq-eqb, ne_eqb}
-use Rattle.laws.specs.Tests.{all}
 use Rattle.laws.proofs.Tests.{both_hold}
 use Rattle.laws.proofs.Picks.{pick_ind, pick_last}
 use Rattle.codes.specs.Codes.{services, trunk_reasons, place_of, ascends, apart, service_code, procedure_code}

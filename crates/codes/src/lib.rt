@@ -1,4 +1,6 @@
 // The codes of document 01, and the characters and types of its numbers.
+#![tactic(auto)]
+
 mod codes;
 mod digits;
 

@@ -1,4 +1,6 @@
 // The customer end: what it shows of the table, and how it learns it (document 01, "The customer end").
+#![tactic(auto)]
+
 mod end;
 mod lent;
 mod list;

@@ -213,8 +213,8 @@ argued_sound :
     (p : Profile) (last : ℕ) (identifier : ℤ) (operation : Operation) (s : List ℕ) (at end : ℕ) → mag identifier < 32768 →
     duplicate p last identifier ≡ false → known_operation operation.value ≡ true →
     (g : Got Request) → argument_at operation s at end ≡ g → Sound p last (argued identifier operation g)
-argued_sound p last identifier operation s at end range new is_Known (got r next) read =
-    let known = known_code operation.value is_Known in
+argued_sound p last identifier operation s at end range new is_one (got r next) read =
+    let known = known_code operation.value is_one in
     let is = argument_read operation s at end r next read in
     record {
       procedure = is.procedure;
@@ -224,7 +224,7 @@ argued_sound p last identifier operation s at end range new is_Known (got r next
       range = range;
       above = duplicate_false p last identifier new;
     }
-argued_sound p last identifier operation s at end range new is_Known wrong read =
+argued_sound p last identifier operation s at end range new is_one wrong read =
     rejected p last (Own identifier) (Invoke 2) range
 
 sound_of : (p : Profile) (last : ℕ) (s : List ℕ) (h : Heard) → HeardRanges h → Sound p last (question_of p last s h)
@@ -238,8 +238,8 @@ sound_of p last s (heard.Asks identifier operation at end) range =
     pick_ind (Sound p last) (duplicate p last identifier)
     (λ _. rejected p last (Own identifier) (Invoke 0) range)
     (λ new. pick_ind (Sound p last) (known_operation operation.value)
-    (λ is_Known.
-    argued_sound p last identifier operation s at end range new is_Known (argument_at operation s at end) refl)
+    (λ is_one.
+    argued_sound p last identifier operation s at end range new is_one (argument_at operation s at end) refl)
     (λ _. rejected p last (Own identifier) (Invoke 1) range))
 
 module _ (p : Profile) (last : ℕ) (s : List ℕ) where

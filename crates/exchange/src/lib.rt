@@ -1,4 +1,6 @@
 // The exchange: a table, and what it does with each arriving component (document 01, "Replies", "Local refusals").
+#![tactic(auto)]
+
 mod arrive;
 mod question;
 mod table;

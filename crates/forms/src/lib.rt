@@ -1,4 +1,6 @@
 // What a night sheet is, by its form alone (document 01, "Night sheet").
+#![tactic(auto)]
+
 mod field;
 mod form;
 mod read;

@@ -1,4 +1,6 @@
 // What a table or a picture holds: instances, one after the other (document 01, "Profile and table").
+#![tactic(auto)]
+
 mod instance;
 mod judged;
 mod listed;

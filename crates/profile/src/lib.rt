@@ -1,4 +1,6 @@
 // The profile of an access: its record, read and judged (document 01, "Profile and table").
+#![tactic(auto)]
+
 mod access;
 mod profile;
 

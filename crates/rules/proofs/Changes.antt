@@ -12,7 +12,6 @@ use borrow.Author.Tests.{eq-eqb, ne_eqb, eqb-true}
 use Rattle.laws.specs.Tests.{any}
 use Rattle.laws.proofs.Picks.{pick_ind}
 use Rattle.codes.specs.Codes.{activation, deactivation}
-use Rattle.numbers.specs.Number.{other}
 use Rattle.numbers.specs.Address.{address_good}
 use Rattle.profile.specs.declared.profile.Profile.{Profile}
 use Rattle.profile.proofs.Profiles.{GoodProfile}

@@ -1,4 +1,6 @@
 // The rules of registration, for the exchange and for the end's picture alike (document 01, "Replies, in the order checked").
+#![tactic(auto)]
+
 mod judge;
 mod prefix;
 mod selection;

@@ -1,4 +1,6 @@
 // The border to C: exported functions over the crates below. Nothing is decided here; include/sconcetoad.h is its other side.
+#![tactic(auto)]
+
 mod arrival;
 mod desk;
 mod diversion;

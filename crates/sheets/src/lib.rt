@@ -1,4 +1,6 @@
 // Night sheets against a profile: a table is written as one, and one is read as a table (document 01, "Night sheet").
+#![tactic(auto)]
+
 mod read;
 mod write;
 

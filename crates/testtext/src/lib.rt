@@ -1,4 +1,6 @@
 // What a program shares that runs cases: lines, their numbers and their octets in hexadecimal, and octets that must stay.
+#![tactic(auto)]
+
 mod hex;
 mod line;
 mod outside;

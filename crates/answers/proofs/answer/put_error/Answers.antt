@@ -11,7 +11,6 @@ use mathlib.Core.List.{◌++◌}
 use mathlib.Core.Path.{◌≡◌}
 use Prim.Native.Nat.{◌+◌, ◌≤◌}
 use native.Mathlib.Omega.{arith}
-use borrow.Author.Rules.{rules}
 use Rattle.answers.proofs.answer.put_error.Goals as goal
 
 pub overflow_add-size : goal.overflow_add-size

@@ -7,7 +7,6 @@ use mir.Facts.{to_z-of_z}
 use lib.ListN.{length}
 use Prim.Native.Nat.{◌+◌, ◌≤◌}
 use native.Mathlib.Omega.{arith}
-use borrow.Author.Rules.{rules}
 use Rattle.answers.proofs.answer.put_result.Goals as goal
 
 pub overflow_add-size : goal.overflow_add-size

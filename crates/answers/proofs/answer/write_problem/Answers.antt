@@ -1,7 +1,6 @@
 use Rattle.octets.proofs.Elements.{headed}
 use Rattle.laws.proofs.Over.{wrote}
 use mathlib.Core.Path.{refl}
-use borrow.Author.Rules.{rules}
 use Rattle.answers.proofs.answer.write_problem.Goals as goal
 
 pub returns-in-General : goal.returns-in-General

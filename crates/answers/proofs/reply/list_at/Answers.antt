@@ -1,7 +1,6 @@
 use Rattle.answers.specs.Reply.{list_at}
 use mathlib.Core.Path.{sym, ◌∙◌}
 use borrow.Author.Tests.{eq-eqb, ne_eqb}
-use borrow.Author.Rules.{rules}
 use Rattle.answers.proofs.reply.list_at.Goals as goal
 
 pub returns-then-next-end : goal.returns-then-next-end

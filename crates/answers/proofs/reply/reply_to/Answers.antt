@@ -2,8 +2,6 @@ use Rattle.answers.proofs.Numbers.{replies}
 use Rattle.answers.proofs.Filled.{reply_one}
 use mir.Facts.{to_z-of_z}
 use mathlib.Core.Path.{sym, ◌∙◌}
-use borrow.Author.Tests.{not-true, not-false}
-use borrow.Author.Rules.{rules}
 use Rattle.answers.proofs.reply.reply_to.Goals as goal
 
 pub returns-then-not-reply_tag : goal.returns-then-not-reply_tag

@@ -1,6 +1,5 @@
 use Rattle.answers.specs.Reply.{result_at}
 use borrow.Author.Tests.{eq-eqb, ne_eqb}
-use borrow.Author.Rules.{rules}
 use Rattle.answers.proofs.reply.result_at.Goals as goal
 
 pub returns-then-operation-eq-INTERROGATION : goal.returns-then-operation-eq-INTERROGATION

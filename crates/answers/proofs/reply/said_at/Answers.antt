@@ -1,6 +1,5 @@
 use Rattle.answers.specs.Reply.{said_at}
 use borrow.Author.Tests.{eq-eqb, ne_eqb}
-use borrow.Author.Rules.{rules}
 use Rattle.answers.proofs.reply.said_at.Goals as goal
 
 pub returns-then-tag-eq164 : goal.returns-then-tag-eq164

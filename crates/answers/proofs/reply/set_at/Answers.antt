@@ -1,7 +1,6 @@
 use Rattle.answers.specs.Reply.{set_at}
 use mathlib.Core.Path.{sym, ◌∙◌}
 use borrow.Author.Tests.{eq-eqb, ne_eqb}
-use borrow.Author.Rules.{rules}
 use Rattle.answers.proofs.reply.set_at.Goals as goal
 
 pub returns-then-next-end : goal.returns-then-next-end

@@ -1,8 +1,7 @@
 use Rattle.calls.specs.Call.{call_good}
 use Rattle.laws.proofs.Picks.{pick_last}
 use mathlib.Core.Path.{sym, ◌∙◌}
-use borrow.Author.Tests.{eq-eqb, ne_eqb, not-true, not-false}
-use borrow.Author.Rules.{rules}
+use borrow.Author.Tests.{eq-eqb, ne_eqb}
 use Rattle.calls.proofs.call.call_good.Goals as goal
 
 pub returns-then-s-ne-CALLSIZE : goal.returns-then-s-ne-CALLSIZE

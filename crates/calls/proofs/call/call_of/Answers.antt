@@ -1,6 +1,5 @@
 use Rattle.calls.specs.Call.{call_from}
 use mathlib.Core.Path.{refl}
-use borrow.Author.Rules.{rules}
 use Rattle.calls.proofs.call.call_of.Goals as goal
 
 pub returns : goal.returns

@@ -1,7 +1,6 @@
 use Rattle.calls.specs.Call.{names_good}
 use Rattle.laws.proofs.Picks.{pick_last}
 use borrow.Author.Tests.{eq-eqb, ne_eqb, lt-ltb, le-ltb}
-use borrow.Author.Rules.{rules}
 use Rattle.calls.proofs.call.names_good.Goals as goal
 
 pub returns-then-p-c : goal.returns-then-p-c

@@ -5,7 +5,6 @@ use Rattle.codes.specs.Digits.{all_digits}
 use Prim.Native.Nat.{◌+◌}
 use mathlib.Core.Path.{ap, ◌∙◌}
 use borrow.Author.Tests.{le-leb, lt-leb}
-use borrow.Author.Rules.{rules}
 use Rattle.calls.proofs.call.original_good.Goals as goal
 
 pub returns-then-count-gt-DIGITSMOST : goal.returns-then-count-gt-DIGITSMOST

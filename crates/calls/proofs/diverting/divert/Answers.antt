@@ -7,7 +7,6 @@ use Rattle.profile.proofs.Records.{access_good}
 use native.Mathlib.Omega.{arith}
 use mathlib.Core.Path.{sym, ap, ◌∙◌}
 use borrow.Author.Tests.{not-true, not-false}
-use borrow.Author.Rules.{rules}
 use Rattle.calls.proofs.diverting.divert.Goals as goal
 
 pub returns-then-not-read : goal.returns-then-not-read

@@ -2,7 +2,6 @@ use Rattle.instances.specs.Run.{instances_of}
 use Rattle.calls.proofs.Instances.{applying_unused, found_none, found_some}
 use native.Mathlib.Omega.{arith}
 use borrow.Author.Tests.{lt-ltb, le-ltb, not-true, not-false}
-use borrow.Author.Rules.{rules}
 use Rattle.calls.proofs.diverting.divert_by.Goals as goal
 
 pub returns-then-p-eq0 : goal.returns-then-p-eq0
@@ -28,17 +27,16 @@ returns-then-p-c c =
     rw (some, le-ltb _ _ c.if-p-c.true) c.refuses.ensures
 
 pub go_on-requires : goal.go_on-requires
-go_on-requires c =
-    (
-      c.requires.0,
-      c.requires.1,
-      omega (
-        arith,
-        c.if-p-c.false,
-        c.struct_known-4-1.given,
-        c.struct_known-3-1.given,
-      ),
-    )
+go_on-requires c = (
+  c.requires.0,
+  c.requires.1,
+  omega (
+    arith,
+    c.if-p-c.false,
+    c.struct_known-4-1.given,
+    c.struct_known-3-1.given,
+  ),
+)
 
 pub returns : goal.returns
 returns c =

@@ -1,7 +1,6 @@
 use Rattle.calls.proofs.Onwards.{goes_on_lem}
 use Rattle.calls.proofs.Options.{option_least}
 use native.Mathlib.Omega.{arith}
-use borrow.Author.Rules.{rules}
 use Rattle.calls.proofs.diverting.go_on.Goals as goal
 
 pub notice_of-notice-requires : goal.notice_of-notice-requires

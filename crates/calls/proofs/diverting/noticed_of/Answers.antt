@@ -1,6 +1,5 @@
 use Rattle.calls.specs.Divert.{noticed}
 use borrow.Author.Tests.{eq-eqb, ne_eqb}
-use borrow.Author.Rules.{rules}
 use Rattle.calls.proofs.diverting.noticed_of.Goals as goal
 
 pub returns-then-option-eq2 : goal.returns-then-option-eq2

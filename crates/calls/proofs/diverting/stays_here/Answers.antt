@@ -1,6 +1,5 @@
 use Rattle.calls.specs.Divert.{no_onward}
 use mathlib.Core.Path.{refl}
-use borrow.Author.Rules.{rules}
 use Rattle.calls.proofs.diverting.stays_here.Goals as goal
 
 pub returns : goal.returns

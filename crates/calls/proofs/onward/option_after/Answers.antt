@@ -1,6 +1,5 @@
 use Rattle.calls.specs.Onward.{option_after}
 use borrow.Author.Tests.{eq-eqb, ne_eqb, lt-ltb, le-ltb}
-use borrow.Author.Rules.{rules}
 use Rattle.calls.proofs.onward.option_after.Goals as goal
 
 pub returns-then-c-eq0 : goal.returns-then-c-eq0

@@ -1,6 +1,5 @@
 use Rattle.calls.specs.Onward.{original_shown}
 use borrow.Author.Tests.{eq-eqb, ne_eqb}
-use borrow.Author.Rules.{rules}
 use Rattle.calls.proofs.onward.original_shown.Goals as goal
 
 pub returns-then-c-eq0 : goal.returns-then-c-eq0

@@ -1,7 +1,6 @@
 use Rattle.calls.proofs.Records.{good_call}
 use Rattle.calls.proofs.Comings.{served_within, original_first, original_later}
 use native.Mathlib.Omega.{arith}
-use borrow.Author.Rules.{rules}
 use Rattle.calls.proofs.originals.handed_on.Goals as goal
 
 pub call_of-c-requires : goal.call_of-c-requires

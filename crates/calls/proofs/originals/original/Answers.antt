@@ -2,8 +2,6 @@ use Rattle.calls.specs.Original.{goes_on}
 use Rattle.calls.proofs.Comings.{goes_good}
 use Rattle.calls.proofs.HandedOns.{puts_no_digits, puts_digits}
 use mathlib.Core.Path.{sym, ap, ◌∙◌}
-use borrow.Author.Tests.{not-true, not-false}
-use borrow.Author.Rules.{rules}
 use Rattle.calls.proofs.originals.original.Goals as goal
 
 pub returns-then-not-goes_on : goal.returns-then-not-goes_on

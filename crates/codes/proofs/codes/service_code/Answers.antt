@@ -1,7 +1,6 @@
 use Rattle.laws.proofs.Picks.{pick_last}
 use Rattle.codes.specs.Codes.{service_code}
 use borrow.Author.Tests.{eq-eqb, ne_eqb}
-use borrow.Author.Rules.{rules}
 use Rattle.codes.proofs.codes.service_code.Goals as goal
 
 pub returns-then-code-eq0 : goal.returns-then-code-eq0

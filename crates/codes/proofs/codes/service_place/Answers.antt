@@ -1,9 +1,7 @@
 use Rattle.codes.proofs.Tables.{place_here, place_next, place_none}
-use Rattle.codes.specs.Codes.{services, place_of}
-use borrow.Author.Rules.{rules}
+use Rattle.codes.specs.Codes.{services}
 use native.Mathlib.Omega.{arith}
-use lib.ListN.{length, drop}
-use Prim.Native.Nat.{◌+◌, ◌-◌, ◌≤◌}
+use lib.ListN.{length}
 use mathlib.Core.Path.{◌≡◌}
 use Rattle.codes.proofs.codes.service_place.Goals as goal
 

@@ -1,7 +1,4 @@
-use Rattle.codes.proofs.Tables.{place_here, place_next, place_none}
 use Rattle.codes.specs.Codes.{services, place_of}
-use borrow.Author.Rules.{rules}
-use native.Mathlib.Omega.{arith}
 use lib.ListN.{length, drop}
 use Prim.Native.Nat.{◌+◌, ◌-◌, ◌≤◌}
 use mathlib.Core.Path.{◌≡◌}

@@ -2,7 +2,6 @@ use Rattle.codes.specs.Codes.{trunk_reasons}
 use lib.ListN.{get_or-eq_default}
 use native.Mathlib.Omega.{arith}
 use mathlib.Core.Path.{sym}
-use borrow.Author.Rules.{rules}
 use Rattle.codes.proofs.codes.trunkreason.Goals as goal
 
 pub returns : goal.returns

@@ -1,12 +1,7 @@
-use Rattle.codes.proofs.Characters.{digits_next, digits_end}
 use Rattle.codes.specs.Digits.{all_digits}
-use Rattle.laws.proofs.Picks.{pick_last}
-use borrow.Author.Tests.{not-true, not-false}
-use borrow.Author.Rules.{rules}
-use native.Mathlib.Omega.{arith}
 use lib.ListN.{length, drop}
-use Prim.Native.Nat.{◌+◌, ◌-◌, ◌≤◌}
-use mathlib.Core.Path.{◌≡◌, refl, sym, ◌∙◌}
+use Prim.Native.Nat.{◌-◌, ◌≤◌}
+use mathlib.Core.Path.{◌≡◌}
 use Rattle.codes.proofs.digits.all_digits.Given as goal
 
 abbrev pub invariant-loop-i : goal.invariant-loop-i

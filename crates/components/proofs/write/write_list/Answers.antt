@@ -3,7 +3,6 @@ use native.Mathlib.Omega.{arith}
 use lib.ListN.{length}
 use Rattle.refusals.specs.declared.refusal.Refusal.TheVariants.{ShortOutput, BadTable}
 use Rattle.components.proofs.Writings.{list_short, list_many, list_few, refused_made, written_made}
-use borrow.Author.Rules.{rules}
 use Rattle.components.proofs.write.write_list.Goals as goal
 
 pub returns-then-out-lt-OUTPUTLEAST : goal.returns-then-out-lt-OUTPUTLEAST

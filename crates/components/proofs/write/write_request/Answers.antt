@@ -3,11 +3,9 @@ use Prim.Native.Nat.{◌≤◌}
 use mathlib.Core.Path.{sym, ◌∙◌}
 use native.Mathlib.Omega.{arith}
 use lib.ListN.{length}
-use borrow.Author.Tests.{not-true, not-false}
 use Rattle.refusals.specs.Refusal.{output_least}
 use Rattle.refusals.specs.declared.refusal.Refusal.TheVariants.{ShortOutput, BadRequest}
 use Rattle.components.proofs.Writings.{request_short, request_unfit, request_fit, refused_made, written_made, request_put}
-use borrow.Author.Rules.{rules}
 use Rattle.components.proofs.write.write_request.Goals as goal
 
 pub returns-then-out-lt-OUTPUTLEAST : goal.returns-then-out-lt-OUTPUTLEAST

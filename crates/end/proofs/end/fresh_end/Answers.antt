@@ -1,4 +1,3 @@
-use borrow.Author.Rules.{rules}
 use Rattle.end.proofs.end.fresh_end.Goals as goal
 
 pub returns : goal.returns

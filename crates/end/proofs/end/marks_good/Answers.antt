@@ -1,7 +1,6 @@
 use Rattle.laws.proofs.Cases.{cases}
 use Rattle.laws.proofs.Picks.{pick_last}
 use Rattle.end.specs.End.{marks_good}
-use borrow.Author.Rules.{rules}
 use Rattle.end.proofs.end.marks_good.Goals as goal
 
 pub returns-then-marks-gt1 : goal.returns-then-marks-gt1

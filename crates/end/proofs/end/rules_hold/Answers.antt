@@ -1,11 +1,10 @@
 use Rattle.end.proofs.Ends.{waiting_none, waiting_unused, waiting_mark, waiting_sends}
 use Rattle.requests.specs.Sent.{sendable}
-use borrow.Author.Tests.{le-leb, not-true, not-false}
+use borrow.Author.Tests.{le-leb}
 use mathlib.Core.Path.{sym, ap, ◌∙◌}
 use Rattle.end.specs.End.{waiting_good}
 use Rattle.laws.proofs.Picks.{pick_last}
 use Rattle.laws.proofs.Cases.{cases}
-use borrow.Author.Rules.{rules}
 use Rattle.end.proofs.end.rules_hold.Goals as goal
 
 pub returns-then-e-gt-USEDMOST : goal.returns-then-e-gt-USEDMOST

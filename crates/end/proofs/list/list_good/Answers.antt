@@ -1,14 +1,13 @@
 use borrow.Author.Rules.{rules}
-use Prim.Native.Nat.{◌-◌}
 use mathlib.Core.Path.{◌≡◌, refl, sym}
 use native.Mathlib.Omega.{arith}
 use lib.ListN.{length, length-take}
 use Rattle.laws.proofs.Parts.{unmapped}
-use Rattle.profile.specs.Profile.{subscribed_services, services_most}
+use Rattle.profile.specs.Profile.{services_most}
 use Rattle.end.specs.inner.Listed.{address_held}
-use Rattle.end.proofs.Replaced.{Met, met_next, met_good}
+use Rattle.end.proofs.Replaced.{met_next, met_good}
 use Rattle.instances.proofs.Choices.{among_place, place_among}
-use Rattle.end.proofs.Judged.{Judged, met_first, judged_unfair, judged_low, judged_on, judged_all}
+use Rattle.end.proofs.Judged.{met_first, judged_unfair, judged_low, judged_on, judged_all}
 use Rattle.end.proofs.list.list_good.Goals as goal
 
 pub returns-then-n-eq0 : goal.returns-then-n-eq0

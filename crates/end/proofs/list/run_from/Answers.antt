@@ -1,15 +1,15 @@
 use borrow.Author.Rules.{rules}
-use Prim.Native.Nat.{◌-◌, ◌≤◌, ◌<◌, min}
+use Prim.Native.Nat.{◌-◌}
 use mathlib.Core.Path.{◌≡◌}
 use mathlib.Core.Logic.{inl, inr}
 use native.Mathlib.Omega.{arith}
-use lib.ListN.{length, replicate, length-set, length-replicate}
+use lib.ListN.{length, length-set, length-replicate}
 use Rattle.laws.proofs.Parts.{unmapped}
 use Rattle.lists.specs.Entries.{instances_most}
-use Rattle.instances.specs.Instance.{blank_instance, key_of}
+use Rattle.instances.specs.Instance.{blank_instance}
 use Rattle.instances.specs.Places.{run_most}
 use Rattle.instances.proofs.Runs.{outside}
-use Rattle.end.proofs.Sorted.{Gap, gap_next, gap_closed, array_from, array_none, array_gap, array_done}
+use Rattle.end.proofs.Sorted.{gap_next, gap_closed, array_none, array_gap, array_done}
 use Rattle.end.proofs.list.run_from.Goals as goal
 use Rattle.end.proofs.list.run_from.Goals.{else-loop-j-test, then-loop-j-test+then-key-key_of}
 
@@ -59,9 +59,9 @@ loop-i-preserved c =
       o.invariant.2,
       simp length-set l.invariant.3,
       elim c.loop-j-test.branch [
-      else-loop-j-test v ↦ closed (inl (omega (arith, v.loop-j-test.false)))
-      | then-loop-j-test+then-key-key_of v ↦ closed (inr (omega (arith, l.invariant.4, v.key_of.ensures, v.if-key-key_of.true)))
-    ],
+        | else-loop-j-test v ↦ closed (inl (omega (arith, v.loop-j-test.false)))
+        | then-loop-j-test+then-key-key_of v ↦ closed (inr (omega (arith, l.invariant.4, v.key_of.ensures, v.if-key-key_of.true)))
+      ],
     )
 
 pub returns : goal.returns

@@ -1,15 +1,10 @@
-use borrow.Author.Rules.{rules}
 use Prim.Native.Nat.{◌-◌, ◌≤◌, ◌<◌, min}
 use mathlib.Core.Path.{◌≡◌}
-use mathlib.Core.Logic.{⊎_elim, inl, inr}
-use native.Mathlib.Omega.{arith}
-use lib.ListN.{length, replicate, length-set, length-replicate}
-use Rattle.laws.proofs.Parts.{unmapped}
+use lib.ListN.{length, replicate}
 use Rattle.lists.specs.Entries.{instances_most}
 use Rattle.instances.specs.Instance.{blank_instance, key_of}
 use Rattle.instances.specs.Places.{run_most}
-use Rattle.instances.proofs.Runs.{outside}
-use Rattle.end.proofs.Sorted.{Gap, gap_next, gap_closed, array_from, array_none, array_gap, array_done}
+use Rattle.end.proofs.Sorted.{Gap, array_from}
 use Rattle.end.proofs.list.run_from.Given as goal
 
 abbrev pub invariant-loop-j : goal.invariant-loop-j

@@ -1,14 +1,8 @@
 use borrow.Author.Rules.{rules}
-use Prim.Native.Nat.{◌+◌, ◌-◌, ◌≤◌}
 use native.Mathlib.Omega.{arith}
-use lib.ListN.{drop}
 use Rattle.laws.proofs.Parts.{unmapped}
-use Rattle.laws.proofs.Filled.{Filled, filled_none, filled_next}
-use Rattle.instances.specs.Instance.{blank_instance}
-use Rattle.instances.specs.Places.{run_most}
-use Rattle.instances.specs.Run.{instances_of}
-use Rattle.end.specs.Listed.{replaced}
-use Rattle.end.proofs.Replaced.{Met, met_next, owned_small, turn_skip, turn_rest, turn_lower, turn_higher, turn_last, answer_done, answer_full}
+use Rattle.laws.proofs.Filled.{filled_none, filled_next}
+use Rattle.end.proofs.Replaced.{met_next, owned_small, turn_skip, turn_rest, turn_lower, turn_higher, turn_last, answer_done, answer_full}
 use Rattle.end.proofs.picture.replaced_by.Goals as goal
 use Rattle.end.proofs.picture.replaced_by.Goals.{else-x-procedure-2, then-x-procedure-2}
 
@@ -31,9 +25,9 @@ loop-k-preserved-then-x-procedure c =
 
 pub loop-k-smaller-then-m-many : goal.loop-k-smaller-then-m-many
 loop-k-smaller-then-m-many c = elim c.if-x-procedure-2.branch [
-      then-x-procedure-2 v ↦ omega (arith, v.m-is, v.i-is)
-      | else-x-procedure-2 v ↦ omega (arith, v.m-is, v.i-is)
-    ]
+  | then-x-procedure-2 v ↦ omega (arith, v.m-is, v.i-is)
+  | else-x-procedure-2 v ↦ omega (arith, v.m-is, v.i-is)
+]
 
 pub loop-k-preserved-then-m-many : goal.loop-k-preserved-then-m-many
 loop-k-preserved-then-m-many c =
@@ -45,24 +39,24 @@ loop-k-preserved-then-m-many c =
     -- the octets of `list`'s run, as the proof of its parameter has them
     let octets = c.well_formed.1.1.0.1.1.1.0 in
     elim c.if-x-procedure-2.branch [
-      then-x-procedure-2 v ↦ let turn = turn_lower a.list a.picture a.procedure _ _ l.m l.i new old (omega arith) other (omega arith) c.requires
-    (search rules, search rules) v.if-x-procedure-2.true in
-    rw (v.next-is, v.m-is, v.i-is) (
-      new,
-      met_next _ _ _ old (omega arith),
-      omega arith,
-      filled_next _ _ _ _ _ _ _ (omega arith)
-          (rw turn at l.invariant.3),
-    )
+      | then-x-procedure-2 v ↦ let turn = turn_lower a.list a.picture a.procedure _ _ l.m l.i new old (omega arith) other (omega arith) c.requires
+          (search rules, search rules) v.if-x-procedure-2.true in
+          rw (v.next-is, v.m-is, v.i-is) (
+            new,
+            met_next _ _ _ old (omega arith),
+            omega arith,
+            filled_next _ _ _ _ _ _ _ (omega arith)
+                (rw turn at l.invariant.3),
+          )
       | else-x-procedure-2 v ↦ let turn = turn_higher a.list a.picture a.procedure _ _ l.m l.i new old (omega arith) other (omega arith) c.requires
-    (owned_small a.list.run octets.0 l.m octets.1.1) v.if-x-procedure-2.false in
-    rw (v.next-is, v.m-is, v.i-is) (
-      met_next _ _ _ new (omega arith),
-      old,
-      omega arith,
-      filled_next _ _ _ _ _ _ _ (omega arith)
-          (rw turn at l.invariant.3),
-    )
+          (owned_small a.list.run octets.0 l.m octets.1.1) v.if-x-procedure-2.false in
+          rw (v.next-is, v.m-is, v.i-is) (
+            met_next _ _ _ new (omega arith),
+            old,
+            omega arith,
+            filled_next _ _ _ _ _ _ _ (omega arith)
+                (rw turn at l.invariant.3),
+          )
     ]
 
 pub loop-k-preserved-else-m-many : goal.loop-k-preserved-else-m-many

@@ -1,15 +1,11 @@
-use borrow.Author.Rules.{rules}
 use Prim.Native.Nat.{◌+◌, ◌-◌, ◌≤◌}
-use mathlib.Core.Logic.{⊎_elim}
-use native.Mathlib.Omega.{arith}
 use lib.ListN.{drop}
-use Rattle.laws.proofs.Parts.{unmapped}
-use Rattle.laws.proofs.Filled.{Filled, filled_none, filled_next}
+use Rattle.laws.proofs.Filled.{Filled}
 use Rattle.instances.specs.Instance.{blank_instance}
 use Rattle.instances.specs.Places.{run_most}
 use Rattle.instances.specs.Run.{instances_of}
 use Rattle.end.specs.Listed.{replaced}
-use Rattle.end.proofs.Replaced.{Met, met_next, owned_small, turn_skip, turn_rest, turn_lower, turn_higher, turn_last, answer_done, answer_full}
+use Rattle.end.proofs.Replaced.{Met}
 use Rattle.end.proofs.picture.replaced_by.Given as goal
 
 abbrev pub invariant-loop-k : goal.invariant-loop-k

@@ -1,4 +1,3 @@
-use borrow.Author.Rules.{rules}
 use Rattle.end.proofs.send.end_after.Goals as goal
 
 pub waiting-requires : goal.waiting-requires

@@ -1,4 +1,3 @@
-use borrow.Author.Rules.{rules}
 use Rattle.end.proofs.send.interrogation_of.Goals as goal
 
 pub returns : goal.returns

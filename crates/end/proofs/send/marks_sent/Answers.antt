@@ -1,7 +1,6 @@
 use Rattle.end.specs.Sending.{marks_sent}
 use borrow.Author.Tests.{ne_eqb}
 use Rattle.laws.proofs.Cases.{cases}
-use borrow.Author.Rules.{rules}
 use Rattle.end.proofs.send.marks_sent.Goals as goal
 
 pub returns-then-operation-eq-INTERROGATION : goal.returns-then-operation-eq-INTERROGATION

@@ -8,7 +8,6 @@ use native.Mathlib.Numerals.{add-one}
 use native.Mathlib.Omega.{arith}
 use mathlib.Core.Path.{◌≡◌, sym, ◌∙◌}
 use mathlib.Core.Bool.{true}
-use borrow.Author.Tests.{not-true, not-false}
 use Rattle.laws.specs.Tests.{all}
 use Rattle.refusals.specs.Refusal.{output_least}
 use Rattle.refusals.specs.declared.refusal.Refusal.TheVariants.{ShortOutput, BadProfile, BadTable, Outstanding, Exhausted, BadRequest}
@@ -19,7 +18,6 @@ use Rattle.end.specs.End.{used_most, end_rules, end_good}
 use Rattle.end.proofs.Ends.{rules_used, rules_fail, rules_pass}
 use Rattle.end.proofs.Sendings.{sends_short, sends_profile, sends_end, sends_waiting, sends_last, sends_unfit, sends_all}
 use Rattle.end.proofs.Sendings.{refused_sends, all_sends, unfit_sends, fit_sends}
-use borrow.Author.Rules.{rules}
 use Rattle.end.proofs.send.send.Goals as goal
 
 -- what holds where a test was passed

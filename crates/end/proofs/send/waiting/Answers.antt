@@ -1,6 +1,5 @@
 use native.Mathlib.Numerals.{add-one}
 use Rattle.end.specs.Sending.{sent}
-use borrow.Author.Rules.{rules}
 use Rattle.end.proofs.send.waiting.Goals as goal
 
 pub returns : goal.returns

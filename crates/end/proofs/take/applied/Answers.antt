@@ -1,6 +1,5 @@
 use Rattle.end.proofs.Movings.{applied_fails, applied_passes}
 use mathlib.Core.Path.{◌∙◌}
-use borrow.Author.Rules.{rules}
 use Rattle.end.proofs.take.applied.Goals as goal
 
 pub returns-in-Fails : goal.returns-in-Fails

@@ -1,5 +1,4 @@
 use Rattle.end.specs.End.{closed}
-use borrow.Author.Rules.{rules}
 use Rattle.end.proofs.take.closed.Goals as goal
 
 pub returns : goal.returns

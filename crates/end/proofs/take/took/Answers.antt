@@ -5,7 +5,6 @@ use lib.IntN.{pos}
 use Rattle.end.proofs.Movings.{took_idle, took_reply}
 use native.Mathlib.Omega.{arith}
 use mathlib.Core.Path.{◌∙◌}
-use borrow.Author.Rules.{rules}
 use Rattle.end.proofs.take.took.Goals as goal
 
 pub returns-then-e-ne1 : goal.returns-then-e-ne1

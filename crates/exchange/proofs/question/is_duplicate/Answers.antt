@@ -1,7 +1,6 @@
 use Rattle.exchange.specs.Question.{duplicate}
 use mir.Facts.{to_z-of_z}
 use borrow.Author.Tests.{eq-eqb, ne_eqb}
-use borrow.Author.Rules.{rules}
 use Rattle.exchange.proofs.question.is_duplicate.Goals as goal
 
 pub returns-then-p-eq1 : goal.returns-then-p-eq1

@@ -1,4 +1,3 @@
-use borrow.Author.Rules.{rules}
 use Rattle.exchange.proofs.question.says_at_once.Goals as goal
 
 pub returns : goal.returns

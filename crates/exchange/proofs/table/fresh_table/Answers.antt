@@ -1,4 +1,3 @@
-use borrow.Author.Rules.{rules}
 use Rattle.exchange.proofs.table.fresh_table.Goals as goal
 
 pub returns : goal.returns

@@ -1,6 +1,5 @@
 use Rattle.forms.proofs.Fields.{field_is, field_large, field_bad}
 use mathlib.Core.Path.{sym, ◌∙◌}
-use borrow.Author.Rules.{rules}
 use Rattle.forms.proofs.field.field_at.Goals as goal
 
 pub returns-in-Is : goal.returns-in-Is

@@ -2,7 +2,6 @@ use mathlib.Core.Path.{sym, ap, ◌∙◌}
 use Rattle.forms.specs.inner.Reading.{any_field, field_read}
 use Rattle.forms.proofs.Fields.{field_found, field_none, below_is, below_not, below_none}
 use borrow.Author.Tests.{not-true, not-false}
-use borrow.Author.Rules.{rules}
 use Rattle.forms.proofs.field.field_below.Goals as goal
 
 pub returns-then-not-field : goal.returns-then-not-field

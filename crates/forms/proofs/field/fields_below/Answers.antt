@@ -1,9 +1,7 @@
-use Rattle.forms.proofs.Fields.{Come, come_first, come_wrong, come_next, come_all, field_found, field_none, below_small}
+use Rattle.forms.proofs.Fields.{come_first, come_wrong, come_next, come_all, field_found, field_none, below_small}
 use Rattle.forms.specs.inner.Reading.{field_below}
 use borrow.Author.Tests.{not-true, not-false}
-use borrow.Author.Rules.{rules}
 use native.Mathlib.Omega.{arith}
-use Prim.Native.Nat.{◌-◌}
 use Rattle.forms.proofs.field.fields_below.Goals as goal
 
 pub loop-i-init : goal.loop-i-init

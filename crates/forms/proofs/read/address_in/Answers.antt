@@ -4,7 +4,6 @@ use Rattle.forms.specs.inner.Reading.{field_below, fields_below, number_from_fie
 use Rattle.numbers.proofs.Readers.{number_found, number_none}
 use borrow.Author.Tests.{not-true, not-false}
 use native.Mathlib.Omega.{arith}
-use borrow.Author.Rules.{rules}
 use Rattle.forms.proofs.read.address_in.Goals as goal
 
 pub returns-then-not-read : goal.returns-then-not-read

@@ -1,4 +1,3 @@
-use borrow.Author.Rules.{rules}
 use Rattle.forms.proofs.read.no_forwarded.Goals as goal
 
 pub returns : goal.returns

@@ -1,4 +1,3 @@
-use borrow.Author.Rules.{rules}
 use Rattle.forms.proofs.read.no_number.Goals as goal
 
 pub returns : goal.returns

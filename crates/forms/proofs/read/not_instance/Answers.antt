@@ -1,4 +1,3 @@
-use borrow.Author.Rules.{rules}
 use Rattle.forms.proofs.read.not_instance.Goals as goal
 
 pub returns : goal.returns

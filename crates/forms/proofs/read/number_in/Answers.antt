@@ -4,7 +4,6 @@ use Rattle.forms.specs.inner.Reading.{field_below, fields_below}
 use borrow.Author.Tests.{not-true, not-false}
 use native.Mathlib.Omega.{arith}
 use mathlib.Core.Path.{sym, ◌∙◌}
-use borrow.Author.Rules.{rules}
 use Rattle.forms.proofs.read.number_in.Goals as goal
 
 pub returns-then-not-form : goal.returns-then-not-form

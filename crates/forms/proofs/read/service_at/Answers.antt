@@ -4,7 +4,6 @@ use Rattle.forms.specs.inner.Reading.{field_below, field_read}
 use borrow.Author.Tests.{not-true, not-false}
 use native.Mathlib.Omega.{arith}
 use mathlib.Core.Path.{sym, ap, ◌∙◌}
-use borrow.Author.Rules.{rules}
 use Rattle.forms.proofs.read.service_at.Goals as goal
 
 pub returns-then-not-field : goal.returns-then-not-field

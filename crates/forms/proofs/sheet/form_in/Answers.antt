@@ -4,7 +4,6 @@ use Rattle.forms.proofs.Sheets.{sheet_disordered, sheet_read}
 use Rattle.forms.specs.Sheet.{instances_from}
 use Rattle.forms.specs.inner.Reading.{opening_in}
 use borrow.Author.Tests.{not-true, not-false}
-use borrow.Author.Rules.{rules}
 use Rattle.forms.proofs.sheet.form_in.Goals as goal
 
 pub returns-then-not-opening : goal.returns-then-not-opening

@@ -1,9 +1,7 @@
 use Rattle.forms.proofs.Readers.{instance_found, instance_none}
-use Rattle.forms.proofs.Instances.{Going, going_first, going_wrong, going_next, going_all}
+use Rattle.forms.proofs.Instances.{going_first, going_wrong, going_next, going_all}
 use Rattle.forms.specs.Instance.{instance_from}
 use borrow.Author.Tests.{not-true, not-false}
-use borrow.Author.Rules.{rules}
-use Prim.Native.Nat.{◌-◌}
 use Rattle.forms.proofs.sheet.instances_from.Goals as goal
 
 pub loop-i-init : goal.loop-i-init

@@ -1,8 +1,4 @@
-use Rattle.forms.proofs.Readers.{instance_found, instance_none}
-use Rattle.forms.proofs.Instances.{Going, going_first, going_wrong, going_next, going_all}
-use Rattle.forms.specs.Instance.{instance_from}
-use borrow.Author.Tests.{not-true, not-false}
-use borrow.Author.Rules.{rules}
+use Rattle.forms.proofs.Instances.{Going}
 use Prim.Native.Nat.{◌-◌}
 use Rattle.forms.proofs.sheet.instances_from.Given as goal
 

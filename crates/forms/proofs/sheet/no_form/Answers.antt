@@ -1,4 +1,3 @@
-use borrow.Author.Rules.{rules}
 use Rattle.forms.proofs.sheet.no_form.Goals as goal
 
 pub returns : goal.returns

@@ -1,5 +1,4 @@
 use mathlib.Core.Path.{refl}
-use borrow.Author.Rules.{rules}
 use Rattle.forms.proofs.sheet.read_form.Goals as goal
 
 pub form_in-requires : goal.form_in-requires

@@ -1,6 +1,5 @@
 use mathlib.Core.Path.{sym}
 use borrow.Author.Tests.{lt-ltb, le-ltb}
-use borrow.Author.Rules.{rules}
 use Rattle.laws.proofs.Cases.{cases}
 use Rattle.groups.specs.Groups.{groups_at}
 use Rattle.groups.proofs.GroupTurns.{groups_at_empty, groups_at_first, groups_at_open, groups_at_zero, groups_at_large, groups_at_ends}

@@ -1,11 +1,7 @@
 use mathlib.Core.Path.{◌≡◌}
 use Prim.Native.Nat.{◌+◌, ◌≤◌}
-use native.Mathlib.Omega.{arith}
-use borrow.Author.Rules.{rules}
 use lib.ListN.{length}
 use Rattle.groups.specs.Groups.{groups}
-use Rattle.groups.proofs.GroupTurns.{size_more, size_last}
-use Rattle.groups.proofs.GroupLaws.{groups_length}
 use Rattle.groups.proofs.groups.groups_size.Given as goal
 
 abbrev pub invariant-loop-rest : goal.invariant-loop-rest

@@ -1,8 +1,6 @@
-use mathlib.Core.Path.{◌≡◌}
-use Prim.Native.Nat.{◌+◌, ◌-◌, ◌≤◌}
+use Prim.Native.Nat.{◌+◌, ◌-◌}
 use native.Mathlib.Omega.{arith}
 use borrow.Author.Rules.{rules}
-use Rattle.groups.specs.inner.Groups.{groups_value}
 use Rattle.groups.proofs.GroupTurns.{value_none, value_more, value_all, value_fits}
 use Rattle.groups.proofs.groups.groups_value.Goals as goal
 

@@ -1,5 +1,4 @@
 use native.Mathlib.Omega.{arith}
-use borrow.Author.Rules.{rules}
 use Rattle.laws.proofs.Over.{puts_none, puts_all}
 use Rattle.groups.proofs.groups.put_groups.Goals as goal
 

@@ -1,11 +1,7 @@
-use mathlib.Core.Path.{◌≡◌, refl, sym}
-use Prim.Native.Nat.{◌+◌}
+use mathlib.Core.Path.{refl, sym}
 use native.Mathlib.Omega.{arith}
-use borrow.Author.Rules.{rules}
-use lib.ListN.{length, length-set}
-use Rattle.laws.specs.Over.{over}
+use lib.ListN.{length-set}
 use Rattle.laws.proofs.Over.{over_one}
-use Rattle.groups.specs.Groups.{groups}
 use Rattle.groups.proofs.GroupTurns.{size_more, size_last, over_group, wrote_last}
 use Rattle.groups.proofs.groups.write_groups.Goals as goal
 

@@ -1,12 +1,8 @@
-use mathlib.Core.Path.{◌≡◌, refl, sym}
+use mathlib.Core.Path.{◌≡◌}
 use Prim.Native.Nat.{◌+◌}
-use native.Mathlib.Omega.{arith}
-use borrow.Author.Rules.{rules}
-use lib.ListN.{length, length-set}
+use lib.ListN.{length}
 use Rattle.laws.specs.Over.{over}
-use Rattle.laws.proofs.Over.{over_one}
 use Rattle.groups.specs.Groups.{groups}
-use Rattle.groups.proofs.GroupTurns.{size_more, size_last, over_group, wrote_last}
 use Rattle.groups.proofs.groups.write_groups.Given as goal
 
 abbrev pub invariant-loop-rest : goal.invariant-loop-rest

@@ -1,4 +1,3 @@
-use borrow.Author.Rules.{rules}
 use Rattle.instances.proofs.instance.blank_instance.Goals as goal
 
 pub returns : goal.returns

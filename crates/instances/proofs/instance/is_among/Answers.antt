@@ -1,11 +1,9 @@
 use borrow.Author.Rules.{rules}
-use Prim.Native.Nat.{◌-◌, ◌≤◌}
 use mathlib.Core.Path.{◌≡◌, refl, sym, ◌∙◌}
 use native.Mathlib.Omega.{arith}
-use lib.ListN.{length, take, drop}
+use lib.ListN.{length}
 use Rattle.laws.proofs.Lefts.{left_none}
 use Rattle.profile.specs.Profile.{services_most}
-use Rattle.instances.specs.Instance.{among}
 use Rattle.instances.proofs.Runs.{step}
 use Rattle.instances.proofs.Choices.{among_here, among_on, among_none}
 use Rattle.instances.proofs.instance.is_among.Goals as goal

@@ -1,13 +1,8 @@
-use borrow.Author.Rules.{rules}
 use Prim.Native.Nat.{◌-◌, ◌≤◌}
-use mathlib.Core.Path.{◌≡◌, refl, sym, ◌∙◌}
-use native.Mathlib.Omega.{arith}
-use lib.ListN.{length, take, drop}
-use Rattle.laws.proofs.Lefts.{left_none}
+use mathlib.Core.Path.{◌≡◌}
+use lib.ListN.{take, drop}
 use Rattle.profile.specs.Profile.{services_most}
 use Rattle.instances.specs.Instance.{among}
-use Rattle.instances.proofs.Runs.{step}
-use Rattle.instances.proofs.Choices.{among_here, among_on, among_none}
 use Rattle.instances.proofs.instance.is_among.Given as goal
 
 abbrev pub invariant-loop-k : goal.invariant-loop-k

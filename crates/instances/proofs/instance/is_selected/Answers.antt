@@ -1,7 +1,5 @@
-use borrow.Author.Rules.{rules}
 use Rattle.laws.proofs.Picks.{pick_last}
 use Rattle.instances.specs.Instance.{selected}
-use borrow.Author.Tests.{not-true, not-false}
 use mathlib.Core.Path.{sym, ◌∙◌}
 use Rattle.instances.proofs.instance.is_selected.Goals as goal
 

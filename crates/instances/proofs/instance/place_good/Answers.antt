@@ -1,4 +1,3 @@
-use borrow.Author.Rules.{rules}
 use Rattle.laws.proofs.Picks.{pick_last}
 use Rattle.laws.proofs.Cases.{cases}
 use Rattle.instances.proofs.instance.place_good.Goals as goal

@@ -1,16 +1,12 @@
 use borrow.Author.Rules.{rules}
-use Prim.Native.Nat.{◌+◌, ◌-◌, ◌*◌, ◌≤◌}
 use mathlib.Core.Path.{◌≡◌, sym, ◌∙◌}
-use mathlib.Core.List.{◌++◌}
 use native.Mathlib.Nat.{sub-zero}
 use native.Mathlib.Omega.{arith}
 use lib.ListN.{length, take, length-take}
 use lib.Seq.{get_or-take}
-use Rattle.laws.proofs.Filled.{Filled, filled_none, filled_next, filled_done}
-use Rattle.profile.specs.Profile.{services_most}
-use Rattle.instances.specs.Places.{run_most}
-use Rattle.instances.specs.inner.Places.{no_place, places_named}
-use Rattle.instances.proofs.Placings.{places_left, number_named, number_other, number_none, row_left, place_next, place_none, placed_done}
+use Rattle.laws.proofs.Filled.{filled_none, filled_next, filled_done}
+use Rattle.instances.specs.inner.Places.{places_named}
+use Rattle.instances.proofs.Placings.{number_named, number_other, number_none, place_next, place_none, placed_done}
 use Rattle.instances.proofs.places.places_named.Goals as goal
 use Rattle.instances.proofs.places.places_named.Goals.{else-is_named, then-is_named+else-loop-b-test}
 
@@ -43,11 +39,11 @@ loop-a-preserved c =
     let test = sym c.is_named.ensures in
     let long : length services ≡ a.count = omega (arith, length-take a.count a.services) in
     elim c.if-is_named.branch [
-      then-is_named+else-loop-b-test v ↦ let none = place_none services l.a v.loop-b.b (omega (arith, v.loop-b.invariant.0, v.loop-b-test.false)) in
-    rw (v.next-is, v.k-is)
-    (omega arith, l.invariant.1, omega (arith, v.loop-b.invariant.0, v.loop-b.invariant.1), rw none at v.loop-b.invariant.2)
+      | then-is_named+else-loop-b-test v ↦ let none = place_none services l.a v.loop-b.b (omega (arith, v.loop-b.invariant.0, v.loop-b-test.false)) in
+          rw (v.next-is, v.k-is)
+          (omega arith, l.invariant.1, omega (arith, v.loop-b.invariant.0, v.loop-b.invariant.1), rw none at v.loop-b.invariant.2)
       | else-is_named v ↦ let skips = number_other a.asked services a.numbers l.a (omega arith) (test ∙ v.if-is_named.false) in
-    rw (v.next-is, v.k-is) (omega arith, l.invariant.1, omega arith, rw skips at l.invariant.3)
+          rw (v.next-is, v.k-is) (omega arith, l.invariant.1, omega arith, rw skips at l.invariant.3)
     ]
 
 pub returns : goal.returns

@@ -1,17 +1,12 @@
-use borrow.Author.Rules.{rules}
 use Prim.Native.Nat.{◌+◌, ◌-◌, ◌*◌, ◌≤◌}
-use mathlib.Core.Path.{◌≡◌, sym, ◌∙◌}
+use mathlib.Core.Path.{◌≡◌}
 use mathlib.Core.List.{◌++◌}
-use mathlib.Core.Logic.{⊎_elim}
-use native.Mathlib.Nat.{sub-zero}
-use native.Mathlib.Omega.{arith}
-use lib.ListN.{length, take, length-take}
-use lib.Seq.{get_or-take}
-use Rattle.laws.proofs.Filled.{Filled, filled_none, filled_next, filled_done}
+use lib.ListN.{length, take}
+use Rattle.laws.proofs.Filled.{Filled}
 use Rattle.profile.specs.Profile.{services_most}
 use Rattle.instances.specs.Places.{run_most}
 use Rattle.instances.specs.inner.Places.{no_place, places_named}
-use Rattle.instances.proofs.Placings.{places_left, number_named, number_other, number_none, row_left, place_next, place_none, placed_done}
+use Rattle.instances.proofs.Placings.{places_left, row_left}
 use Rattle.instances.proofs.places.places_named.Given as goal
 
 abbrev pub invariant-loop-b : goal.invariant-loop-b

@@ -1,13 +1,11 @@
 use Rattle.instances.proofs.Placings.{noted_done}
 use borrow.Author.Rules.{rules}
-use Prim.Native.Nat.{◌-◌, ◌≤◌, min}
-use mathlib.Core.Path.{◌≡◌, sym, ◌∙◌}
+use mathlib.Core.Path.{sym, ◌∙◌}
 use native.Mathlib.Omega.{arith}
-use lib.ListN.{length, take, drop}
+use lib.ListN.{take}
 use Rattle.laws.proofs.Lefts.{left_none}
-use Rattle.laws.proofs.Filled.{Filled, filled_none, filled_next, filled_done}
+use Rattle.laws.proofs.Filled.{filled_none, filled_next, filled_done}
 use Rattle.laws.proofs.Thoses.{those_take, those_skip, those_none}
-use Rattle.profile.specs.Profile.{services_most}
 use Rattle.instances.specs.Instance.{every_service, named}
 use Rattle.instances.specs.inner.Places.{services_named}
 use Rattle.instances.proofs.Runs.{step}
@@ -25,11 +23,11 @@ loop-i-preserved c =
     let on = step a.count a.services l.i 0 (omega arith) (omega arith) in
     let test = sym c.is_named.ensures in
     elim c.if-is_named.branch [
-      then-is_named v ↦ let takes = those_take f _ _ _ on (test ∙ v.if-is_named.true) in
-    rw (v.named-is, v.k-is)
-    (omega arith, l.invariant.1, l.invariant.2, omega arith, filled_next _ _ _ _ _ _ _ (omega arith) (rw takes at l.invariant.4))
+      | then-is_named v ↦ let takes = those_take f _ _ _ on (test ∙ v.if-is_named.true) in
+          rw (v.named-is, v.k-is)
+          (omega arith, l.invariant.1, l.invariant.2, omega arith, filled_next _ _ _ _ _ _ _ (omega arith) (rw takes at l.invariant.4))
       | else-is_named v ↦ let skips = those_skip f _ _ _ on (test ∙ v.if-is_named.false) in
-    rw (v.named-is, v.k-is) (omega arith, l.invariant.1, l.invariant.2, omega arith, rw skips at l.invariant.4)
+          rw (v.named-is, v.k-is) (omega arith, l.invariant.1, l.invariant.2, omega arith, rw skips at l.invariant.4)
     ]
 
 pub returns : goal.returns

@@ -1,17 +1,9 @@
-use Rattle.instances.proofs.Placings.{noted_done}
-use borrow.Author.Rules.{rules}
 use Prim.Native.Nat.{◌-◌, ◌≤◌, min}
-use mathlib.Core.Path.{◌≡◌, sym, ◌∙◌}
-use mathlib.Core.Logic.{⊎_elim}
-use native.Mathlib.Omega.{arith}
+use mathlib.Core.Path.{◌≡◌}
 use lib.ListN.{length, take, drop}
-use Rattle.laws.proofs.Lefts.{left_none}
-use Rattle.laws.proofs.Filled.{Filled, filled_none, filled_next, filled_done}
-use Rattle.laws.proofs.Thoses.{those_take, those_skip, those_none}
+use Rattle.laws.proofs.Filled.{Filled}
 use Rattle.profile.specs.Profile.{services_most}
-use Rattle.instances.specs.Instance.{every_service, named}
 use Rattle.instances.specs.inner.Places.{services_named}
-use Rattle.instances.proofs.Runs.{step}
 use Rattle.instances.proofs.places.services_named.Given as goal
 
 abbrev pub invariant-loop-i : goal.invariant-loop-i

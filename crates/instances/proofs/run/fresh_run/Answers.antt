@@ -1,4 +1,3 @@
-use borrow.Author.Rules.{rules}
 use Rattle.instances.proofs.run.fresh_run.Goals as goal
 
 pub returns : goal.returns

@@ -1,4 +1,3 @@
-use borrow.Author.Rules.{rules}
 use Rattle.laws.proofs.Cases.{cases}
 use borrow.Author.Tests.{le-ltb}
 use Rattle.instances.specs.Run.{served_number}

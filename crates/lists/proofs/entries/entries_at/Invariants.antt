@@ -1,9 +1,5 @@
-use Rattle.lists.proofs.Readers.{Reached, entry_found, entry_none, reached_first, reached_full, reached_wrong, reached_next, reached_answer}
-use Rattle.lists.specs.Entry.{entry_at}
+use Rattle.lists.proofs.Readers.{Reached}
 use Rattle.lists.specs.Entries.{instances_most}
-use native.Mathlib.Omega.{arith}
-use borrow.Author.Tests.{not-true, not-false}
-use borrow.Author.Rules.{rules}
 use Prim.Native.Nat.{◌-◌}
 use Rattle.lists.proofs.entries.entries_at.Given as goal
 

@@ -1,4 +1,3 @@
-use borrow.Author.Rules.{rules}
 use Rattle.lists.proofs.entries.no_entries.Goals as goal
 
 pub returns : goal.returns

@@ -1,7 +1,6 @@
 use Rattle.lists.specs.Entry.{entry_at}
 use borrow.Author.Tests.{eq-eqb, ne_eqb}
 use mathlib.Core.Path.{sym, ◌∙◌}
-use borrow.Author.Rules.{rules}
 use Rattle.lists.proofs.entry.entry_at.Goals as goal
 
 pub returns-then-tag-ne48 : goal.returns-then-tag-ne48

@@ -2,7 +2,6 @@ use Rattle.numbers.specs.Number.{number_at}
 use Rattle.numbers.proofs.Readers.{number_found, number_none}
 use Rattle.lists.specs.Entry.{fields_in}
 use borrow.Author.Tests.{not-true, not-false}
-use borrow.Author.Rules.{rules}
 use Rattle.lists.proofs.entry.fields_in.Goals as goal
 
 pub returns-then-not-read : goal.returns-then-not-read

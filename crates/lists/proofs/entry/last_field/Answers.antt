@@ -3,7 +3,6 @@ use Rattle.numbers.proofs.Readers.{address_found, address_none}
 use Rattle.lists.specs.Entry.{last_field}
 use borrow.Author.Tests.{eq-eqb, ne_eqb, not-true, not-false}
 use mathlib.Core.Path.{sym, ◌∙◌}
-use borrow.Author.Rules.{rules}
 use Rattle.lists.proofs.entry.last_field.Goals as goal
 
 pub returns-then-not-read : goal.returns-then-not-read

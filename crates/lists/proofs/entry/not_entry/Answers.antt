@@ -1,4 +1,3 @@
-use borrow.Author.Rules.{rules}
 use Rattle.lists.proofs.entry.not_entry.Goals as goal
 
 pub returns : goal.returns

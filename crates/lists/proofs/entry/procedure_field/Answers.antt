@@ -1,5 +1,4 @@
 use mathlib.Core.Path.{sym, ◌∙◌}
-use borrow.Author.Rules.{rules}
 use Rattle.lists.proofs.entry.procedure_field.Goals as goal
 
 pub returns-in-Is : goal.returns-in-Is

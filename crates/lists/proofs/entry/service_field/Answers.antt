@@ -1,6 +1,5 @@
 use Rattle.lists.specs.Entry.{codes_in}
 use mathlib.Core.Path.{sym, ◌∙◌}
-use borrow.Author.Rules.{rules}
 use Rattle.lists.proofs.entry.service_field.Goals as goal
 
 pub returns-in-Is : goal.returns-in-Is

@@ -1,10 +1,10 @@
 use native.Mathlib.Omega.{arith}
-use Prim.Native.Nat.{◌*◌, ◌-◌, ◌≤◌, min}
+use Prim.Native.Nat.{◌*◌, ◌≤◌, min}
 use mathlib.Core.Path.{◌≡◌, refl, ap, ◌∙◌}
 use mathlib.Core.List.{List}
 use lib.ListN.{length}
 use mir.Facts.{to_z-of_z}
-use Rattle.lists.proofs.Measures.{Measured, measured_none, measured_next, counted_all, Writing, writing_first, writing_room}
+use Rattle.lists.proofs.Measures.{measured_none, measured_next, counted_all, writing_first, writing_room}
 use Rattle.lists.proofs.Measures.{writing_rest, writing_next}
 use Rattle.lists.proofs.Heads.{head_after, list_none, list_all, list_empty}
 use Rattle.lists.specs.declared.entry.Entry.{Entry}

@@ -1,18 +1,8 @@
-use native.Mathlib.Omega.{arith}
-use Prim.Native.Nat.{◌*◌, ◌-◌, ◌≤◌, min}
-use mathlib.Core.Path.{◌≡◌, refl, ap, ◌∙◌}
-use mathlib.Core.List.{List}
+use Prim.Native.Nat.{◌-◌, ◌≤◌, min}
+use mathlib.Core.Path.{◌≡◌}
 use lib.ListN.{length}
-use mir.Facts.{to_z-of_z}
-use Rattle.lists.proofs.Measures.{Measured, measured_none, measured_next, counted_all, Writing, writing_first, writing_room}
-use Rattle.lists.proofs.Measures.{writing_rest, writing_next}
-use Rattle.lists.proofs.Heads.{head_after, list_none, list_all, list_empty}
-use Rattle.lists.specs.declared.entry.Entry.{Entry}
-use Rattle.lists.specs.Entries.{instances_most, entries_in, entries_octets}
-use Rattle.lists.specs.Entry.{no_entry, entry_size}
-use Rattle.laws.proofs.Over.{wrote_length}
-use Rattle.laws.proofs.Parts.{unmapped}
-use borrow.Author.Rules.{rules}
+use Rattle.lists.proofs.Measures.{Measured, Writing}
+use Rattle.lists.specs.Entries.{instances_most}
 use Rattle.lists.proofs.list.put_list.Given as goal
 
 abbrev pub invariant-loop-i : goal.invariant-loop-i

@@ -10,7 +10,6 @@ use Rattle.octets.specs.Element.{head_octets}
 use Rattle.codes.specs.Codes.{interrogation}
 use Rattle.lists.specs.Listed.{list_opened}
 use Rattle.lists.proofs.Heads.{lengths, list_long, head_room, head_wrote, head_large, head_none, head_all}
-use borrow.Author.Rules.{rules}
 use Rattle.lists.proofs.list.put_list_head.Goals as goal
 
 pub returns-then-size-gt-ENTRIESSIZE : goal.returns-then-size-gt-ENTRIESSIZE

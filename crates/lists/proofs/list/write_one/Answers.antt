@@ -2,7 +2,6 @@ use Rattle.lists.proofs.Writers.{one_wrote}
 use native.Mathlib.Omega.{arith}
 use Prim.Native.Nat.{◌+◌}
 use lib.ListN.{set, length-set}
-use borrow.Author.Rules.{rules}
 use Rattle.lists.proofs.list.write_one.Goals as goal
 
 pub bounds-out-at-2 : goal.bounds-out-at-2

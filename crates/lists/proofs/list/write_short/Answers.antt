@@ -1,7 +1,6 @@
 use Rattle.laws.proofs.Over.{wrote_two}
 use native.Mathlib.Omega.{arith}
 use lib.ListN.{length-set}
-use borrow.Author.Rules.{rules}
 use Rattle.lists.proofs.list.write_short.Goals as goal
 
 pub bounds-out-at-2 : goal.bounds-out-at-2

@@ -6,7 +6,6 @@ use Rattle.octets.proofs.Within.{within}
 use native.Mathlib.Omega.{arith}
 use mathlib.Core.Path.{sym, ◌∙◌}
 use borrow.Author.Tests.{eq-eqb, ne_eqb}
-use borrow.Author.Rules.{rules}
 use Rattle.numbers.proofs.address.address_at.Goals as goal
 
 pub returns-then-tag-ne48 : goal.returns-then-tag-ne48

@@ -1,7 +1,6 @@
 use Rattle.laws.proofs.Picks.{pick_last}
 use Rattle.numbers.specs.Address.{address_good}
 use borrow.Author.Tests.{le-leb, lt-leb}
-use borrow.Author.Rules.{rules}
 use Rattle.numbers.proofs.address.address_good.Goals as goal
 
 pub returns-then-count-gt-MOST : goal.returns-then-count-gt-MOST

@@ -1,4 +1,3 @@
-use borrow.Author.Rules.{rules}
 use Rattle.numbers.proofs.address.blank_address.Goals as goal
 
 pub returns : goal.returns

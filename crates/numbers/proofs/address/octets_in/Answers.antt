@@ -2,7 +2,6 @@ use Rattle.numbers.proofs.Readers.{sub_made}
 use Rattle.numbers.specs.Address.{octets_in}
 use Rattle.numbers.specs.Number.{fair}
 use borrow.Author.Tests.{le-leb, lt-leb}
-use borrow.Author.Rules.{rules}
 use Rattle.numbers.proofs.address.octets_in.Goals as goal
 
 pub returns-then-n-lt1 : goal.returns-then-n-lt1

@@ -2,8 +2,6 @@ use Rattle.numbers.proofs.Readers.{digits_few, digits_many, part_digits, number_
 use lib.Seq.{length-slice}
 use Rattle.numbers.specs.Number.{digits_in}
 use mathlib.Core.Path.{sym, ◌∙◌}
-use borrow.Author.Tests.{not-true, not-false}
-use borrow.Author.Rules.{rules}
 use Rattle.numbers.proofs.number.digits_in.Goals as goal
 
 pub returns-then-n-lt1 : goal.returns-then-n-lt1

@@ -1,5 +1,4 @@
 use Rattle.numbers.proofs.Readers.{padded_over}
-use borrow.Author.Rules.{rules}
 use Rattle.numbers.proofs.number.padded_of.Goals as goal
 
 pub returns : goal.returns

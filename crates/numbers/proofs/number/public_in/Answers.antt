@@ -1,7 +1,5 @@
 use Rattle.numbers.specs.Number.{public_in}
 use mathlib.Core.Path.{sym, ◌∙◌}
-use borrow.Author.Tests.{not-true, not-false}
-use borrow.Author.Rules.{rules}
 use Rattle.numbers.proofs.number.public_in.Goals as goal
 
 pub returns-then-not-type_good : goal.returns-then-not-type_good

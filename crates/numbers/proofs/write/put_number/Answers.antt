@@ -1,6 +1,5 @@
 use Rattle.laws.proofs.Over.{puts_none, puts_all}
 use native.Mathlib.Omega.{arith}
-use borrow.Author.Rules.{rules}
 use Rattle.numbers.proofs.write.put_number.Goals as goal
 
 pub returns-then-out-need : goal.returns-then-out-need

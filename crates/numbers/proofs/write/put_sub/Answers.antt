@@ -15,7 +15,7 @@ returns-then-out-need c = let a = c.args.a in
     let few = c.fewer-count.ensures in
     let need : c.if-count-eq0.need ≡ length (sub_octets (sub_octets_of a)) =
     elim c.if-count-eq0.branch [
-      then-count-eq0 v ↦ omega (arith, v.need-is, sub_absent a long few v.if-count-eq0.true)
+      | then-count-eq0 v ↦ omega (arith, v.need-is, sub_absent a long few v.if-count-eq0.true)
       | else-count-eq0 v ↦ omega (arith, v.need-is, sub_present a long few v.if-count-eq0.false)
     ] in
     puts_none (omega (arith, need))
@@ -26,7 +26,7 @@ returns-then-out-need-2 c = let a = c.args.a in
     let few = c.fewer-count.ensures in
     let need : c.if-count-eq0.need ≡ length (sub_octets (sub_octets_of a)) =
     elim c.if-count-eq0.branch [
-      then-count-eq0 v ↦ omega (arith, v.need-is, sub_absent a long few v.if-count-eq0.true)
+      | then-count-eq0 v ↦ omega (arith, v.need-is, sub_absent a long few v.if-count-eq0.true)
       | else-count-eq0 v ↦ omega (arith, v.need-is, sub_present a long few v.if-count-eq0.false)
     ] in
     puts_none (omega (arith, need))
@@ -37,7 +37,7 @@ write_sub-requires c = let a = c.args.a in
     let few = c.fewer-count.ensures in
     let need : c.if-count-eq0.need ≡ length (sub_octets (sub_octets_of a)) =
     elim c.if-count-eq0.branch [
-      then-count-eq0 v ↦ omega (arith, v.need-is, sub_absent a long few v.if-count-eq0.true)
+      | then-count-eq0 v ↦ omega (arith, v.need-is, sub_absent a long few v.if-count-eq0.true)
       | else-count-eq0 v ↦ omega (arith, v.need-is, sub_present a long few v.if-count-eq0.false)
     ] in
     omega (arith, need)
@@ -49,7 +49,7 @@ returns c = let a = c.args.a in
     let few = c.fewer-count.ensures in
     let need : c.if-count-eq0.need ≡ length (sub_octets (sub_octets_of a)) =
     elim c.if-count-eq0.branch [
-      then-count-eq0 v ↦ omega (arith, v.need-is, sub_absent a long few v.if-count-eq0.true)
+      | then-count-eq0 v ↦ omega (arith, v.need-is, sub_absent a long few v.if-count-eq0.true)
       | else-count-eq0 v ↦ omega (arith, v.need-is, sub_present a long few v.if-count-eq0.false)
     ] in
     puts_all (omega (arith, need)) c.write_sub.ensures

@@ -1,5 +1,4 @@
 use Rattle.profile.proofs.Records.{digits_copied}
-use borrow.Author.Rules.{rules}
 use Rattle.profile.proofs.access.digits_from.Goals as goal
 
 pub returns : goal.returns

@@ -1,5 +1,4 @@
 use Rattle.profile.proofs.Records.{prefix_made}
-use borrow.Author.Rules.{rules}
 use Rattle.profile.proofs.access.prefix_from.Goals as goal
 
 pub returns : goal.returns

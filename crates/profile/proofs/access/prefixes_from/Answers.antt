@@ -1,6 +1,5 @@
 use Rattle.profile.specs.Profile.{prefixes_most}
-use Rattle.profile.proofs.Records.{Prefixed, prefixes_first, prefixes_next, prefixes_all}
-use Prim.Native.Nat.{◌-◌, ◌≤◌}
+use Rattle.profile.proofs.Records.{prefixes_first, prefixes_next, prefixes_all}
 use native.Mathlib.Omega.{arith}
 use mathlib.Core.Path.{◌≡◌}
 use borrow.Author.Rules.{rules}

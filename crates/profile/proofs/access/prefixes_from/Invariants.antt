@@ -1,9 +1,6 @@
 use Rattle.profile.specs.Profile.{prefixes_most}
-use Rattle.profile.proofs.Records.{Prefixed, prefixes_first, prefixes_next, prefixes_all}
+use Rattle.profile.proofs.Records.{Prefixed}
 use Prim.Native.Nat.{◌-◌, ◌≤◌}
-use native.Mathlib.Omega.{arith}
-use mathlib.Core.Path.{◌≡◌}
-use borrow.Author.Rules.{rules}
 use Rattle.profile.proofs.access.prefixes_from.Given as goal
 
 abbrev pub invariant-loop-k : goal.invariant-loop-k

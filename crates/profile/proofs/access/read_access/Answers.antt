@@ -1,7 +1,6 @@
 use Rattle.profile.specs.Access.{access_read}
 use mathlib.Core.Path.{sym, ◌∙◌}
-use borrow.Author.Tests.{eq-eqb, ne_eqb, not-true, not-false}
-use borrow.Author.Rules.{rules}
+use borrow.Author.Tests.{eq-eqb, ne_eqb}
 use Rattle.profile.proofs.access.read_access.Goals as goal
 
 pub returns-then-access-ne-ACCESSSIZE : goal.returns-then-access-ne-ACCESSSIZE

@@ -1,16 +1,8 @@
-use Rattle.laws.proofs.Cases.{cases}
-use Rattle.profile.proofs.Profiles.{number_fits, numbers_fit, numbers_fair}
-use Rattle.profile.proofs.Firsts.{same_at, first_here, later_not}
-use Rattle.profile.specs.Profile.{numbers_most, numbers_good}
+use Rattle.profile.proofs.Profiles.{number_fits}
+use Rattle.profile.proofs.Firsts.{same_at}
 use Rattle.laws.specs.Places.{count_to, every_to}
-use Rattle.laws.proofs.Parts.{unmapped}
-use Rattle.laws.proofs.Walks.{count_none, count_skip, every_none, every_more, every_fails}
-use borrow.Author.Tests.{eq-eqb, ne_eqb, not-true, not-false}
-use borrow.Author.Rules.{rules}
-use native.Mathlib.Omega.{arith}
-use lib.ListN.{length}
 use Prim.Native.Nat.{◌-◌, ◌≤◌}
-use mathlib.Core.Path.{◌≡◌, sym, ap, ◌∙◌}
+use mathlib.Core.Path.{◌≡◌}
 use mathlib.Core.Bool.{true}
 use Rattle.profile.proofs.profile.numbers_good.Given as goal
 

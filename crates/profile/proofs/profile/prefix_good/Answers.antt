@@ -1,5 +1,4 @@
 use Rattle.profile.specs.Profile.{prefix_good}
-use borrow.Author.Rules.{rules}
 use Rattle.profile.proofs.profile.prefix_good.Goals as goal
 
 pub returns : goal.returns

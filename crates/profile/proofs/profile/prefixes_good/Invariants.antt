@@ -1,13 +1,7 @@
-use Rattle.laws.proofs.Cases.{cases}
-use Rattle.profile.proofs.Profiles.{prefix_fits, prefixes_fair}
-use Rattle.profile.specs.Profile.{prefixes_good}
+use Rattle.profile.proofs.Profiles.{prefix_fits}
 use Rattle.laws.specs.Places.{every_to}
-use Rattle.laws.proofs.Walks.{every_none, every_more, every_fails}
-use borrow.Author.Tests.{not-true, not-false}
-use borrow.Author.Rules.{rules}
-use native.Mathlib.Omega.{arith}
 use Prim.Native.Nat.{◌-◌, ◌≤◌}
-use mathlib.Core.Path.{◌≡◌, sym, ap, ◌∙◌}
+use mathlib.Core.Path.{◌≡◌}
 use mathlib.Core.Bool.{true}
 use Rattle.profile.proofs.profile.prefixes_good.Given as goal
 

@@ -1,7 +1,5 @@
 use Rattle.laws.proofs.Picks.{pick_last}
 use Rattle.profile.specs.Profile.{profile_good}
-use borrow.Author.Tests.{not-true, not-false}
-use borrow.Author.Rules.{rules}
 use mathlib.Core.Path.{sym, ◌∙◌}
 use Rattle.profile.proofs.profile.profile_good.Goals as goal
 

@@ -1,5 +1,4 @@
 use Rattle.profile.specs.Profile.{same}
-use borrow.Author.Rules.{rules}
 use Rattle.profile.proofs.profile.same.Goals as goal
 
 pub returns : goal.returns

@@ -1,12 +1,7 @@
-use Rattle.numbers.specs.Number.{most}
-use Rattle.profile.proofs.Profiles.{same_last}
 use Rattle.profile.specs.Profile.{same_digits}
-use borrow.Author.Tests.{eq-eqb, ne_eqb}
-use borrow.Author.Rules.{rules}
-use native.Mathlib.Omega.{arith}
-use lib.ListN.{length, take}
-use Prim.Native.Nat.{◌-◌, ◌≤◌}
-use mathlib.Core.Path.{◌≡◌, refl, sym, ◌∙◌}
+use lib.ListN.{take}
+use Prim.Native.Nat.{◌≤◌}
+use mathlib.Core.Path.{◌≡◌}
 use Rattle.profile.proofs.profile.same_digits.Given as goal
 
 abbrev pub invariant-loop-i : goal.invariant-loop-i

@@ -29,9 +29,9 @@ returns-then-a-b-3 c =
 
 pub same_digits-requires : goal.same_digits-requires
 same_digits-requires c = elim c.if-count-gt-MOST.branch [
-      then-count-gt-MOST v ↦ omega arith
-      | else-count-gt-MOST v ↦ omega arith
-    ]
+  | then-count-gt-MOST v ↦ omega arith
+  | else-count-gt-MOST v ↦ omega arith
+]
 
 pub returns : goal.returns
 returns c =
@@ -43,6 +43,6 @@ returns c =
     ∙ sym
     (same_left s t c.if-a-b.false c.if-a-b-2.false c.if-a-b-3.false
     ∙ elim c.if-count-gt-MOST.branch [
-        then-count-gt-MOST v ↦ rw v.count-is (same_all s.digits t.digits s.count v.if-count-gt-MOST.true long other)
-        | else-count-gt-MOST v ↦ rw v.count-is
-      ])
+      | then-count-gt-MOST v ↦ rw v.count-is (same_all s.digits t.digits s.count v.if-count-gt-MOST.true long other)
+      | else-count-gt-MOST v ↦ rw v.count-is
+    ])

@@ -1,9 +1,8 @@
-use Rattle.profile.proofs.Services.{Come, slot_here, slot_next, slot_none}
+use Rattle.profile.proofs.Services.{slot_here, slot_next, slot_none}
 use Rattle.profile.specs.Profile.{services_most}
 use borrow.Author.Rules.{rules}
 use native.Mathlib.Omega.{arith}
 use lib.ListN.{length}
-use Prim.Native.Nat.{◌-◌, ◌≤◌}
 use mathlib.Core.Path.{◌≡◌}
 use Rattle.profile.proofs.profile.service_slot.Goals as goal
 

@@ -1,12 +1,10 @@
 use Rattle.laws.proofs.Cases.{cases}
 use Rattle.profile.proofs.Profiles.{services_fair, rising_step, rising_end}
-use Rattle.profile.specs.Profile.{services_most, rising, services_good}
-use borrow.Author.Tests.{lt-ltb, le-ltb, not-true, not-false}
+use Rattle.profile.specs.Profile.{services_most, services_good}
+use borrow.Author.Tests.{lt-ltb, le-ltb}
 use borrow.Author.Rules.{rules}
 use native.Mathlib.Omega.{arith}
-use lib.ListN.{length, take}
-use lib.Seq.{slice}
-use Prim.Native.Nat.{◌-◌, ◌≤◌}
+use lib.ListN.{length}
 use mathlib.Core.Path.{◌≡◌, refl, sym, ◌∙◌}
 use Rattle.profile.proofs.profile.services_good.Goals as goal
 

@@ -1,7 +1,6 @@
 use Rattle.laws.proofs.Cases.{cases}
 use Rattle.laws.proofs.Picks.{pick_last}
 use Rattle.profile.specs.Profile.{subscriptions_good}
-use borrow.Author.Rules.{rules}
 use Rattle.profile.proofs.profile.subscriptions_good.Goals as goal
 
 pub returns-then-subscribed-gt1 : goal.returns-then-subscribed-gt1

@@ -1,4 +1,4 @@
-use Rattle.std.proofs.Common.{◌≡◌, ◌-◌, ℕ, List, length, ap, ◌∙◌, Bor}
+use Rattle.std.proofs.Common.{◌-◌, ℕ, List, length, ap, ◌∙◌, Bor}
 use Rattle.reader.specs.inner.Cursor.{element_from}
 use Rattle.reader.proofs.Fills.{fills}
 use Rattle.reader.proofs.reader.one_element.Goals as goal

@@ -3,7 +3,6 @@ use Rattle.numbers.proofs.Readers.{address_found, address_none}
 use Rattle.requests.proofs.Readers.{value_found, value_none}
 use Rattle.requests.specs.Request.{activation_in}
 use borrow.Author.Tests.{not-true, not-false}
-use borrow.Author.Rules.{rules}
 use Rattle.requests.proofs.argument.activation_in.Goals as goal
 
 pub returns-in_default : goal.returns-in_default

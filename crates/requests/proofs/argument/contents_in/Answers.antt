@@ -1,6 +1,5 @@
 use Rattle.requests.specs.Request.{contents_in}
 use borrow.Author.Tests.{eq-eqb, ne_eqb}
-use borrow.Author.Rules.{rules}
 use Rattle.requests.proofs.argument.contents_in.Goals as goal
 
 pub returns-then-operation-eq-ACTIVATIONVALUE : goal.returns-then-operation-eq-ACTIVATIONVALUE

@@ -1,6 +1,5 @@
 use Rattle.requests.proofs.Readers.{value_found, value_none}
 use Rattle.requests.specs.Request.{deactivation_in}
-use borrow.Author.Rules.{rules}
 use Rattle.requests.proofs.argument.deactivation_in.Goals as goal
 
 pub returns-in_default : goal.returns-in_default

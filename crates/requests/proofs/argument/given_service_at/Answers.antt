@@ -1,6 +1,5 @@
 use Rattle.requests.specs.Request.{code_at}
 use mathlib.Core.Path.{sym, ◌∙◌}
-use borrow.Author.Rules.{rules}
 use Rattle.requests.proofs.argument.given_service_at.Goals as goal
 
 pub returns-then-service_code : goal.returns-then-service_code

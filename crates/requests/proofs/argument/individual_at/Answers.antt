@@ -1,7 +1,6 @@
 use Rattle.numbers.specs.Number.{number_at}
 use Rattle.numbers.proofs.Readers.{number_found, number_none}
 use borrow.Author.Tests.{not-true, not-false}
-use borrow.Author.Rules.{rules}
 use Rattle.requests.proofs.argument.individual_at.Goals as goal
 
 pub returns-then-not-n : goal.returns-then-not-n

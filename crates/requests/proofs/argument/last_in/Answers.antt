@@ -2,7 +2,6 @@ use Rattle.requests.proofs.Readers.{served_found, served_none}
 use Rattle.requests.specs.Request.{served_at, last_in}
 use borrow.Author.Tests.{not-true, not-false}
 use mathlib.Core.Path.{sym, ◌∙◌}
-use borrow.Author.Rules.{rules}
 use Rattle.requests.proofs.argument.last_in.Goals as goal
 
 pub returns-then-not-found : goal.returns-then-not-found

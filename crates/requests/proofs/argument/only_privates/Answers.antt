@@ -1,12 +1,10 @@
 use Rattle.skip.proofs.Skips.{further}
 use Rattle.skip.specs.Skip.{skip_depth}
 use Rattle.requests.proofs.Readers.{privates_past, privates_step}
-use Rattle.requests.specs.Request.{private_at, privates}
+use Rattle.requests.specs.Request.{private_at}
 use native.Mathlib.Omega.{arith}
 use borrow.Author.Tests.{eq-eqb, ne_eqb}
-use mathlib.Core.Path.{◌≡◌, refl, sym, ◌∙◌}
-use borrow.Author.Rules.{rules}
-use Prim.Native.Nat.{◌-◌}
+use mathlib.Core.Path.{refl, sym, ◌∙◌}
 use Rattle.requests.proofs.argument.only_privates.Goals as goal
 
 pub loop-here-init : goal.loop-here-init

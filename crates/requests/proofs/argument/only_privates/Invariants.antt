@@ -1,11 +1,5 @@
-use Rattle.skip.proofs.Skips.{further}
-use Rattle.skip.specs.Skip.{skip_depth}
-use Rattle.requests.proofs.Readers.{privates_past, privates_step}
-use Rattle.requests.specs.Request.{private_at, privates}
-use native.Mathlib.Omega.{arith}
-use borrow.Author.Tests.{eq-eqb, ne_eqb}
-use mathlib.Core.Path.{◌≡◌, refl, sym, ◌∙◌}
-use borrow.Author.Rules.{rules}
+use Rattle.requests.specs.Request.{privates}
+use mathlib.Core.Path.{◌≡◌}
 use Prim.Native.Nat.{◌-◌}
 use Rattle.requests.proofs.argument.only_privates.Given as goal
 

@@ -2,7 +2,6 @@ use Rattle.codes.proofs.Tables.{procedure_code_lem}
 use Rattle.requests.specs.Request.{code_at}
 use borrow.Author.Tests.{lt-ltb, le-ltb}
 use mathlib.Core.Path.{sym, ◌∙◌}
-use borrow.Author.Rules.{rules}
 use Rattle.requests.proofs.argument.procedure_at.Goals as goal
 
 pub returns-then-value-lt-PROCEDURES : goal.returns-then-value-lt-PROCEDURES

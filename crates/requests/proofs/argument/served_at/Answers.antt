@@ -1,7 +1,6 @@
 use Rattle.requests.specs.Request.{served_at}
 use borrow.Author.Tests.{eq-eqb, ne_eqb}
 use mathlib.Core.Path.{sym, ◌∙◌}
-use borrow.Author.Rules.{rules}
 use Rattle.requests.proofs.argument.served_at.Goals as goal
 
 pub returns-then-start-stop : goal.returns-then-start-stop

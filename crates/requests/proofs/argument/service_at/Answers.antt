@@ -1,6 +1,5 @@
 use Rattle.requests.specs.Request.{service_at}
 use borrow.Author.Tests.{lt-ltb, le-ltb, eq-eqb, ne_eqb}
-use borrow.Author.Rules.{rules}
 use Rattle.requests.proofs.argument.service_at.Goals as goal
 
 pub returns-then-end-at : goal.returns-then-end-at

@@ -2,7 +2,6 @@ use Rattle.requests.proofs.Numbers.{hears}
 use Rattle.requests.proofs.Filled.{heard_one}
 use mathlib.Core.Path.{sym, ◌∙◌}
 use borrow.Author.Tests.{eq-eqb, ne_eqb}
-use borrow.Author.Rules.{rules}
 use Rattle.requests.proofs.heard.hear.Goals as goal
 
 pub returns-then-reply_tag : goal.returns-then-reply_tag

@@ -1,4 +1,3 @@
-use borrow.Author.Rules.{rules}
 use Rattle.requests.proofs.request.to_nowhere.Goals as goal
 
 pub returns : goal.returns

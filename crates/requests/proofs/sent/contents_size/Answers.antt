@@ -1,6 +1,5 @@
 use Rattle.requests.proofs.Sizes.{contents_size}
 use native.Mathlib.Omega.{arith}
-use borrow.Author.Rules.{rules}
 use Rattle.requests.proofs.sent.contents_size.Goals as goal
 
 pub returns : goal.returns

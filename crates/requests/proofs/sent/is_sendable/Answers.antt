@@ -1,7 +1,6 @@
 use Rattle.requests.proofs.Goods.{sendable_is}
 use Rattle.codes.proofs.Tables.{procedure_code_lem}
 use borrow.Author.Tests.{lt-ltb, le-ltb}
-use borrow.Author.Rules.{rules}
 use Rattle.requests.proofs.sent.is_sendable.Goals as goal
 
 pub returns-then-r-lt-PROCEDURES : goal.returns-then-r-lt-PROCEDURES

@@ -1,7 +1,6 @@
 use Rattle.requests.proofs.Goods.{parts_good_is}
 use mathlib.Core.Path.{sym, ◌∙◌}
 use borrow.Author.Tests.{eq-eqb, ne_eqb}
-use borrow.Author.Rules.{rules}
 use Rattle.requests.proofs.sent.parts_good.Goals as goal
 
 pub returns-then-to_good : goal.returns-then-to_good

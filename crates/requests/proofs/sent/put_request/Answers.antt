@@ -1,6 +1,6 @@
 use Rattle.requests.specs.Sent.{request_octets}
 use Rattle.requests.proofs.Senders.{room_contents, request_wrote, not_sendable, not_room, is_sent_lem}
-use Rattle.requests.proofs.Sizes.{contents_size, operation_size, inside_size, request_size}
+use Rattle.requests.proofs.Sizes.{operation_size, inside_size, request_size}
 use Rattle.values.proofs.Idents.{ident_most_lem}
 use mir.Facts.{to_z-of_z, to_z_pos}
 use mir.Syntax.{w16}
@@ -8,8 +8,6 @@ use lib.ListN.{length}
 use mathlib.Core.Path.{sym, ◌∙◌}
 use Prim.Native.Nat.{◌≤◌}
 use native.Mathlib.Omega.{arith}
-use borrow.Author.Tests.{not-true, not-false}
-use borrow.Author.Rules.{rules}
 use Rattle.requests.proofs.sent.put_request.Goals as goal
 
 pub returns-then-not-is_sendable : goal.returns-then-not-is_sendable

@@ -1,6 +1,5 @@
 use Rattle.requests.proofs.Goods.{served_good_is}
 use borrow.Author.Tests.{eq-eqb, ne_eqb}
-use borrow.Author.Rules.{rules}
 use Rattle.requests.proofs.sent.served_good.Goals as goal
 
 pub returns-then-served-eq1 : goal.returns-then-served-eq1

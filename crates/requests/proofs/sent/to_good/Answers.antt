@@ -1,6 +1,5 @@
 use Rattle.requests.proofs.Goods.{to_good_is}
 use borrow.Author.Tests.{eq-eqb, ne_eqb}
-use borrow.Author.Rules.{rules}
 use Rattle.requests.proofs.sent.to_good.Goals as goal
 
 pub returns-then-to-eq0 : goal.returns-then-to-eq0

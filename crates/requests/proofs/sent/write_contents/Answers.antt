@@ -3,7 +3,6 @@ use Rattle.requests.proofs.Senders.{room_rest, contents_wrote}
 use Rattle.requests.specs.Sent.{served_octets, to_octets}
 use Rattle.laws.proofs.Over.{room_then}
 use native.Mathlib.Omega.{arith}
-use borrow.Author.Rules.{rules}
 use Rattle.requests.proofs.sent.write_contents.Goals as goal
 
 pub write_to-k-requires : goal.write_to-k-requires

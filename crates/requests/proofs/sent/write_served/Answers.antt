@@ -2,7 +2,6 @@ use Rattle.requests.proofs.Sizes.{all_octets, one_octets}
 use Rattle.octets.proofs.Elements.{headed}
 use Rattle.laws.proofs.Over.{wrote, wrote_none}
 use mathlib.Core.Path.{refl}
-use borrow.Author.Rules.{rules}
 use Rattle.requests.proofs.sent.write_served.Goals as goal
 
 pub returns-then-served-eq1 : goal.returns-then-served-eq1

@@ -1,6 +1,5 @@
 use Rattle.requests.proofs.Sizes.{to_octets_lem, to_none}
 use Rattle.laws.proofs.Over.{wrote, wrote_none}
-use borrow.Author.Rules.{rules}
 use Rattle.requests.proofs.sent.write_to.Goals as goal
 
 pub returns-then-operation-eq-ACTIVATION : goal.returns-then-operation-eq-ACTIVATION

@@ -1,5 +1,4 @@
 use Rattle.rules.proofs.Changes.{put_applied, clear_applied, applied_other}
-use borrow.Author.Rules.{rules}
 use mathlib.Core.Path.{sym}
 use Rattle.rules.proofs.judge.apply_request.Goals as goal
 

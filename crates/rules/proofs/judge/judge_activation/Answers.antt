@@ -1,6 +1,5 @@
-use borrow.Author.Tests.{eq-eqb, ne_eqb, not-true, not-false}
+use borrow.Author.Tests.{eq-eqb, ne_eqb}
 use mathlib.Core.Path.{sym, ◌∙◌}
-use borrow.Author.Rules.{rules}
 use Rattle.rules.proofs.Judges.{judged_fails, judged_passes}
 use Rattle.rules.proofs.judge.judge_activation.Goals as goal
 

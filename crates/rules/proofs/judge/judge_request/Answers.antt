@@ -2,7 +2,6 @@ use Rattle.rules.specs.Judge.{verdict_no}
 use Rattle.rules.proofs.Judges.{judged_fails, judged_passes, judged_put, judged_clear, renews_other, judge_fails, judge_interrogation}
 use Rattle.lists.specs.Entries.{instances_most}
 use Rattle.instances.specs.Run.{instances_of}
-use borrow.Author.Rules.{rules}
 use mathlib.Core.Path.{sym, ap, ◌∙◌}
 use Rattle.rules.proofs.judge.judge_request.Goals as goal
 

@@ -1,9 +1,8 @@
-use Rattle.rules.proofs.Begins.{Begun, begun_next, begun_other, begun_all, begun_short}
+use Rattle.rules.proofs.Begins.{begun_next, begun_other, begun_all, begun_short}
 use Rattle.numbers.specs.Number.{most}
 use borrow.Author.Rules.{rules}
 use native.Mathlib.Omega.{arith}
 use lib.ListN.{length}
-use Prim.Native.Nat.{◌-◌, ◌≤◌}
 use mathlib.Core.Path.{◌≡◌, refl}
 use Rattle.rules.proofs.prefix.begins_with.Goals as goal
 

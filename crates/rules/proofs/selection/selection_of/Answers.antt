@@ -1,5 +1,4 @@
 use Rattle.rules.specs.Selection.{selection_of}
-use borrow.Author.Rules.{rules}
 use Rattle.rules.proofs.selection.selection_of.Goals as goal
 
 pub returns : goal.returns

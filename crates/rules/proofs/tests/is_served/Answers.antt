@@ -1,4 +1,3 @@
-use borrow.Author.Rules.{rules}
 use Rattle.rules.proofs.tests.is_served.Goals as goal
 
 pub returns : goal.returns

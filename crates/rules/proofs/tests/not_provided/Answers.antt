@@ -1,7 +1,6 @@
 use Rattle.laws.proofs.Cases.{cases}
 use Rattle.laws.proofs.Picks.{pick_last}
 use Rattle.rules.specs.Judge.{not_provided}
-use borrow.Author.Rules.{rules}
 use Rattle.rules.proofs.tests.not_provided.Goals as goal
 
 pub returns-then-r-eq0 : goal.returns-then-r-eq0

@@ -1,11 +1,8 @@
-use Rattle.rules.proofs.TestLaws.{Compared, compared_here, compared_skip, compared_other, compared_none}
-use Rattle.profile.specs.Profile.{numbers_most}
+use Rattle.rules.proofs.TestLaws.{compared_here, compared_skip, compared_other, compared_none}
 use Rattle.laws.proofs.Parts.{unmapped}
 use borrow.Author.Rules.{rules}
 use native.Mathlib.Omega.{arith}
-use lib.ListN.{length}
-use Prim.Native.Nat.{◌-◌, ◌≤◌}
-use mathlib.Core.Path.{◌≡◌, refl, sym, ◌∙◌}
+use mathlib.Core.Path.{refl, sym, ◌∙◌}
 use Rattle.rules.proofs.tests.selected_same.Goals as goal
 use Rattle.rules.proofs.tests.selected_same.Goals.{else-is_asked, then-is_asked+else-same}
 
@@ -30,11 +27,11 @@ loop-k-preserved c =
       omega arith,
       c.loop-k.invariant.1,
       elim c.if-is_asked.branch [
-      then-is_asked+else-same w ↦ compared_other s.p s.asked s.p.numbercount s.p.numbers s.to c.loop-k.k (omega arith) (omega arith)
-          (sym c.is_asked.ensures ∙ w.if-is_asked.true) (sym w.same.ensures ∙ w.if-same.false) c.loop-k.invariant.2
-      | else-is_asked w ↦ compared_skip s.p s.asked s.p.numbercount s.p.numbers s.to c.loop-k.k (omega arith) (omega arith)
-          (sym c.is_asked.ensures ∙ w.if-is_asked.false) c.loop-k.invariant.2
-    ],
+        | then-is_asked+else-same w ↦ compared_other s.p s.asked s.p.numbercount s.p.numbers s.to c.loop-k.k (omega arith) (omega arith)
+            (sym c.is_asked.ensures ∙ w.if-is_asked.true) (sym w.same.ensures ∙ w.if-same.false) c.loop-k.invariant.2
+        | else-is_asked w ↦ compared_skip s.p s.asked s.p.numbercount s.p.numbers s.to c.loop-k.k (omega arith) (omega arith)
+            (sym c.is_asked.ensures ∙ w.if-is_asked.false) c.loop-k.invariant.2
+      ],
     )
 
 pub returns : goal.returns

@@ -1,12 +1,8 @@
-use Rattle.rules.proofs.TestLaws.{Compared, compared_here, compared_skip, compared_other, compared_none}
+use Rattle.rules.proofs.TestLaws.{Compared}
 use Rattle.profile.specs.Profile.{numbers_most}
-use Rattle.laws.proofs.Parts.{unmapped}
-use borrow.Author.Rules.{rules}
-use native.Mathlib.Omega.{arith}
 use lib.ListN.{length}
 use Prim.Native.Nat.{◌-◌, ◌≤◌}
-use mathlib.Core.Path.{◌≡◌, refl, sym, ◌∙◌}
-use mathlib.Core.Logic.{⊎_elim}
+use mathlib.Core.Path.{◌≡◌}
 use Rattle.rules.proofs.tests.selected_same.Given as goal
 
 abbrev pub invariant-loop-k : goal.invariant-loop-k

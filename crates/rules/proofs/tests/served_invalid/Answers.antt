@@ -1,7 +1,6 @@
 use Rattle.laws.proofs.Cases.{cases}
 use Rattle.laws.proofs.Picks.{pick_last}
 use Rattle.rules.specs.Judge.{served_invalid}
-use borrow.Author.Rules.{rules}
 use Rattle.rules.proofs.tests.served_invalid.Goals as goal
 
 pub returns-then-p-eq0 : goal.returns-then-p-eq0

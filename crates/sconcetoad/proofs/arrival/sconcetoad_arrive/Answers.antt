@@ -1,5 +1,4 @@
 use mathlib.Core.Path.{ap, ◌∙◌}
-use borrow.Author.Rules.{rules}
 use Rattle.refusals.specs.Refusal.{refusal_in}
 use Rattle.sconcetoad.proofs.arrival.sconcetoad_arrive.Goals as goal
 

@@ -2,7 +2,6 @@ use Rattle.end.specs.declared.show.Shown.{Shown}
 use Rattle.sconcetoad.specs.Desk.{page_of}
 use Rattle.end.specs.Shown.{shown_no}
 use mathlib.Core.Path.{sym, ap}
-use borrow.Author.Rules.{rules}
 use Rattle.sconcetoad.proofs.desk.page_of.Goals as goal
 
 pub returns-in-Refuses : goal.returns-in-Refuses

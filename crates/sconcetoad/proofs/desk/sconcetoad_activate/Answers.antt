@@ -1,6 +1,5 @@
 use Rattle.refusals.specs.Refusal.{refusal_in}
 use mathlib.Core.Path.{ap, ◌∙◌}
-use borrow.Author.Rules.{rules}
 use Rattle.sconcetoad.proofs.desk.sconcetoad_activate.Goals as goal
 
 pub returns : goal.returns

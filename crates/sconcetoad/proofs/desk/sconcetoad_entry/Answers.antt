@@ -1,6 +1,5 @@
 use Rattle.sconcetoad.specs.Desk.{page_of}
 use mathlib.Core.Path.{ap, ◌∙◌}
-use borrow.Author.Rules.{rules}
 use Rattle.sconcetoad.proofs.desk.sconcetoad_entry.Goals as goal
 
 pub returns : goal.returns

@@ -1,7 +1,6 @@
 use Rattle.sconcetoad.specs.Diversion.{call_told}
 use Rattle.sconcetoad.specs.declared.diversion.CallTold.{CallTold}
 use mathlib.Core.Path.{ap, ◌∙◌}
-use borrow.Author.Rules.{rules}
 use Rattle.sconcetoad.proofs.diversion.sconcetoad_original.Goals as goal
 
 pub returns : goal.returns

@@ -2,7 +2,6 @@ use Rattle.calls.specs.Divert.{coming_told}
 use Rattle.calls.specs.declared.diverting.Coming.{Coming}
 use Rattle.sconcetoad.specs.Diversion.{call_told}
 use mathlib.Core.Path.{sym, ap}
-use borrow.Author.Rules.{rules}
 use Rattle.sconcetoad.proofs.diversion.told_of.Goals as goal
 
 pub returns-in-Refuses : goal.returns-in-Refuses

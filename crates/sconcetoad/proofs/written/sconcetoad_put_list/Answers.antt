@@ -1,7 +1,6 @@
 use mir.Facts.{to_z-of_z}
 use Rattle.refusals.specs.Refusal.{refusal_in}
 use mathlib.Core.Path.{ap, ◌∙◌}
-use borrow.Author.Rules.{rules}
 use Rattle.sconcetoad.proofs.written.sconcetoad_put_list.Goals as goal
 
 pub returns : goal.returns

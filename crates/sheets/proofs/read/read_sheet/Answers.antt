@@ -1,7 +1,6 @@
 use Rattle.sheets.proofs.Tables.{reads_profile, reads_form, reads_outside, reads_table}
 use mathlib.Core.Path.{sym, ◌∙◌}
 use borrow.Author.Tests.{not-true, not-false}
-use borrow.Author.Rules.{rules}
 use Rattle.sheets.proofs.read.read_sheet.Goals as goal
 
 pub returns-then-not-read : goal.returns-then-not-read

@@ -1,4 +1,3 @@
-use borrow.Author.Rules.{rules}
 use Rattle.sheets.proofs.read.refuses.Goals as goal
 
 pub returns : goal.returns

@@ -1,4 +1,4 @@
-use Rattle.sheets.proofs.Writers.{Come, come_first, come_next, come_all}
+use Rattle.sheets.proofs.Writers.{come_first, come_next, come_all}
 use Rattle.numbers.specs.Number.{most}
 use lib.ListN.{length, get_or}
 use mir.Val.{Fits}
@@ -6,7 +6,6 @@ use mir.Syntax.{w8}
 use native.Mathlib.Omega.{arith}
 use mathlib.Core.Path.{◌≡◌, refl}
 use borrow.Author.Rules.{rules}
-use Prim.Native.Nat.{◌-◌, ◌≤◌}
 use Rattle.sheets.proofs.write.write_above.Goals as goal
 
 pub loop-i-init : goal.loop-i-init

@@ -1,11 +1,6 @@
-use Rattle.sheets.proofs.Writers.{Come, come_first, come_next, come_all}
-use Rattle.numbers.specs.Number.{most}
-use lib.ListN.{length, get_or}
-use mir.Val.{Fits}
-use mir.Syntax.{w8}
-use native.Mathlib.Omega.{arith}
-use mathlib.Core.Path.{◌≡◌, refl}
-use borrow.Author.Rules.{rules}
+use Rattle.sheets.proofs.Writers.{Come}
+use lib.ListN.{length}
+use mathlib.Core.Path.{◌≡◌}
 use Prim.Native.Nat.{◌-◌, ◌≤◌}
 use Rattle.sheets.proofs.write.write_above.Given as goal
 

@@ -17,8 +17,7 @@ write_address-requires c = let small : length (all_groups (instance_fields c.arg
     let digits : length x.address.number.digits ≡ most = search (rules, c.well_formed) in
     let sub : length x.address.sub ≡ most = search (rules, c.well_formed) in
     let octet : (i : ℕ) → Fits w8 (get_or x.address.sub i 0) = λ i. search (rules, c.well_formed) in
-    writable_most x c.requires.0 record { digits = digits; sub = sub; octets = λ i. (octet i).fits } in
-    (
+    writable_most x c.requires.0 record { digits = digits; sub = sub; octets = λ i. (octet i).fits } in (
       c.requires.0.address,
       instance_room c.args.x small c.requires.1 c.put_groups-p.ensures c.put_groups-q.ensures
           c.put_groups-k.ensures,

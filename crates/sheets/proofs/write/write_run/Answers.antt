@@ -1,14 +1,12 @@
 use Rattle.instances.specs.Places.{run_most}
 use Rattle.instances.specs.Run.{instances_of}
 use Rattle.instances.proofs.Runs.{outside}
-use Rattle.sheets.specs.inner.Write.{WroteInstances}
 use Rattle.sheets.proofs.InstanceWriters.{writable_at, run_first, run_all, run_space, run_next, met, met_all, met_whole}
-use lib.ListN.{length, take, get_or}
+use lib.ListN.{length, get_or}
 use native.Mathlib.Omega.{arith}
 use mathlib.Core.Path.{◌≡◌, refl}
 use borrow.Author.Rules.{rules}
 use Rattle.laws.proofs.Parts.{unmapped}
-use Prim.Native.Nat.{◌-◌, ◌≤◌}
 use Rattle.sheets.proofs.write.write_run.Goals as goal
 
 pub loop-i-init : goal.loop-i-init

@@ -1,6 +1,5 @@
 use Rattle.laws.proofs.Cases.{cases}
 use Rattle.testtext.specs.Hex.{hex_character}
-use borrow.Author.Rules.{rules}
 use Rattle.testtext.proofs.hex.hex_character.Goals as goal
 
 pub returns-then-d-lt10 : goal.returns-then-d-lt10

@@ -1,6 +1,5 @@
 use Rattle.laws.proofs.Cases.{cases}
 use Rattle.testtext.specs.Hex.{hex_digit}
-use borrow.Author.Rules.{rules}
 use Rattle.testtext.proofs.hex.hex_digit.Goals as goal
 
 pub returns-then-c-lt48 : goal.returns-then-c-lt48

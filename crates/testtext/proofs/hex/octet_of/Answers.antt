@@ -1,6 +1,5 @@
 use native.Mathlib.Omega.{arith}
 use Rattle.testtext.proofs.Hexes.{hex_small}
-use borrow.Author.Rules.{rules}
 use Rattle.testtext.proofs.hex.octet_of.Goals as goal
 
 pub overflow_mul-result : goal.overflow_mul-result

@@ -1,11 +1,7 @@
-use borrow.Author.Rules.{rules}
 use Prim.Native.Nat.{◌≤◌, ◌+◌, ◌-◌}
-use mathlib.Core.Path.{◌≡◌, refl, sym, ◌∙◌}
+use mathlib.Core.Path.{◌≡◌}
 use lib.ListN.{length}
-use native.Mathlib.Omega.{arith}
-use borrow.Author.Tests.{eq-eqb, ne_eqb}
 use Rattle.testtext.specs.Line.{found_from}
-use Rattle.testtext.proofs.Lines.{found_here, found_next, found_end}
 use Rattle.testtext.proofs.line.find.Given as goal
 
 abbrev pub invariant-loop-i : goal.invariant-loop-i

@@ -1,9 +1,5 @@
-use borrow.Author.Rules.{rules}
-use Prim.Native.Nat.{◌≤◌, ◌-◌}
-use mathlib.Core.Path.{◌≡◌, refl, sym, ◌∙◌}
-use lib.ListN.{length, drop}
+use mathlib.Core.Path.{refl, sym, ◌∙◌}
 use native.Mathlib.Omega.{arith}
-use Rattle.testtext.specs.Line.{number_after}
 use Rattle.testtext.proofs.Lines.{number_next, number_end}
 use Rattle.testtext.proofs.line.last_number.Goals as goal
 

@@ -1,10 +1,7 @@
-use borrow.Author.Rules.{rules}
 use Prim.Native.Nat.{◌≤◌, ◌-◌}
-use mathlib.Core.Path.{◌≡◌, refl, sym, ◌∙◌}
+use mathlib.Core.Path.{◌≡◌}
 use lib.ListN.{length, drop}
-use native.Mathlib.Omega.{arith}
 use Rattle.testtext.specs.Line.{number_after}
-use Rattle.testtext.proofs.Lines.{number_next, number_end}
 use Rattle.testtext.proofs.line.last_number.Given as goal
 
 abbrev pub invariant-loop-i : goal.invariant-loop-i

@@ -1,7 +1,6 @@
 use borrow.Author.Tests.{ne_eqb}
 use Rattle.laws.proofs.Cases.{cases}
 use Rattle.testtext.specs.Line.{next_number}
-use borrow.Author.Rules.{rules}
 use Rattle.testtext.proofs.line.next_number.Goals as goal
 
 pub returns-then-c-eq32 : goal.returns-then-c-eq32

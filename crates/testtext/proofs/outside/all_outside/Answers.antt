@@ -1,13 +1,7 @@
-use borrow.Author.Rules.{rules}
-use Prim.Native.Nat.{◌≤◌, ◌-◌}
 use mathlib.Core.Path.{◌≡◌, sym, ◌∙◌}
-use mathlib.Core.Bool.{true}
-use lib.ListN.{length, get_or}
+use lib.ListN.{length}
 use native.Mathlib.Omega.{arith}
-use borrow.Author.Tests.{not-true, not-false}
-use Rattle.laws.specs.Places.{every_to}
 use Rattle.laws.proofs.Walks.{every_none, every_fails, every_more}
-use Rattle.testtext.specs.Outside.{octet_passes}
 use Rattle.testtext.proofs.outside.all_outside.Goals as goal
 
 pub loop-i-init : goal.loop-i-init

@@ -1,12 +1,8 @@
-use borrow.Author.Rules.{rules}
 use Prim.Native.Nat.{◌≤◌, ◌-◌}
-use mathlib.Core.Path.{◌≡◌, sym, ◌∙◌}
+use mathlib.Core.Path.{◌≡◌}
 use mathlib.Core.Bool.{true}
 use lib.ListN.{length, get_or}
-use native.Mathlib.Omega.{arith}
-use borrow.Author.Tests.{not-true, not-false}
 use Rattle.laws.specs.Places.{every_to}
-use Rattle.laws.proofs.Walks.{every_none, every_fails, every_more}
 use Rattle.testtext.specs.Outside.{octet_passes}
 use Rattle.testtext.proofs.outside.all_outside.Given as goal
 

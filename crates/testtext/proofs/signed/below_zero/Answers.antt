@@ -5,7 +5,6 @@ use mir.Syntax.{w16}
 use mir.Val.{SFits}
 use mir.Facts.{to_z-of_z, to_z_pos}
 use Rattle.values.proofs.Signs.{minus}
-use borrow.Author.Rules.{rules}
 use Rattle.testtext.proofs.signed.below_zero.Goals as goal
 
 pub overflow_sub-result : goal.overflow_sub-result

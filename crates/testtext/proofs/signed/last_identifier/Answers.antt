@@ -2,7 +2,7 @@ use mir.Syntax.{w16}
 use mir.Facts.{to_z-of_z, to_z_pos}
 use native.Mathlib.Omega.{arith}
 use mathlib.Core.Path.{◌∙◌}
-use borrow.Author.Rules.{rules, sfits_of}
+use borrow.Author.Rules.{sfits_of}
 use borrow.Author.Tests.{lt-ltb, le-ltb, eq-eqb, ne_eqb}
 use Rattle.testtext.specs.Signed.{signed_by, negated}
 use Rattle.testtext.proofs.signed.last_identifier.Goals as goal
@@ -19,21 +19,21 @@ returns-then-sign-ne45 c = rw (← c.find-at.ensures.is, ← c.last_number-n.ens
 pub returns-then-n-eq0 : goal.returns-then-n-eq0
 unfolding signed_by negated
 returns-then-n-eq0 c = rw (
-      ← c.find-at.ensures.is,
-      ← c.last_number-n.ensures,
-      le-ltb _ _ c.if-s-at-lt2.false,
-      eq-eqb _ _
-          c.if-sign-ne45.false,
-      eq-eqb _ _ c.if-n-eq0.true,
-    )
+  ← c.find-at.ensures.is,
+  ← c.last_number-n.ensures,
+  le-ltb _ _ c.if-s-at-lt2.false,
+  eq-eqb _ _
+      c.if-sign-ne45.false,
+  eq-eqb _ _ c.if-n-eq0.true,
+)
 
 pub returns : goal.returns
 unfolding signed_by negated
 returns c = rw (
-      ← c.find-at.ensures.is,
-      ← c.last_number-n.ensures,
-      le-ltb _ _ c.if-s-at-lt2.false,
-      eq-eqb _ _ c.if-sign-ne45.false,
-      ne_eqb _ _
-          c.if-n-eq0.false,
-    ) (to_z-of_z {w = w16} (sfits_of c.below_zero.type_inv) ∙ c.below_zero.ensures)
+  ← c.find-at.ensures.is,
+  ← c.last_number-n.ensures,
+  le-ltb _ _ c.if-s-at-lt2.false,
+  eq-eqb _ _ c.if-sign-ne45.false,
+  ne_eqb _ _
+      c.if-n-eq0.false,
+) (to_z-of_z {w = w16} (sfits_of c.below_zero.type_inv) ∙ c.below_zero.ensures)

@@ -1,9 +1,6 @@
-use borrow.Author.Rules.{rules}
-use Prim.Native.Nat.{◌-◌}
 use native.Mathlib.Omega.{arith}
-use lib.ListN.{length}
 use Rattle.testtext.specs.Words.{word_octet}
-use Rattle.testtext.proofs.Octets.{Going, going_none, going_next, going_full, going_short}
+use Rattle.testtext.proofs.Octets.{going_none, going_next, going_full, going_short}
 use Rattle.testtext.proofs.words.octets_from.Goals as goal
 
 pub loop-n-init : goal.loop-n-init

@@ -1,5 +1,4 @@
 use Rattle.end.proofs.Waitings.{written_for, written_left, written_sends}
-use borrow.Author.Rules.{rules}
 use Rattle.end.proofs.end.End.activate.Goals as goal
 
 pub send-written-requires : goal.send-written-requires

@@ -2,7 +2,6 @@ use Rattle.end.proofs.Shows.{entry_none, out_count, out_refused, out_doubt, coun
 use Rattle.end.specs.Shown.{shown_no}
 use native.Mathlib.Omega.{arith}
 use mathlib.Core.Path.{sym, ap, ◌∙◌}
-use borrow.Author.Rules.{rules}
 use Rattle.end.proofs.end.End.entry.Goals as goal
 
 pub returns-then-count-i : goal.returns-then-count-i

@@ -4,7 +4,6 @@ use Rattle.refusals.specs.declared.refusal.Refusal.TheVariants.{BadProfile, BadT
 use Rattle.profile.specs.declared.access.AccessRead.{AccessRead}
 use borrow.Author.Tests.{not-true, not-false}
 use mathlib.Core.Path.{sym, ap, ◌∙◌}
-use borrow.Author.Rules.{rules}
 use Rattle.end.proofs.end.End.give_up.Goals as goal
 
 pub returns-then-not-read : goal.returns-then-not-read

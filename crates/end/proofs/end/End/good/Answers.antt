@@ -1,8 +1,6 @@
 use Rattle.end.proofs.Ends.{rules_fail, rules_pass}
 use Rattle.lists.specs.Entries.{instances_most}
-use borrow.Author.Tests.{not-true, not-false}
 use mathlib.Core.Path.{sym, ◌∙◌}
-use borrow.Author.Rules.{rules}
 use Rattle.end.proofs.end.End.good.Goals as goal
 
 pub returns-then-not-rules_hold : goal.returns-then-not-rules_hold

@@ -7,7 +7,6 @@ use Rattle.profile.specs.declared.access.AccessRead.{AccessRead}
 use borrow.Author.Tests.{not-true, not-false}
 use native.Mathlib.Omega.{arith}
 use mathlib.Core.Path.{sym, ap, ◌∙◌}
-use borrow.Author.Rules.{rules}
 use Rattle.end.proofs.end.End.shown.Goals as goal
 
 pub returns-then-not-read : goal.returns-then-not-read

@@ -13,7 +13,6 @@ use Rattle.lists.specs.Entries.{instances_most}
 use Rattle.end.specs.End.{end_rules, end_good}
 use Rattle.end.proofs.Ends.{rules_fail, rules_pass, used_most_lem}
 use Rattle.end.proofs.Movings.{takes_long, takes_profile, takes_end, takes_all, refused_moves, all_moves}
-use borrow.Author.Rules.{rules}
 use Rattle.end.proofs.end.End.take.Goals as goal
 
 -- from a place at which a test was passed, that of the test before it

@@ -119,10 +119,10 @@ returns-after-renews c =
     let applies : c.if-renews.next ≡ applied c.read_access-read.result.profile
     c.question_of-q.result.operation c.question_of-q.result.request a.self.run =
     elim c.if-renews.branch [
-      then-renews v ↦ v.next-is ∙ renews_applied a.access.now c.read_access-read.result c.read_access-read.ensures
-    (not-false _ c.if-not-read.false) a.self.run good _ _ _
-    c.judge_request.ensures _
-    c.in-Passes.is v.if-renews.true _ v.renew_request-next.ensures
+      | then-renews v ↦ v.next-is ∙ renews_applied a.access.now c.read_access-read.result c.read_access-read.ensures
+          (not-false _ c.if-not-read.false) a.self.run good _ _ _
+          c.judge_request.ensures _
+          c.in-Passes.is v.if-renews.true _ v.renew_request-next.ensures
       | else-renews v ↦ v.next-is ∙ v.apply_request-next.ensures
     ] in
     rw (c.answers-else-operation-eq-INTERROGATION.ensures, to_z-of_z id)

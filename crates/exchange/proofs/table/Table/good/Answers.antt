@@ -1,7 +1,6 @@
 use Rattle.exchange.proofs.Tables.{table_over, table_run}
 use Rattle.lists.specs.Entries.{instances_most}
 use mathlib.Core.Path.{sym, ◌∙◌}
-use borrow.Author.Rules.{rules}
 use Rattle.exchange.proofs.table.Table.good.Goals as goal
 
 pub returns-then-self-gt-LASTMOST : goal.returns-then-self-gt-LASTMOST

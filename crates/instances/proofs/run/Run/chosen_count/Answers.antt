@@ -1,12 +1,9 @@
 use borrow.Author.Rules.{rules}
-use Prim.Native.Nat.{◌+◌, ◌-◌, ◌≤◌, min}
-use mathlib.Core.Path.{◌≡◌, sym, ap, ◌∙◌}
+use mathlib.Core.Path.{sym, ap, ◌∙◌}
 use native.Mathlib.Omega.{arith}
-use lib.ListN.{length, drop}
+use lib.ListN.{length}
 use Rattle.laws.proofs.Parts.{unmapped}
 use Rattle.instances.specs.Instance.{chosen}
-use Rattle.instances.specs.Places.{run_most}
-use Rattle.instances.specs.Run.{instances_of, listed}
 use Rattle.instances.proofs.Runs.{next_is, none_left}
 use Rattle.laws.proofs.Thoses.{those_take, those_skip, those_none}
 use Rattle.instances.proofs.run.Run.chosen_count.Goals as goal
@@ -22,22 +19,22 @@ loop-i-preserved c =
     let on = next_is a.self _ l.i l.invariant.1 l.invariant.2 (omega arith) in
     let test = sym c.is_chosen.ensures in
     elim c.if-is_chosen.branch [
-      then-is_chosen v ↦ (
-      omega arith,
-      l.invariant.1,
-      l.invariant.2,
-      omega arith,
-      omega
-          (arith, v.k-is, l.invariant.4, ap length (those_take (chosen a.sel) _ _ _ on (test ∙ v.if-is_chosen.true))),
-    )
+      | then-is_chosen v ↦ (
+        omega arith,
+        l.invariant.1,
+        l.invariant.2,
+        omega arith,
+        omega
+            (arith, v.k-is, l.invariant.4, ap length (those_take (chosen a.sel) _ _ _ on (test ∙ v.if-is_chosen.true))),
+      )
       | else-is_chosen v ↦ (
-      omega arith,
-      l.invariant.1,
-      l.invariant.2,
-      omega arith,
-      omega
-          (arith, v.k-is, l.invariant.4, ap length (those_skip (chosen a.sel) _ _ _ on (test ∙ v.if-is_chosen.false))),
-    )
+        omega arith,
+        l.invariant.1,
+        l.invariant.2,
+        omega arith,
+        omega
+            (arith, v.k-is, l.invariant.4, ap length (those_skip (chosen a.sel) _ _ _ on (test ∙ v.if-is_chosen.false))),
+      )
     ]
 
 pub returns : goal.returns

@@ -1,15 +1,8 @@
-use borrow.Author.Rules.{rules}
 use Prim.Native.Nat.{◌+◌, ◌-◌, ◌≤◌, min}
-use mathlib.Core.Path.{◌≡◌, sym, ap, ◌∙◌}
-use mathlib.Core.Logic.{⊎_elim}
-use native.Mathlib.Omega.{arith}
+use mathlib.Core.Path.{◌≡◌}
 use lib.ListN.{length, drop}
-use Rattle.laws.proofs.Parts.{unmapped}
-use Rattle.instances.specs.Instance.{chosen}
 use Rattle.instances.specs.Places.{run_most}
 use Rattle.instances.specs.Run.{instances_of, listed}
-use Rattle.instances.proofs.Runs.{next_is, none_left}
-use Rattle.laws.proofs.Thoses.{those_take, those_skip, those_none}
 use Rattle.instances.proofs.run.Run.chosen_count.Given as goal
 
 abbrev pub invariant-loop-i : goal.invariant-loop-i

@@ -1,17 +1,13 @@
 use borrow.Author.Rules.{rules}
-use Prim.Native.Nat.{◌-◌, ◌≤◌, min}
-use mathlib.Core.Path.{◌≡◌, sym, ◌∙◌}
+use mathlib.Core.Path.{sym, ◌∙◌}
 use native.Mathlib.Omega.{arith}
-use lib.ListN.{length, drop}
 use Rattle.laws.proofs.Parts.{unmapped}
-use Rattle.instances.specs.Instance.{blank_instance, spared}
-use Rattle.instances.specs.Places.{run_most}
+use Rattle.instances.specs.Instance.{spared}
 use Rattle.instances.specs.Run.{instances_of, deactivated}
-use Rattle.laws.proofs.Filled.{Filled, filled_none, filled_next, filled_done}
+use Rattle.laws.proofs.Filled.{filled_none, filled_next, filled_done}
 use Rattle.instances.proofs.Runs.{next_is, none_left, packed_done}
 use Rattle.laws.proofs.Thoses.{those_take, those_skip, those_none}
 use Rattle.instances.proofs.Choices.{kept_test, gone_test}
-use borrow.Author.Tests.{not-true, not-false}
 use Rattle.instances.proofs.run.Run.clear.Goals as goal
 use Rattle.instances.proofs.run.Run.clear.Goals.{else-not-is_chosen, then-not-is_chosen}
 
@@ -27,10 +23,10 @@ loop-i-preserved c =
     let test = sym c.is_chosen.ensures in
     let f = spared a.sel in
     elim c.if-not-is_chosen.branch [
-      then-not-is_chosen v ↦ let takes = those_take f _ _ _ on (kept_test _ (test ∙ v.if-not-is_chosen.true)) in
-    rw (v.next-is, v.k-is) (omega arith, l.invariant.1, l.invariant.2, omega arith, filled_next _ _ _ _ _ _ _ (omega arith) (rw takes at l.invariant.4))
+      | then-not-is_chosen v ↦ let takes = those_take f _ _ _ on (kept_test _ (test ∙ v.if-not-is_chosen.true)) in
+          rw (v.next-is, v.k-is) (omega arith, l.invariant.1, l.invariant.2, omega arith, filled_next _ _ _ _ _ _ _ (omega arith) (rw takes at l.invariant.4))
       | else-not-is_chosen v ↦ let skips = those_skip f _ _ _ on (gone_test _ (test ∙ v.if-not-is_chosen.false)) in
-    rw (v.next-is, v.k-is) (omega arith, l.invariant.1, l.invariant.2, omega arith, rw skips at l.invariant.4)
+          rw (v.next-is, v.k-is) (omega arith, l.invariant.1, l.invariant.2, omega arith, rw skips at l.invariant.4)
     ]
 
 pub returns : goal.returns

@@ -1,18 +1,10 @@
-use borrow.Author.Rules.{rules}
 use Prim.Native.Nat.{◌-◌, ◌≤◌, min}
-use mathlib.Core.Path.{◌≡◌, sym, ◌∙◌}
-use mathlib.Core.Logic.{⊎_elim}
-use native.Mathlib.Omega.{arith}
+use mathlib.Core.Path.{◌≡◌}
 use lib.ListN.{length, drop}
-use Rattle.laws.proofs.Parts.{unmapped}
-use Rattle.instances.specs.Instance.{blank_instance, spared}
+use Rattle.instances.specs.Instance.{blank_instance}
 use Rattle.instances.specs.Places.{run_most}
 use Rattle.instances.specs.Run.{instances_of, deactivated}
-use Rattle.laws.proofs.Filled.{Filled, filled_none, filled_next, filled_done}
-use Rattle.instances.proofs.Runs.{next_is, none_left, packed_done}
-use Rattle.laws.proofs.Thoses.{those_take, those_skip, those_none}
-use Rattle.instances.proofs.Choices.{kept_test, gone_test}
-use borrow.Author.Tests.{not-true, not-false}
+use Rattle.laws.proofs.Filled.{Filled}
 use Rattle.instances.proofs.run.Run.clear.Given as goal
 
 abbrev pub invariant-loop-i : goal.invariant-loop-i

@@ -1,14 +1,12 @@
 use borrow.Author.Rules.{rules}
-use Prim.Native.Nat.{◌+◌, ◌-◌, ◌≤◌, min}
 use mathlib.Core.Path.{◌≡◌, refl, sym, ap, ◌∙◌}
 use mathlib.Core.List.{[]}
 use native.Mathlib.Omega.{arith}
-use lib.ListN.{length, drop}
+use lib.ListN.{length}
 use Rattle.laws.proofs.Parts.{unmapped}
 use Rattle.laws.proofs.Thoses.{those_take, those_skip, those_none}
 use Rattle.instances.specs.Instance.{chosen, spared}
-use Rattle.instances.specs.Places.{run_most}
-use Rattle.instances.specs.Run.{instances_of, listed, deactivated, is_of, count_of}
+use Rattle.instances.specs.Run.{instances_of, listed, is_of, count_of}
 use Rattle.instances.proofs.Choices.{concerns_is, concerns_not, chosen_other}
 use Rattle.instances.proofs.Counts.{after_one, after_chosen, after_other}
 use Rattle.instances.proofs.Runs.{next_is, none_left}
@@ -34,39 +32,39 @@ loop-i-preserved c =
     let on = next_is a.self _ l.i l.invariant.1 l.invariant.2 (omega arith) in
     let test = sym c.is_concerned.ensures in
     elim c.if-is_concerned.branch [
-      then-is_concerned+then-is_chosen v ↦ (
-      omega arith,
-      l.invariant.1,
-      l.invariant.2,
-      omega arith,
-      omega arith,
-      omega (arith, v.found-is, l.invariant.5, ap length (those_take (chosen a.sel) _ _ _ on (sym v.is_chosen.ensures ∙ v.if-is_chosen.true))),
-      omega (arith, v.others-is, l.invariant.6, after_chosen a.sel _ _ _ on q (sym v.is_chosen.ensures ∙ v.if-is_chosen.true)),
-    )
+      | then-is_concerned+then-is_chosen v ↦ (
+        omega arith,
+        l.invariant.1,
+        l.invariant.2,
+        omega arith,
+        omega arith,
+        omega (arith, v.found-is, l.invariant.5, ap length (those_take (chosen a.sel) _ _ _ on (sym v.is_chosen.ensures ∙ v.if-is_chosen.true))),
+        omega (arith, v.others-is, l.invariant.6, after_chosen a.sel _ _ _ on q (sym v.is_chosen.ensures ∙ v.if-is_chosen.true)),
+      )
       | then-is_concerned+else-is_chosen v ↦ (
-      omega arith,
-      l.invariant.1,
-      l.invariant.2,
-      omega arith,
-      omega arith,
-      omega (arith, v.found-is, l.invariant.5, ap length (those_skip (chosen a.sel) _ _ _ on (sym v.is_chosen.ensures ∙ v.if-is_chosen.false))),
-      omega (
-        arith,
-        v.others-is,
-        l.invariant.6,
-        after_one a.sel _ _ _ on q (concerns_is a.sel _ (test ∙ v.if-is_concerned.true))
-            (sym v.is_chosen.ensures ∙ v.if-is_chosen.false),
-      ),
-    )
+        omega arith,
+        l.invariant.1,
+        l.invariant.2,
+        omega arith,
+        omega arith,
+        omega (arith, v.found-is, l.invariant.5, ap length (those_skip (chosen a.sel) _ _ _ on (sym v.is_chosen.ensures ∙ v.if-is_chosen.false))),
+        omega (
+          arith,
+          v.others-is,
+          l.invariant.6,
+          after_one a.sel _ _ _ on q (concerns_is a.sel _ (test ∙ v.if-is_concerned.true))
+              (sym v.is_chosen.ensures ∙ v.if-is_chosen.false),
+        ),
+      )
       | else-is_concerned v ↦ (
-      omega arith,
-      l.invariant.1,
-      l.invariant.2,
-      omega arith,
-      omega arith,
-      omega (arith, v.found-is, l.invariant.5, ap length (those_skip (chosen a.sel) _ _ _ on (chosen_other a.sel _ (test ∙ v.if-is_concerned.false)))),
-      omega (arith, v.others-is, l.invariant.6, after_other a.sel _ _ _ on q (concerns_not a.sel _ (test ∙ v.if-is_concerned.false))),
-    )
+        omega arith,
+        l.invariant.1,
+        l.invariant.2,
+        omega arith,
+        omega arith,
+        omega (arith, v.found-is, l.invariant.5, ap length (those_skip (chosen a.sel) _ _ _ on (chosen_other a.sel _ (test ∙ v.if-is_concerned.false)))),
+        omega (arith, v.others-is, l.invariant.6, after_other a.sel _ _ _ on q (concerns_not a.sel _ (test ∙ v.if-is_concerned.false))),
+      )
     ]
 
 pub overflow_add-result : goal.overflow_add-result

@@ -1,18 +1,8 @@
-use borrow.Author.Rules.{rules}
 use Prim.Native.Nat.{◌+◌, ◌-◌, ◌≤◌, min}
-use mathlib.Core.Path.{◌≡◌, refl, sym, ap, ◌∙◌}
-use mathlib.Core.List.{[]}
-use mathlib.Core.Logic.{⊎_elim}
-use native.Mathlib.Omega.{arith}
+use mathlib.Core.Path.{◌≡◌}
 use lib.ListN.{length, drop}
-use Rattle.laws.proofs.Parts.{unmapped}
-use Rattle.laws.proofs.Thoses.{those_take, those_skip, those_none}
-use Rattle.instances.specs.Instance.{chosen, spared}
 use Rattle.instances.specs.Places.{run_most}
-use Rattle.instances.specs.Run.{instances_of, listed, deactivated, is_of, count_of}
-use Rattle.instances.proofs.Choices.{concerns_is, concerns_not, chosen_other}
-use Rattle.instances.proofs.Counts.{after_one, after_chosen, after_other}
-use Rattle.instances.proofs.Runs.{next_is, none_left}
+use Rattle.instances.specs.Run.{instances_of, listed, deactivated, count_of}
 use Rattle.instances.proofs.run.Run.count_after.Given as goal
 
 abbrev pub invariant-loop-i : goal.invariant-loop-i

@@ -1,16 +1,12 @@
 use borrow.Author.Rules.{rules}
-use Prim.Native.Nat.{◌-◌, ◌≤◌, min}
 use mathlib.Core.Path.{◌≡◌, sym, ap, ◌∙◌}
 use native.Mathlib.Omega.{arith}
-use lib.ListN.{length, drop}
 use Rattle.laws.proofs.Parts.{unmapped}
 use mathlib.Core.List.{map}
-use Rattle.lists.specs.Entry.{no_entry}
 use Rattle.lists.specs.Entries.{instances_most}
 use Rattle.instances.specs.Instance.{chosen}
-use Rattle.instances.specs.Places.{run_most}
 use Rattle.instances.specs.Run.{instances_of, listed, entry_for}
-use Rattle.laws.proofs.Filled.{Filled, filled_none, filled_next, filled_done, filled_full}
+use Rattle.laws.proofs.Filled.{filled_none, filled_next, filled_done, filled_full}
 use Rattle.instances.proofs.Runs.{next_is, none_left}
 use Rattle.laws.proofs.Thoses.{those_take, those_skip, those_none}
 use Rattle.instances.proofs.Listings.{entries_answer, entries_full}
@@ -44,11 +40,11 @@ loop-k-preserved c =
     let test = sym c.is_chosen.ensures in
     let f = map (entry_for a.p.numbers) in
     elim c.if-is_chosen.branch [
-      then-is_chosen v ↦ let takes = ap f (those_take (chosen a.sel) _ _ _ on (test ∙ v.if-is_chosen.true)) in
-    rw (v.list-is, v.k-is, v.served_number-served.ensures)
-    (omega arith, l.invariant.1, l.invariant.2, omega arith, filled_next _ _ _ _ _ _ _ (omega arith) (rw takes at l.invariant.4))
+      | then-is_chosen v ↦ let takes = ap f (those_take (chosen a.sel) _ _ _ on (test ∙ v.if-is_chosen.true)) in
+          rw (v.list-is, v.k-is, v.served_number-served.ensures)
+          (omega arith, l.invariant.1, l.invariant.2, omega arith, filled_next _ _ _ _ _ _ _ (omega arith) (rw takes at l.invariant.4))
       | else-is_chosen v ↦ let skips = ap f (those_skip (chosen a.sel) _ _ _ on (test ∙ v.if-is_chosen.false)) in
-    rw (v.list-is, v.k-is) (omega arith, l.invariant.1, l.invariant.2, omega arith, rw skips at l.invariant.4)
+          rw (v.list-is, v.k-is) (omega arith, l.invariant.1, l.invariant.2, omega arith, rw skips at l.invariant.4)
     ]
 
 pub returns : goal.returns

@@ -1,20 +1,12 @@
-use borrow.Author.Rules.{rules}
 use Prim.Native.Nat.{◌-◌, ◌≤◌, min}
-use mathlib.Core.Path.{◌≡◌, sym, ap, ◌∙◌}
-use mathlib.Core.Logic.{⊎_elim}
-use native.Mathlib.Omega.{arith}
+use mathlib.Core.Path.{◌≡◌}
 use lib.ListN.{length, drop}
-use Rattle.laws.proofs.Parts.{unmapped}
 use mathlib.Core.List.{map}
 use Rattle.lists.specs.Entry.{no_entry}
 use Rattle.lists.specs.Entries.{instances_most}
-use Rattle.instances.specs.Instance.{chosen}
 use Rattle.instances.specs.Places.{run_most}
 use Rattle.instances.specs.Run.{instances_of, listed, entry_for}
-use Rattle.laws.proofs.Filled.{Filled, filled_none, filled_next, filled_done, filled_full}
-use Rattle.instances.proofs.Runs.{next_is, none_left}
-use Rattle.laws.proofs.Thoses.{those_take, those_skip, those_none}
-use Rattle.instances.proofs.Listings.{entries_answer, entries_full}
+use Rattle.laws.proofs.Filled.{Filled}
 use Rattle.instances.proofs.run.Run.entries.Given as goal
 
 abbrev pub invariant-loop-k : goal.invariant-loop-k

@@ -1,11 +1,8 @@
 use borrow.Author.Rules.{rules}
-use Prim.Native.Nat.{◌-◌, ◌≤◌, min}
-use mathlib.Core.Path.{◌≡◌, refl, sym, ap, ◌∙◌}
+use mathlib.Core.Path.{refl, sym, ap, ◌∙◌}
 use native.Mathlib.Omega.{arith}
-use lib.ListN.{length, drop}
 use Rattle.laws.proofs.Parts.{unmapped}
-use Rattle.instances.specs.Places.{run_most}
-use Rattle.instances.specs.Run.{instances_of, forwarded_to, found_by}
+use Rattle.instances.specs.Run.{found_by}
 use Rattle.instances.proofs.Runs.{next_is, none_left}
 use Rattle.instances.proofs.Choices.{find_here, find_on, find_none}
 use Rattle.instances.proofs.run.Run.find.Goals as goal

@@ -1,19 +1,17 @@
 use borrow.Author.Rules.{rules}
-use Prim.Native.Nat.{◌-◌, ◌<◌, ◌≤◌}
+use Prim.Native.Nat.{◌<◌}
 use mathlib.Core.Path.{◌≡◌, refl, sym, ◌∙◌}
 use mathlib.Core.Bool.{true, false≢true}
 use native.Mathlib.Omega.{arith}
-use lib.ListN.{length, drop, get_or, take}
-use borrow.Author.Tests.{not-true, not-false, lt-leb}
+use lib.ListN.{get_or}
+use borrow.Author.Tests.{lt-leb}
 use Rattle.laws.proofs.Parts.{unmapped}
 use Rattle.lists.specs.Entries.{instances_most}
-use Rattle.instances.specs.Instance.{key_of, instance_fits, instance_good}
-use Rattle.instances.specs.Places.{run_most}
-use Rattle.instances.specs.Run.{instances_of}
+use Rattle.instances.specs.Instance.{key_of, instance_good}
 use Rattle.instances.proofs.Runs.{outside, next_is, none_left}
-use Rattle.instances.proofs.Orders.{sound, sound_on, sound_low, sound_bad, sound_none, not_good, not_few, is_good, too_long}
+use Rattle.instances.proofs.Orders.{sound_on, sound_low, sound_bad, sound_none, not_good, not_few, is_good, too_long}
 use Rattle.instances.proofs.Fits.{fits_made, fits_place, not_fits}
-use Rattle.instances.proofs.Blocks.{Blocks, blocks_first, blocks_over, blocks_last, blocks_same, blocks_on, blocks_next}
+use Rattle.instances.proofs.Blocks.{blocks_first, blocks_over, blocks_last, blocks_same, blocks_on, blocks_next}
 use Rattle.instances.proofs.run.Run.good.Goals as goal
 use Rattle.instances.proofs.run.Run.good.Goals.{else-beyond-procedure, then-beyond-procedure+else-procedure-ge-PROCEDURES+else-subscribed-procedure-ne1+else-from-i}
 
@@ -90,25 +88,25 @@ loop-i-preserved c =
     let address = sym c.address_good.ensures ∙ c.if-not-address_good.false in
     let so = l.invariant.5 in
     elim c.if-beyond-procedure.branch [
-      then-beyond-procedure+else-procedure-ge-PROCEDURES+else-subscribed-procedure-ne1+else-from-i v ↦ let good : instance_good a.p x ≡ true = fits_made _ _ _ _ v.if-procedure-ge-PROCEDURES.false v.if-subscribed-procedure-ne1.false place address in
-    rw (v.beyond-is, v.from-is) (
-      omega arith,
-      l.invariant.1,
-      l.invariant.2,
-      omega arith,
-      l.invariant.4 ∙ rw (← key) at (sound_on (instance_good a.p) _ _ _ on l.below above good),
-      rw (← key) at (blocks_next _ _ _ _ _ _ _ so _ _ on above v.if-beyond-procedure.true v.if-procedure-ge-PROCEDURES.false v.if-subscribed-procedure-ne1.false v.if-from-i.false),
-    )
+      | then-beyond-procedure+else-procedure-ge-PROCEDURES+else-subscribed-procedure-ne1+else-from-i v ↦ let good : instance_good a.p x ≡ true = fits_made _ _ _ _ v.if-procedure-ge-PROCEDURES.false v.if-subscribed-procedure-ne1.false place address in
+          rw (v.beyond-is, v.from-is) (
+            omega arith,
+            l.invariant.1,
+            l.invariant.2,
+            omega arith,
+            l.invariant.4 ∙ rw (← key) at (sound_on (instance_good a.p) _ _ _ on l.below above good),
+            rw (← key) at (blocks_next _ _ _ _ _ _ _ so _ _ on above v.if-beyond-procedure.true v.if-procedure-ge-PROCEDURES.false v.if-subscribed-procedure-ne1.false v.if-from-i.false),
+          )
       | else-beyond-procedure v ↦ let same = blocks_same _ _ _ _ _ _ _ so _ _ on above (search rules, search rules) (λ k. omega (arith, k, v.if-beyond-procedure.false)) in
-    let good : instance_good a.p x ≡ true = fits_made _ _ _ _ (omega (arith, same, so.three)) (so.subscribes _ same) place address in
-    rw (v.beyond-is, v.from-is) (
-      omega arith,
-      l.invariant.1,
-      l.invariant.2,
-      omega arith,
-      l.invariant.4 ∙ rw (← key) at (sound_on (instance_good a.p) _ _ _ on l.below above good),
-      rw (← key) at (blocks_on _ _ _ _ _ _ _ so _ _ on above same),
-    )
+          let good : instance_good a.p x ≡ true = fits_made _ _ _ _ (omega (arith, same, so.three)) (so.subscribes _ same) place address in
+          rw (v.beyond-is, v.from-is) (
+            omega arith,
+            l.invariant.1,
+            l.invariant.2,
+            omega arith,
+            l.invariant.4 ∙ rw (← key) at (sound_on (instance_good a.p) _ _ _ on l.below above good),
+            rw (← key) at (blocks_on _ _ _ _ _ _ _ so _ _ on above same),
+          )
     ]
 
 pub returns : goal.returns

@@ -1,16 +1,12 @@
 use borrow.Author.Rules.{rules}
-use Prim.Native.Nat.{◌-◌, ◌≤◌, min}
-use mathlib.Core.Path.{◌≡◌, refl, ◌∙◌}
+use mathlib.Core.Path.{refl, ◌∙◌}
 use native.Mathlib.Omega.{arith}
-use lib.ListN.{length, drop}
 use Rattle.laws.proofs.Parts.{unmapped}
 use borrow.Author.Tests.{le-leb, lt-leb}
 use Rattle.laws.proofs.Picks.{pick_last}
-use Rattle.instances.specs.Places.{run_most}
-use Rattle.instances.specs.Run.{instances_of, ascending}
 use Rattle.instances.proofs.Runs.{next_is, none_left}
 use Rattle.instances.proofs.Orders.{ascends_on, ascends_low, ascends_none}
-use Rattle.instances.proofs.Counts.{Tallied, tally_first, tally_second, tally_third, tally_none, tallied}
+use Rattle.instances.proofs.Counts.{tally_first, tally_second, tally_third, tally_none, tallied}
 use Rattle.instances.proofs.run.Run.ordered.Goals as goal
 use Rattle.instances.proofs.run.Run.ordered.Goals.{else-procedure-eq0+else-procedure-eq1+else-procedure-eq2, else-procedure-eq0+else-procedure-eq1+then-procedure-eq2, else-procedure-eq0+then-procedure-eq1, then-procedure-eq0}
 
@@ -42,46 +38,46 @@ loop-i-preserved c =
     let ascends = l.invariant.6 ∙ rw (← key) at (ascends_on l.under _ _ _ on (omega (arith, key, c.if-key-under.false))) in
     let so = l.invariant.7 in
     elim c.if-procedure-eq0.branch [
-      then-procedure-eq0 v ↦ rw (v.cfu-is, v.cfb-is, v.cfnr-is) (
-      omega arith,
-      l.invariant.1,
-      l.invariant.2,
-      omega arith,
-      omega arith,
-      omega arith,
-      ascends,
-      tally_first _ _ _ _ _ _ _ on so v.if-procedure-eq0.true,
-    )
+      | then-procedure-eq0 v ↦ rw (v.cfu-is, v.cfb-is, v.cfnr-is) (
+        omega arith,
+        l.invariant.1,
+        l.invariant.2,
+        omega arith,
+        omega arith,
+        omega arith,
+        ascends,
+        tally_first _ _ _ _ _ _ _ on so v.if-procedure-eq0.true,
+      )
       | else-procedure-eq0+then-procedure-eq1 v ↦ rw (v.cfu-is, v.cfb-is, v.cfnr-is) (
-      omega arith,
-      l.invariant.1,
-      l.invariant.2,
-      omega arith,
-      omega arith,
-      omega arith,
-      ascends,
-      tally_second _ _ _ _ _ _ _ on so v.if-procedure-eq1.true,
-    )
+        omega arith,
+        l.invariant.1,
+        l.invariant.2,
+        omega arith,
+        omega arith,
+        omega arith,
+        ascends,
+        tally_second _ _ _ _ _ _ _ on so v.if-procedure-eq1.true,
+      )
       | else-procedure-eq0+else-procedure-eq1+then-procedure-eq2 v ↦ rw (v.cfu-is, v.cfb-is, v.cfnr-is) (
-      omega arith,
-      l.invariant.1,
-      l.invariant.2,
-      omega arith,
-      omega arith,
-      omega arith,
-      ascends,
-      tally_third _ _ _ _ _ _ _ on so v.if-procedure-eq2.true,
-    )
+        omega arith,
+        l.invariant.1,
+        l.invariant.2,
+        omega arith,
+        omega arith,
+        omega arith,
+        ascends,
+        tally_third _ _ _ _ _ _ _ on so v.if-procedure-eq2.true,
+      )
       | else-procedure-eq0+else-procedure-eq1+else-procedure-eq2 v ↦ rw (v.cfu-is, v.cfb-is, v.cfnr-is) (
-      omega arith,
-      l.invariant.1,
-      l.invariant.2,
-      omega arith,
-      omega arith,
-      omega arith,
-      ascends,
-      tally_none _ _ _ _ _ _ _ on so v.if-procedure-eq0.false v.if-procedure-eq1.false v.if-procedure-eq2.false,
-    )
+        omega arith,
+        l.invariant.1,
+        l.invariant.2,
+        omega arith,
+        omega arith,
+        omega arith,
+        ascends,
+        tally_none _ _ _ _ _ _ _ on so v.if-procedure-eq0.false v.if-procedure-eq1.false v.if-procedure-eq2.false,
+      )
     ]
 
 pub returns-then-most-cfu : goal.returns-then-most-cfu

@@ -1,17 +1,9 @@
-use borrow.Author.Rules.{rules}
 use Prim.Native.Nat.{◌-◌, ◌≤◌, min}
-use mathlib.Core.Path.{◌≡◌, refl, ◌∙◌}
-use mathlib.Core.Logic.{⊎_elim}
-use native.Mathlib.Omega.{arith}
+use mathlib.Core.Path.{◌≡◌}
 use lib.ListN.{length, drop}
-use Rattle.laws.proofs.Parts.{unmapped}
-use borrow.Author.Tests.{le-leb, lt-leb}
-use Rattle.laws.proofs.Picks.{pick_last}
 use Rattle.instances.specs.Places.{run_most}
 use Rattle.instances.specs.Run.{instances_of, ascending}
-use Rattle.instances.proofs.Runs.{next_is, none_left}
-use Rattle.instances.proofs.Orders.{ascends_on, ascends_low, ascends_none}
-use Rattle.instances.proofs.Counts.{Tallied, tally_first, tally_second, tally_third, tally_none, tallied}
+use Rattle.instances.proofs.Counts.{Tallied}
 use Rattle.instances.proofs.run.Run.ordered.Given as goal
 
 abbrev pub invariant-loop-i : goal.invariant-loop-i

@@ -1,16 +1,11 @@
 use borrow.Author.Rules.{rules}
-use Prim.Native.Nat.{◌+◌, ◌-◌, ◌≤◌, min}
 use mathlib.Core.Path.{◌≡◌, sym, ◌∙◌}
 use mathlib.Core.Logic.{inl, inr}
 use native.Mathlib.Omega.{arith}
 use borrow.Author.Tests.{ltb-true, ltb-false}
-use lib.ListN.{length, drop}
 use Rattle.laws.proofs.Parts.{unmapped}
-use Rattle.instances.specs.Instance.{blank_instance}
 use Rattle.instances.specs.Places.{run_most}
-use Rattle.instances.specs.inner.Places.{places_in}
-use Rattle.instances.specs.Run.{instances_of, activated_at}
-use Rattle.laws.proofs.Filled.{Filled, filled_none, filled_next, filled_done, filled_full}
+use Rattle.laws.proofs.Filled.{filled_none, filled_next, filled_done, filled_full}
 use Rattle.instances.proofs.Runs.{next_is, none_left}
 use Rattle.instances.proofs.Placings.{next_place, no_place_lem}
 use Rattle.instances.proofs.Puts.{put_skip, put_kept, put_made, put_rest, put_last, put_none, put_answer}
@@ -49,9 +44,9 @@ loop-k-preserved-then-is_chosen c =
 
 pub loop-k-smaller-then-m-many : goal.loop-k-smaller-then-m-many
 loop-k-smaller-then-m-many c = elim c.if-is_before.branch [
-      then-is_before v ↦ omega (arith, v.m-is, v.i-is)
-      | else-is_before v ↦ omega (arith, v.m-is, v.i-is)
-    ]
+  | then-is_before v ↦ omega (arith, v.m-is, v.i-is)
+  | else-is_before v ↦ omega (arith, v.m-is, v.i-is)
+]
 
 pub loop-k-preserved-then-m-many : goal.loop-k-preserved-then-m-many
 loop-k-preserved-then-m-many c =
@@ -65,28 +60,28 @@ loop-k-preserved-then-m-many c =
     let stays = sym c.is_chosen.ensures ∙ c.if-is_chosen.false in
     let test = sym c.is_before.ensures in
     elim c.if-is_before.branch [
-      then-is_before v ↦ let keeps = put_kept a.sel a.address _ _ _ _ on stays _ _ more (ltb-true _ _ (test ∙ v.if-is_before.true)) in
-    rw (v.next-is, v.m-is, v.i-is) (
-      omega arith,
-      l.invariant.1,
-      l.invariant.2,
-      omega arith,
-      l.invariant.4,
-      l.invariant.5,
-      omega arith,
-      filled_next _ _ _ _ _ _ _ (omega arith) (rw keeps at so),
-    )
+      | then-is_before v ↦ let keeps = put_kept a.sel a.address _ _ _ _ on stays _ _ more (ltb-true _ _ (test ∙ v.if-is_before.true)) in
+          rw (v.next-is, v.m-is, v.i-is) (
+            omega arith,
+            l.invariant.1,
+            l.invariant.2,
+            omega arith,
+            l.invariant.4,
+            l.invariant.5,
+            omega arith,
+            filled_next _ _ _ _ _ _ _ (omega arith) (rw keeps at so),
+          )
       | else-is_before v ↦ let makes = put_made a.sel a.address _ _ _ _ on stays _ _ more (ltb-false _ _ (test ∙ v.if-is_before.false)) in
-    rw (v.next-is, v.m-is, v.i-is) (
-      omega arith,
-      l.invariant.1,
-      l.invariant.2,
-      omega arith,
-      l.invariant.4,
-      l.invariant.5,
-      omega arith,
-      filled_next _ _ _ _ _ _ _ (omega arith) (rw makes at so),
-    )
+          rw (v.next-is, v.m-is, v.i-is) (
+            omega arith,
+            l.invariant.1,
+            l.invariant.2,
+            omega arith,
+            l.invariant.4,
+            l.invariant.5,
+            omega arith,
+            filled_next _ _ _ _ _ _ _ (omega arith) (rw makes at so),
+          )
     ]
 
 pub loop-k-preserved-else-m-many : goal.loop-k-preserved-else-m-many

@@ -1,19 +1,11 @@
-use borrow.Author.Rules.{rules}
 use Prim.Native.Nat.{◌+◌, ◌-◌, ◌≤◌, min}
-use mathlib.Core.Path.{◌≡◌, sym, ◌∙◌}
-use mathlib.Core.Logic.{⊎_elim, inl, inr}
-use native.Mathlib.Omega.{arith}
-use borrow.Author.Tests.{ltb-true, ltb-false}
+use mathlib.Core.Path.{◌≡◌}
 use lib.ListN.{length, drop}
-use Rattle.laws.proofs.Parts.{unmapped}
 use Rattle.instances.specs.Instance.{blank_instance}
 use Rattle.instances.specs.Places.{run_most}
 use Rattle.instances.specs.inner.Places.{places_in}
 use Rattle.instances.specs.Run.{instances_of, activated_at}
-use Rattle.laws.proofs.Filled.{Filled, filled_none, filled_next, filled_done, filled_full}
-use Rattle.instances.proofs.Runs.{next_is, none_left}
-use Rattle.instances.proofs.Placings.{next_place, no_place_lem}
-use Rattle.instances.proofs.Puts.{put_skip, put_kept, put_made, put_rest, put_last, put_none, put_answer}
+use Rattle.laws.proofs.Filled.{Filled}
 use Rattle.instances.proofs.run.Run.put.Given as goal
 
 abbrev pub invariant-loop-k : goal.invariant-loop-k

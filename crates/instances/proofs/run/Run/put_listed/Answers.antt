@@ -1,14 +1,13 @@
 use native.Mathlib.Omega.{arith}
-use Prim.Native.Nat.{◌*◌, ◌-◌, ◌≤◌, min}
+use Prim.Native.Nat.{◌*◌, ◌≤◌}
 use mathlib.Core.Path.{◌≡◌, refl, sym, ap, ◌∙◌}
 use mathlib.Core.List.{List, map}
-use lib.ListN.{length, take, drop}
+use lib.ListN.{length, take}
 use mir.Facts.{to_z-of_z}
-use Rattle.instances.proofs.Picked.{entry_at, Picked, picked_none, picked_skip, picked_full, picked_take, picked_done}
-use Rattle.instances.proofs.Picked.{entries_counted, Listing, listing_first, listing_room, listing_next}
+use Rattle.instances.proofs.Picked.{entry_at, picked_none, picked_skip, picked_full, picked_take, picked_done}
+use Rattle.instances.proofs.Picked.{entries_counted, listing_first, listing_room, listing_next}
 use Rattle.instances.proofs.Runs.{next_is, none_left}
 use Rattle.instances.specs.Run.{instances_of, listed, entry_for}
-use Rattle.instances.specs.Places.{run_most}
 use Rattle.instances.specs.Instance.{chosen}
 use Rattle.lists.proofs.Heads.{head_after, list_none, list_all}
 use Rattle.lists.specs.declared.entry.Entry.{Entry}
@@ -52,17 +51,17 @@ loop-i-preserved c =
     let test = sym c.is_chosen.ensures in
     let f = map (entry_for a.p.numbers) in
     elim c.if-is_chosen.branch [
-      then-is_chosen+then-k-lt-INSTANCESMOST v ↦ let takes = ap f (those_take (chosen a.sel) _ _ _ on (test ∙ v.if-is_chosen.true)) in
-    rw (v.places-is, v.size-is, v.k-is) (
-      omega (arith, more),
-      l.invariant.1,
-      l.invariant.2,
-      picked_take _ _ l.invariant.3 _ _ _ v.if-k-lt-INSTANCESMOST.true takes refl
-          (rw v.served_number-served.ensures at v.listed_size-size.ensures.0) v.listed_size-size.ensures.1,
-    )
+      | then-is_chosen+then-k-lt-INSTANCESMOST v ↦ let takes = ap f (those_take (chosen a.sel) _ _ _ on (test ∙ v.if-is_chosen.true)) in
+          rw (v.places-is, v.size-is, v.k-is) (
+            omega (arith, more),
+            l.invariant.1,
+            l.invariant.2,
+            picked_take _ _ l.invariant.3 _ _ _ v.if-k-lt-INSTANCESMOST.true takes refl
+                (rw v.served_number-served.ensures at v.listed_size-size.ensures.0) v.listed_size-size.ensures.1,
+          )
       | then-is_chosen+else-k-lt-INSTANCESMOST v ↦ rw (v.places-is, v.size-is, v.k-is) (omega (arith, more), l.invariant.1, l.invariant.2, picked_full _ _ l.invariant.3 _ (λ h. omega (arith, v.if-k-lt-INSTANCESMOST.false)))
       | else-is_chosen v ↦ let skips = ap f (those_skip (chosen a.sel) _ _ _ on (test ∙ v.if-is_chosen.false)) in
-    rw (v.places-is, v.size-is, v.k-is) (omega (arith, more), l.invariant.1, l.invariant.2, picked_skip _ _ l.invariant.3 _ skips)
+          rw (v.places-is, v.size-is, v.k-is) (omega (arith, more), l.invariant.1, l.invariant.2, picked_skip _ _ l.invariant.3 _ skips)
     ]
 
 pub returns-then-at-eq0 : goal.returns-then-at-eq0

@@ -1,23 +1,11 @@
-use native.Mathlib.Omega.{arith}
-use Prim.Native.Nat.{◌*◌, ◌-◌, ◌≤◌, min}
-use mathlib.Core.Logic.{⊎_elim}
-use mathlib.Core.Path.{◌≡◌, refl, sym, ap, ◌∙◌}
-use mathlib.Core.List.{List, map}
-use lib.ListN.{length, take, drop}
-use mir.Facts.{to_z-of_z}
-use Rattle.instances.proofs.Picked.{entry_at, Picked, picked_none, picked_skip, picked_full, picked_take, picked_done}
-use Rattle.instances.proofs.Picked.{entries_counted, Listing, listing_first, listing_room, listing_next}
-use Rattle.instances.proofs.Runs.{next_is, none_left}
+use Prim.Native.Nat.{◌-◌, ◌≤◌, min}
+use mathlib.Core.Path.{◌≡◌}
+use mathlib.Core.List.{map}
+use lib.ListN.{length, drop}
+use Rattle.instances.proofs.Picked.{entry_at, Picked}
+use Rattle.instances.proofs.Picked.{Listing}
 use Rattle.instances.specs.Run.{instances_of, listed, entry_for}
 use Rattle.instances.specs.Places.{run_most}
-use Rattle.instances.specs.Instance.{chosen}
-use Rattle.lists.proofs.Heads.{head_after, list_none, list_all}
-use Rattle.lists.specs.declared.entry.Entry.{Entry}
-use Rattle.lists.specs.Entries.{instances_most, entries_octets}
-use Rattle.lists.specs.Entry.{entry_size}
-use Rattle.laws.proofs.Thoses.{those_take, those_skip, those_none}
-use Rattle.laws.proofs.Parts.{unmapped}
-use borrow.Author.Rules.{rules}
 use Rattle.instances.proofs.run.Run.put_listed.Given as goal
 
 abbrev pub invariant-loop-i : goal.invariant-loop-i

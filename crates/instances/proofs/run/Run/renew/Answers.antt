@@ -1,12 +1,9 @@
 use borrow.Author.Rules.{rules}
-use Prim.Native.Nat.{◌-◌, ◌≤◌, min}
 use mathlib.Core.Path.{◌≡◌, refl, sym, ◌∙◌}
 use native.Mathlib.Omega.{arith}
-use lib.ListN.{length}
 use Rattle.laws.proofs.Parts.{unmapped}
-use Rattle.instances.specs.Instance.{blank_instance}
 use Rattle.instances.specs.Places.{run_most}
-use Rattle.instances.proofs.Renewals.{renewed_to, renews_one, spares_one, blanks_one, renew_answer}
+use Rattle.instances.proofs.Renewals.{renews_one, spares_one, blanks_one, renew_answer}
 use Rattle.instances.proofs.run.Run.renew.Goals as goal
 use Rattle.instances.proofs.run.Run.renew.Goals.{else-i-n, then-i-n+else-is_chosen, then-i-n+then-is_chosen}
 
@@ -22,10 +19,10 @@ loop-i-preserved c =
       l.invariant.2,
       l.invariant.3,
       elim c.if-i-n.branch [
-      then-i-n+then-is_chosen v ↦ rw v.next-is (renews_one _ _ _ _ _ _ so v.if-i-n.true (sym v.is_chosen.ensures ∙ v.if-is_chosen.true))
-      | then-i-n+else-is_chosen v ↦ rw v.next-is (spares_one _ _ _ _ _ _ so v.if-i-n.true (sym v.is_chosen.ensures ∙ v.if-is_chosen.false))
-      | else-i-n v ↦ rw (v.next-is, l.invariant.3) (blanks_one _ _ _ _ _ _ so v.if-i-n.false)
-    ],
+        | then-i-n+then-is_chosen v ↦ rw v.next-is (renews_one _ _ _ _ _ _ so v.if-i-n.true (sym v.is_chosen.ensures ∙ v.if-is_chosen.true))
+        | then-i-n+else-is_chosen v ↦ rw v.next-is (spares_one _ _ _ _ _ _ so v.if-i-n.true (sym v.is_chosen.ensures ∙ v.if-is_chosen.false))
+        | else-i-n v ↦ rw (v.next-is, l.invariant.3) (blanks_one _ _ _ _ _ _ so v.if-i-n.false)
+      ],
     )
 
 pub returns : goal.returns

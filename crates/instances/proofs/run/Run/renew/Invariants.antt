@@ -1,13 +1,9 @@
-use borrow.Author.Rules.{rules}
 use Prim.Native.Nat.{◌-◌, ◌≤◌, min}
-use mathlib.Core.Path.{◌≡◌, refl, sym, ◌∙◌}
-use mathlib.Core.Logic.{⊎_elim}
-use native.Mathlib.Omega.{arith}
+use mathlib.Core.Path.{◌≡◌}
 use lib.ListN.{length}
-use Rattle.laws.proofs.Parts.{unmapped}
 use Rattle.instances.specs.Instance.{blank_instance}
 use Rattle.instances.specs.Places.{run_most}
-use Rattle.instances.proofs.Renewals.{renewed_to, renews_one, spares_one, blanks_one, renew_answer}
+use Rattle.instances.proofs.Renewals.{renewed_to}
 use Rattle.instances.proofs.run.Run.renew.Given as goal
 
 abbrev pub invariant-loop-i : goal.invariant-loop-i
