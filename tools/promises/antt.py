@@ -124,7 +124,7 @@ class File:
         elif len(entry) > 1 and entry[1].is_word(":"):
             made = Declaration(entry[0].text, "value", marks, entry[0].line, sections, type=entry[2:])
             self.declarations.append(made)
-        elif entry[0].text.startswith("only-") or len(split(entry, ":")) == 1:
+        elif entry[0].text.startswith("only_") or len(split(entry, ":")) == 1:
             raise Unreadable(entry[0].line, f"cannot read the declaration `{spelled(entry)}`")
 
 

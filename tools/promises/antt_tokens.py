@@ -29,7 +29,7 @@ class Unreadable(Exception):
 
 @dataclass(frozen=True)
 class Token:
-    kind: str  # name, quoted, field (as in `r .count`), text or mark
+    kind: str  # name (a path or a projection too), quoted, field (as in `(f r).count`), text or mark
     text: str
     line: int
     column: int
@@ -40,7 +40,7 @@ class Token:
 
 
 def tokens(source, line=1):
-    """The tokens of antt text. A path `A.B.c`, written without spaces, is one name."""
+    """The tokens of antt text. A path `A.B.c` or a projection `r.count`, written without spaces, is one name."""
     found, at, start_of_line, first, ended = [], 0, 0, True, -1
     while at < len(source):
         piece = PIECES.match(source, at)

@@ -5,7 +5,7 @@ from .antt_tokens import Unreadable, groups, spelled
 from .tree import crate_of, place_of
 
 # What makes more of a proposition than a name with its arguments.
-JOINS = set("→ ↔ × ¬ ∧ ∨ ∗ ≡ λ ∀ do".split())
+JOINS = set("→ ↔ × ¬ ∧ ∨ ∗ ≡ λ ∀ do let".split())
 
 
 @dataclass
@@ -34,11 +34,8 @@ def read_promise(tree, function):
 
 def read_ensures(function):
     clause = function.ensures[0]
-    shape = [token.text for token in clause]
-    if shape[:1] + shape[2:4] + shape[-1:] != ["λ", ".", "⌜", "⌝"] or shape.count("⌜") + shape.count("⌝") != 2:
-        return None, ["its `ensures` is not `λ r. ⌜ Name arg .. ⌝`"]
     try:
-        parts = groups(clause[4:-1])
+        parts = groups(clause)
     except Unreadable as odd:
         return None, [f"its `ensures` has {odd.text}"]
     joined = [part[0].text for part in parts if part[0].text in JOINS]
@@ -46,8 +43,8 @@ def read_ensures(function):
         return None, ["its `ensures` is not one named proposition" + "".join(f": it has `{word}`" for word in joined[:1])]
     arguments = [spelled(part) for part in parts[1:]]
     place, faults = resolve(function, parts[0][0].text)
-    taken, given = expected(function, shape[1])
-    faults += name_faults(function, shape[1]) + argument_faults(taken + given, arguments)
+    taken, given = expected(function)
+    faults += name_faults(function) + argument_faults(taken + given, arguments)
     if not given:
         faults.append("gives nothing that a promise could speak of")
     if faults:
@@ -59,24 +56,24 @@ def is_name(part):
     return len(part) == 1 and part[0].kind == "name" and part[0].text[0].isupper() and part[0].text.isalnum()
 
 
-def expected(function, result):
+def expected(function):
     """How the promise must write each thing that is taken, and each that is given, and what that is."""
     taken = []
     for parameter in function.parameters:
-        form = f"( now ( {parameter.name} .entry ) )" if parameter.lent else parameter.name
-        taken.append((form, f"the parameter `{parameter.name}`"))
+        held = ".old" if parameter.changed else ".now" if parameter.lent else ""
+        taken.append((parameter.name + held, f"the parameter `{parameter.name}`"))
     given = []
     if function.result != "nothing":
-        given.append((f"( now {result} )" if function.result == "lent" else result, "the result"))
+        given.append(("result.now" if function.result == "lent" else "result", "the result"))
     for parameter in function.parameters:
         if parameter.changed:
-            given.append((f"( now ( {parameter.name} .exit ) )", f"what `{parameter.name}` holds afterwards"))
+            given.append((f"{parameter.name}.new", f"what `{parameter.name}` holds afterwards"))
     return taken, given
 
 
-def name_faults(function, result):
-    names = [parameter.name for parameter in function.parameters] + [result]
-    return ["binds one name twice"] if len(set(names)) < len(names) or "now" in names else []
+def name_faults(function):
+    names = [parameter.name for parameter in function.parameters] + ["result"]
+    return ["binds one name twice"] if len(set(names)) < len(names) else []
 
 
 def argument_faults(wanted, arguments):
@@ -95,8 +92,8 @@ def argument_faults(wanted, arguments):
 
 def resolve(function, name):
     """The place of the proposition, by the file's `ghost use` lines."""
-    if function.scope.meanings("now"):
-        return (), ["its file brings in another `now`"]
+    if function.scope.meanings("result"):
+        return (), ["its file brings in another `result`"]
     if name in [parameter.name for parameter in function.parameters]:
         return (), [f"its promise `{name}` is a parameter"]
     paths = function.scope.meanings(name)

@@ -4,10 +4,12 @@ follows from what. What it is made of is followed to the end.
 from .antt_tokens import Unreadable, depths, groups, spelled, split
 from .tree import crate_of, place_of
 
+# The kit's relations: where each is defined, and where the kit passes it on.
+PRELUDE = ("Rattle", "std", "specs", "Prelude")
 RELATIONS = {
-    "≡": ("mathlib", "Core", "Path", "_≡_"),
-    "≤": ("Prim", "Native", "Nat", "_≤_"),
-    "<": ("Prim", "Native", "Nat", "_<_"),
+    "≡": {("mathlib", "Core", "Path", "◌≡◌"), PRELUDE + ("◌≡◌",)},
+    "≤": {("Prim", "Native", "Nat", "◌≤◌"), PRELUDE + ("◌≤◌",)},
+    "<": {("Prim", "Native", "Nat", "◌<◌"), PRELUDE + ("◌<◌",)},
 }
 # Operators on values, which may stand on either side of a relation.
 TERMS = set("+ - * / % ^ ++ ∷ []".split())
@@ -86,7 +88,7 @@ class Propositions:
                 return self.breach(read, made, f"{fault}: `{shown}`")
         if {token.text for token in outer} & set(RELATIONS):
             return None
-        if not body or body[0].kind != "name" or body[0].text in bound:
+        if not body or body[0].kind != "name" or body[0].text.split(".")[0] in bound:
             return self.breach(read, made, f"rests on what the checks cannot follow: `{shown}`")
         place = place_in(read, body[0].text)
         found = self.tree.definition(place) if place else None
@@ -115,10 +117,10 @@ def operator_fault(read, token):
     text = token.text
     if token.kind != "name" or text.isdigit():
         return None
-    own = [made.name for made in read.declarations if "_" in made.name and text in made.name.split("_")]
-    brought = [name for name in read.scope.names if "_" in name and text in name.split("_")]
+    own = [made.name for made in read.declarations if "◌" in made.name and text in made.name.split("◌")]
+    brought = [name for name in read.scope.names if "◌" in name and text in name.split("◌")]
     if text in RELATIONS:
-        right = brought == [f"_{text}_"] and read.scope.meanings(brought[0]) == [RELATIONS[text]]
+        right = brought == [f"◌{text}◌"] and RELATIONS[text].issuperset(read.scope.meanings(brought[0]))
         return None if right and not own else f"has a `{text}` that is not the kit's"
     homes = [path for name in brought for path in read.scope.meanings(name)]
     if own or any(crate_of(path) for path in homes):

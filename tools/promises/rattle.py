@@ -41,11 +41,12 @@ class Function:
 
 
 class File:
-    """A file's `ghost use` lines, its functions that others can call, and its types that hold a reference."""
+    """A file's `ghost use` lines, its functions that others can call, its types that hold a reference, and what its tactics open."""
 
     def __init__(self, source):
         self.reader = Reader(source)
         self.uses, self.functions, self.holders, self.refused = [], [], [], []
+        self.opened = []  # the line of an attribute, and a path that stands behind its `unfolding`
         self.blocks = []  # for each open brace, the type of the `impl` that it opened, or nothing
         self.forget()
         while self.reader.text:
@@ -61,7 +62,7 @@ class File:
             reader.advance()
             if reader.text == "!":
                 reader.advance()
-            self.exported |= bool({"no_mangle", "export_name"} & set(reader.group()))
+            self.exported |= bool({"no_mangle", "export_name"} & set(self.read_attribute()))
         elif word == "pub":
             reader.advance()
             self.public = reader.text != "("
@@ -75,6 +76,15 @@ class File:
             public = self.public
             self.forget()
             self.read_other(word, public)
+
+    def read_attribute(self):
+        """The words of an attribute, from its bracket on."""
+        line, words = self.reader.token_line, self.reader.group()
+        for place, word in enumerate(words):
+            if word == "unfolding" and words[place + 1 : place + 2] == ["("]:
+                listed = words[place + 2 : words.index(")", place)]
+                self.opened += [(line, "".join(part)) for part in parts_of(listed)]
+        return words
 
     def read_other(self, word, public):
         reader, line = self.reader, self.reader.token_line
@@ -158,7 +168,7 @@ class File:
         while reader.text not in ("{", ";", ""):
             word, line = reader.take(), reader.token_line
             if word == "#":
-                reader.group()
+                self.read_attribute()
             elif word in ("requires", "ensures", "ghost"):
                 label = reader.take() if reader.kind == "word" else ""
                 if reader.text != "{":

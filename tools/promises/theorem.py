@@ -1,11 +1,11 @@
-"""Whether each promise has its theorem `only-..`: that two answers which both keep the promise are the same."""
+"""Whether each promise has its theorem `only_..`: that two answers which both keep the promise are the same."""
 import re
 from collections import Counter, defaultdict
 
 from .antt_tokens import OPENERS, Unreadable, groups, spelled, split
+from .proposition import RELATIONS
 from .tree import place_of
 
-EQUALS = ("mathlib", "Core", "Path", "_≡_")
 EXCEPTIONS = "docs/EXCEPTIONS.md"
 
 
@@ -20,7 +20,7 @@ def name_theorems(functions):
         if in_crate[function.crate, function.name] > 1:
             module = function.file.rsplit("/", 1)[1][: -len(".rt")]
             parts.insert(1, (function.owner or module).lower())
-        function.theorem = "-".join(["only", *parts]).replace("_", "-")
+        function.theorem = "_".join(["only", *parts])
 
 
 class Theorems:
@@ -33,7 +33,7 @@ class Theorems:
             for file in tree.sources(f"crates/{crate}/proofs/**/*.antt"):
                 read = tree.antt(file)
                 for made in read.declarations if read else []:
-                    if made.name.startswith("only-"):
+                    if made.name.startswith("only_"):
                         self.found[crate, made.name].append((read, made))
 
     def check(self):
@@ -104,9 +104,10 @@ def redefines(read):
     """Whether the file has an `≡` that is not the kit's, or a `×` or `→` of its own."""
     names = list(read.scope.names) + [made.name for made in read.declarations]
     for name in names:
-        if {"×", "→", "≡"} & set(name.split("_")) and name != "_≡_":
+        if {"×", "→", "≡"} & set(name.split("◌")) and name != "◌≡◌":
             return True
-    return read.scope.meanings("_≡_") != [EQUALS] or bool(read.declaration("_≡_"))
+    meant = read.scope.meanings("◌≡◌")
+    return not meant or not RELATIONS["≡"].issuperset(meant) or bool(read.declaration("◌≡◌"))
 
 
 def is_binder(part):

@@ -6,10 +6,11 @@ from .antt_tokens import Unreadable
 
 
 class Scope:
-    """What the `use` lines of a file bring: each name with its whole path."""
+    """What the `use` lines of a file bring: each name with its whole path. A path into a crate of the repository begins with the two first
+    parts as one, `Rattle.c`; those of the kit's libraries stay as they are."""
 
-    def __init__(self, uses, own=(), children=()):
-        self.own, self.children = own, children
+    def __init__(self, crates, uses, own=(), children=()):
+        self.crates, self.own, self.children = crates, own, children
         self.modules = {}
         for use in uses:
             if use.module:
@@ -27,7 +28,7 @@ class Scope:
         if path[0] in self.children:
             return [self.own + path]
         if path[0] in seen or path[0] not in self.modules:
-            return [path]
+            return [(".".join(path[:2]),) + path[2:] if path[0] == "Rattle" and path[1:2] and path[1] in self.crates else path]
         found = []
         for module in self.modules[path[0]]:
             found += self.whole(module + path[1:], seen + path[:1])
@@ -46,12 +47,11 @@ class Scope:
 
 def crate_of(path):
     """The crate that a whole path leads into, or nothing for the kit's own libraries."""
-    parts = path[0].split("·")
-    return parts[1] if parts[0] == "Rattle" and len(parts) > 1 else ""
+    return path[0].partition(".")[2]
 
 
 def place_of(path):
-    """`Rattle·c.specs.M.x` and, as the crate itself writes it, `Rattle·c·specs.specs.M.x` are one place: `c.specs.M.x`."""
+    """A whole path without the word before its crate: `c.specs.M.x` for `Rattle.c.specs.M.x`."""
     return (crate_of(path),) + path[1:]
 
 
@@ -61,6 +61,7 @@ class Tree:
         self.breaches = []
         self.unread = False  # whether there may be functions that nobody has seen
         self.files = {}
+        self.crates = {crate.name for crate in self.root.glob("crates/*")}
         self.libraries = sorted(lib.parents[1].name for lib in self.root.glob("crates/*/src/lib.rt"))
 
     def breach(self, file, line, text):
@@ -89,7 +90,7 @@ class Tree:
         below = () if parts[3:] == ("Lib",) else parts[3:]
         read.file, read.crate = file, parts[1]
         read.place = (parts[1], parts[2]) + below
-        read.scope = Scope(read.uses, (f"Rattle·{parts[1]}·{parts[2]}", parts[2]) + below, read.children)
+        read.scope = Scope(self.crates, read.uses, (f"Rattle.{parts[1]}", parts[2]) + below, read.children)
         return read
 
     def definition(self, place):
@@ -111,7 +112,7 @@ class Tree:
                     self.breach(file, odd.line, odd.text)
                     self.unread = True
                     continue
-                scope = Scope(read.uses)
+                scope = Scope(self.crates, read.uses)
                 for function in read.functions:
                     function.crate, function.file, function.scope = crate, file, scope
                     functions.append(function)

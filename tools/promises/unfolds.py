@@ -1,4 +1,5 @@
 """Whether a crate opens only its own definitions: another's are used by what is promised and proved of them."""
+from . import rattle
 from .antt_tokens import Unreadable
 from .tree import crate_of
 
@@ -12,6 +13,20 @@ def check(tree):
         if read and file != EXEMPT:
             for token in opened(tree, read):
                 check_name(tree, read, token)
+    for file in tree.sources("crates/*/src/**/*.rt"):
+        check_tactics(tree, file)
+
+
+def check_tactics(tree, file):
+    """What an attribute `#[tactic(.., unfolding(crate::specs::M::f))]` opens."""
+    try:
+        read = rattle.File(tree.text(file))
+    except Unreadable as odd:
+        return tree.breach(file, odd.line, odd.text)
+    for line, path in read.opened:
+        crate = path.partition("::")[0]
+        if crate in tree.crates and crate != file.split("/")[1]:
+            tree.breach(file, line, f"unfolds `{path}` of the crate {crate}")
 
 
 def check_name(tree, read, token):
