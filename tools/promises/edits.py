@@ -5,13 +5,20 @@ their promise no more, then what `rt` replaces: `file: `, `old: `, `new: `. The 
 those that it calls promise, so each of several wrong programs is refused at its own function.
 """
 import re
+from collections import defaultdict
 from dataclasses import dataclass, field
 from pathlib import Path
 
 FUNCTION = re.compile(r'^( *)(?:pub(?:\(crate\))? )?(?:extern "C" )?fn (\w+)', re.M)
-ERROR = re.compile(r"^[^ ]*/proofs/([^ ]+)/Proof\.antt:\d+:\d+: error: `([^`]+)`: (.*)$")
-OPEN = re.compile(r"^fn \w+::([\w:]+): no proof: .*`search` does not close `")
-
+# What a check says of a fact of a function that a proof file answers; of one that no file answers, by the place in the code where it is owed;
+# and of each function that is not proved.
+ERROR = re.compile(r"(?:\./)?proofs/(\S+)/(?:Proof|Invariants|Answers)\.antt:\d+:\d+: error: `([^`]+)`: (.*)")
+NOTE = re.compile(r"note: (src/\S+):(\d+):\d+: it is not proved that .* \(`([^`]+)`\)")
+UNPROVED = re.compile(r"\w+ \w+::([\w:]+): (?:not proved|no proof)(.*)")
+OPEN = re.compile(r"`search` did not prove ((?:`[^`]+`(?:, | and )?)+)")
+# An error that only says that a name is gone, or that what it rests on failed.
+GONE = re.compile(r"(?:`[^`]*`: )?(?:module|record) `[^`]*`.* has no |.{0,200}is not in scope")
+RESTS = " was not admitted "
 
 @dataclass
 class Wrong:
@@ -37,6 +44,18 @@ def read_wrong(file):
     return found if found[0].breaks or found[0].altered else found[1:]
 
 
+def replacements(file):
+    """What `rt` replaces, in order: a file below the crate, the text, and what stands in its place."""
+    for line in file.read_text(encoding="utf-8").splitlines():
+        word, _, rest = line.partition(":")
+        if word == "file":
+            source = rest.strip()
+        elif word == "old":
+            old = rest[1:]
+        elif word == "new":
+            yield source, old, rest[1:]
+
+
 def files(root):
     return sorted(Path(root).glob("crates/*/must-fail/*.edit"))
 
@@ -54,7 +73,7 @@ def function_at(crate, source, text):
 def function_from(source, whole, at):
     """The function at a place of a file, as `module::function`, or a method as `Type::function`."""
     heads = [head for head in FUNCTION.finditer(whole) if head.start() <= at]
-    if not heads or at > whole.find(f"\n{heads[-1][1]}}}", heads[-1].start()):
+    if not heads or at > whole.find(f"\n{heads[-1][1]}}}", heads[-1].start()) + 1 + len(heads[-1][1]):
         return ""
     if heads[-1][1]:  # the prover names a method by the module of its type, which may be another one
         owners = [owner[1] for owner in re.finditer(r"^impl (\w+)", whole, re.M) if owner.start() < heads[-1].start()]
@@ -82,20 +101,85 @@ def users(crate, source, text):
     } - {""}
 
 
-def refused(log):
-    """The functions that do not keep their promise, but for those that only call such a one."""
-    found = set()
-    for line in log.splitlines():
-        if (own := OPEN.match(line)) is not None:
-            found.add(own[1])
-        elif (fact := ERROR.match(line)) is not None and " was not admitted " not in fact[3]:
-            found.add(function_of(fact[1].split("/"), fact[2]))
-    return found
+@dataclass
+class Told:
+    """What a log says of the functions that are not proved, each set with the line where it says so."""
+
+    failed: dict = field(default_factory=dict)  # a fact of their own fails
+    unfit: dict = field(default_factory=dict)  # only cite in their proof what is gone, so nothing is known of their facts
+    odd: dict = field(default_factory=dict)  # not proved for another reason than that one is that they call, or that calls them back
+
+
+def read_log(log, crate):
+    """What the log of a check of this crate tells. A goal's name has the code's conditions in it: where a proof answers one that is gone, the
+    one that came for it is not judged, since it may be as true as the other was."""
+    errors, notes, unproved = said(log)
+    told, gone, circles = Told(), defaultdict(set), set()
+    for line, path, fact, text in errors:
+        function = function_of(path.split("/"), fact)
+        circles.update([tuple(path.split("/"))] if "+" in path else [])
+        if GONE.match(text):
+            told.unfit.setdefault(function, line)
+            gone[function].add(site(fact))
+        elif RESTS not in text:
+            told.failed.setdefault(function, line)
+    for line, file, number, fact in notes:
+        function = in_full(function_on(crate, file, number), unproved)
+        if site(fact) not in gone[function]:
+            told.failed.setdefault(function, line)
+    for function, (line, text) in unproved.items():
+        for fact in re.findall("`([^`]+)`", (OPEN.search(text) or [""])[0].removeprefix("`search`")):
+            if site(fact) not in gone[function]:
+                told.failed.setdefault(function, line)
+        if "it calls `" not in text and not any(is_in(function, circle) for circle in circles):
+            told.odd[function] = line
+    told.unfit = {function: line for function, line in told.unfit.items() if function not in told.failed}
+    told.odd = {function: line for function, line in told.odd.items() if function not in {**told.failed, **told.unfit}}
+    return told
+
+
+def said(log):
+    """The errors in proofs, the facts that no file answers, and the functions that are not proved, of a log, with their lines."""
+    errors, notes, unproved = [], [], {}
+    lines = log.splitlines()
+    for number, line in enumerate(lines, 1):
+        if (error := ERROR.match(line)) is not None:
+            more = ""
+            for next_line in lines[number:]:
+                if not next_line.startswith("  "):
+                    break
+                more += " " + next_line.strip()
+            errors.append((number, *error.groups()[:2], error[3] + more))
+        elif (note := NOTE.match(line)) is not None:
+            notes.append((number, note[1], int(note[2]), note[3]))
+        elif (one := UNPROVED.match(line)) is not None:
+            unproved[one[1]] = number, one[2]
+    return errors, notes, unproved
+
+
+def site(goal):
+    """A goal's name without the branches that lead to it: `returns` of `returns-then-n-lt128`."""
+    return re.split(r"-(?:then|else|in|after)-", goal)[0]
+
+
+def function_on(crate, source, number):
+    """The function on a line of a file."""
+    whole = (crate / source).read_text(encoding="utf-8")
+    return function_from(source, whole, sum(len(line) + 1 for line in whole.split("\n")[: number - 1]))
+
+
+def in_full(function, names):
+    """The name that the prover has for a function, of these."""
+    return next((name for name in names if f"::{name}".endswith(f"::{function}")), function)
 
 
 def function_of(path, fact):
     """The function whose fact it is. Functions that call one another have one proof, where each fact begins with its function's name."""
     *module, last = path
-    if last.startswith("+"):
-        last = next(name for name in sorted(last[1:].split("+"), key=len, reverse=True) if fact.startswith(name.replace("_", "-") + "-"))
-    return "::".join([*module, last])
+    return "::".join([*module, fact.partition("-")[0] if last.startswith("+") else last])
+
+
+def is_in(function, circle):
+    """Whether a function is one of those that call one another, whose proof stands in this folder."""
+    *module, last = function.split("::")
+    return tuple(module) == circle[:-1] and last in circle[-1]
