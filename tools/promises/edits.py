@@ -12,13 +12,13 @@ from pathlib import Path
 FUNCTION = re.compile(r'^( *)(?:pub(?:\(crate\))? )?(?:extern "C" )?fn (\w+)', re.M)
 # What a check says of a fact of a function that a proof file answers; of one that no file answers, by the place in the code where it is owed;
 # and of each function that is not proved.
-ERROR = re.compile(r"(?:\./)?proofs/(\S+)/(?:Proof|Invariants|Answers)\.antt:\d+:\d+: error: `([^`]+)`: (.*)")
+ERROR = re.compile(r"(?:\./)?proofs/(\S+)/(?:Proof|Invariants|Answers)\.antt:\d+:\d+: error: (?:`([^`]+)`: )?(.*)")
 NOTE = re.compile(r"note: (src/\S+):(\d+):\d+: it is not proved that .* \(`([^`]+)`\)")
 UNPROVED = re.compile(r"\w+ \w+::([\w:]+): (?:not proved|no proof)(.*)")
 OPEN = re.compile(r"`search` did not prove ((?:`[^`]+`(?:, | and )?)+)")
 # An error that only says that a name is gone, or that what it rests on failed.
 GONE = re.compile(r"(?:`[^`]*`: )?(?:module|record) `[^`]*`.* has no |.{0,200}is not in scope")
-RESTS = " was not admitted "
+RESTS = " was not admitted"
 
 @dataclass
 class Wrong:
@@ -116,13 +116,15 @@ def read_log(log, crate):
     errors, notes, unproved = said(log)
     told, gone, circles = Told(), defaultdict(set), set()
     for line, path, fact, text in errors:
-        function = function_of(path.split("/"), fact)
+        function = function_of(path.split("/"), fact, unproved)
         circles.update([tuple(path.split("/"))] if "+" in path else [])
-        if GONE.match(text):
+        if RESTS in text:
+            continue
+        if fact and not GONE.match(text):
+            told.failed.setdefault(function, line)
+        else:
             told.unfit.setdefault(function, line)
             gone[function].add(site(fact))
-        elif RESTS not in text:
-            told.failed.setdefault(function, line)
     for line, file, number, fact in notes:
         function = in_full(function_on(crate, file, number), unproved)
         if site(fact) not in gone[function]:
@@ -149,7 +151,7 @@ def said(log):
                 if not next_line.startswith("  "):
                     break
                 more += " " + next_line.strip()
-            errors.append((number, *error.groups()[:2], error[3] + more))
+            errors.append((number, error[1], error[2] or "", error[3] + more))
         elif (note := NOTE.match(line)) is not None:
             notes.append((number, note[1], int(note[2]), note[3]))
         elif (one := UNPROVED.match(line)) is not None:
@@ -173,9 +175,11 @@ def in_full(function, names):
     return next((name for name in names if f"::{name}".endswith(f"::{function}")), function)
 
 
-def function_of(path, fact):
+def function_of(path, fact, unproved):
     """The function whose fact it is. Functions that call one another have one proof, where each fact begins with its function's name."""
     *module, last = path
+    if last.startswith("+") and not fact:
+        return next((function for function in unproved if is_in(function, tuple(path))), "::".join(path))
     return "::".join([*module, fact.partition("-")[0] if last.startswith("+") else last])
 
 
