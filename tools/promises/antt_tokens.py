@@ -5,7 +5,7 @@ What could be read in two ways is refused, so that nothing hides from the checks
 import re
 from dataclasses import dataclass
 
-OPENERS, CLOSERS = {"(", "{"}, {")", "}"}
+OPENERS, CLOSERS = {"(", "{", "["}, {")", "}", "]"}
 
 PIECES = re.compile(
     r"""(?P<space>[ \n]+)
@@ -46,6 +46,7 @@ def tokens(source, line=1):
         piece = PIECES.match(source, at)
         refuse_odd(source, at, piece, line)
         kind, text = piece.lastgroup, piece.group(piece.lastgroup)
+        kind = "mark" if text in ("[", "]") else kind  # around the cases of an `elim`; `[]` is a name
         if kind == "space":
             if "\n" in text:
                 line += text.count("\n")

@@ -2,7 +2,7 @@
 import re
 from collections import Counter, defaultdict
 
-from .antt_tokens import OPENERS, Unreadable, groups, spelled, split
+from .antt_tokens import Unreadable, groups, spelled, split
 from .proposition import RELATIONS
 from .tree import place_of
 
@@ -112,7 +112,7 @@ def redefines(read):
 
 def is_binder(part):
     """Whether it is `(x y : A)` or `{x y : A}`."""
-    return len(part) > 2 and part[0].text in OPENERS and len(split(part[1:-1], ":")) == 2
+    return len(part) > 2 and part[0].text in ("(", "{") and len(split(part[1:-1], ":")) == 2
 
 
 def variables(parts):
