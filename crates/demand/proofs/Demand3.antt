@@ -6,7 +6,7 @@ use mathlib.Core.Bool.{Bool, true, false}
 use mathlib.Core.Logic.{inl, inr}
 use native.Mathlib.Omega.{arith}
 use Rattle.laws.specs.Mark.{Mark, known}
-use Rattle.demand.specs.Machine.{In, World, Happening, sends_up, handles, comes_down, gives_up, goes_on, jolted, sending, replying}
+use Rattle.demand.specs.Machine.{In, World, Happening, sends_up, handles, comes_down, end_gives_up, moves_elsewhere, jolted, sending, replying}
 use Rattle.demand.specs.Machine.{ending, after}
 use Rattle.demand.specs.Machine.{start, Trace, still, further, Calm, Quiet}
 use Rattle.demand.specs.Rules.{asks_for, says_list, WasHandled, Waiting, idle, awaiting, Topic, Saying, Exchange, Customer, Hit}
@@ -42,10 +42,10 @@ module _ (S : Topic) (X : Exchange S) (C : Customer S) (LX : ExchangeLaws S X) (
   keeps w (sends_up room r) h = sent_holds w room r h (C.send room w.end r) refl
   keeps w (handles room c i) h = handled_holds w c i h (X.enough room)
   keeps w (comes_down c i) h = I.hears S X C LX LC w.table w.end w.up w.down h c i
-  keeps w gives_up h =
+  keeps w end_gives_up h =
       I.shed S X C LX LC w.table w.end (C.give_up w.end) w.up w.down (LC.give_up_lem w.end h.sound)
       (LC.give_up_sound w.end h.sound) h
-  keeps w (goes_on o) h =
+  keeps w (moves_elsewhere o) h =
       I.passes S X C LX LC w.table (X.elsewhere w.table o) w.end w.up w.down (LX.else_last w.table o)
       (LX.else_held w.table o) (LX.else_good w.table o h.good) h
   keeps w (jolted j) h =
@@ -84,8 +84,8 @@ module _ (S : Topic) (X : Exchange S) (C : Customer S) (LX : ExchangeLaws S X) (
       let x = (messages S X C).handle room w.table d in
       handled_keeps w x.0 x.1 c i
   stays_under_way w (comes_down d j) c i = i
-  stays_under_way w gives_up c i = i
-  stays_under_way w (goes_on o) c i = i
+  stays_under_way w end_gives_up c i = i
+  stays_under_way w (moves_elsewhere o) c i = i
   stays_under_way w (jolted j) c i = i
 
   stays_under_ways : {from to : World (messages S X C)} → Trace (messages S X C) from to → (c : ℕ × Saying S) → In c from.down → In c to.down
@@ -123,8 +123,8 @@ module _ (S : Topic) (X : Exchange S) (C : Customer S) (LX : ExchangeLaws S X) (
   calm w (comes_down d j) n r m h k p =
       let g = h.proper d j in
       rw (LC.hear_drops w.end d.0 d.1 g.0 (record { sound = h.sound; other = λ r' m' p'. k (cc); proper = g.2 })) p
-  calm w gives_up n r m h k p = absurd k
-  calm w (goes_on o) n r m h k p = p
+  calm w end_gives_up n r m h k p = absurd k
+  calm w (moves_elsewhere o) n r m h k p = p
   calm w (jolted j) n r m h k p = absurd k
 
   pub calms :

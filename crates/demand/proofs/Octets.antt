@@ -7,7 +7,7 @@ use mathlib.Core.Option.{Option, none, some}
 use mathlib.Core.Logic.{inl, inr}
 use native.Mathlib.Omega.{arith}
 use Rattle.laws.specs.Mark.{Mark, known}
-use Rattle.demand.specs.Machine.{In, Machine, World, Happening, sends_up, handles, comes_down, gives_up, goes_on, jolted, sending}
+use Rattle.demand.specs.Machine.{In, Machine, World, Happening, sends_up, handles, comes_down, end_gives_up, moves_elsewhere, jolted, sending}
 use Rattle.demand.specs.Machine.{replying, ending, after, start}
 use Rattle.demand.specs.Machine.{Trace, still, further, Calm, Quiet}
 use Rattle.demand.specs.Rules.{asks_for, awaiting, Topic, Saying, Exchange, Customer, ExchangeLaws, CustomerLaws, Fresh, messages}
@@ -104,8 +104,8 @@ module _
               let fit = subst (λ x. S.Proper z.0.0 x z.0.1) own g.2 in
               k (subst (λ x. W.Matching x r c) q (subst (W.Matching z.0.0 r) (sym z.2) (K.matches z.0.0 r z.0.1 fit))),
         )
-    follows w h gives_up = (gives_up, refl, λ n r m p k. k)
-    follows w h (goes_on o) = (goes_on o, went w (X.elsewhere w.table o), λ n r m p k. k)
+    follows w h end_gives_up = (end_gives_up, refl, λ n r m p k. k)
+    follows w h (moves_elsewhere o) = (moves_elsewhere o, went w (X.elsewhere w.table o), λ n r m p k. k)
     follows w h (jolted j) = (jolted j, refl, λ n r m p k. k)
 
     follows_at :

@@ -2,7 +2,7 @@
 -- Assumes nothing.
 use mathlib.Core.Path.{◌≡◌, refl, ap, ◌∙◌}
 use mathlib.Core.Option.{Option, none}
-use Rattle.demand.specs.Machine.{In, Machine, World, sends_up, handles, comes_down, gives_up, sending, replying, ending, after}
+use Rattle.demand.specs.Machine.{In, Machine, World, sends_up, handles, comes_down, end_gives_up, sending, replying, ending, after}
 
 module _ (M : Machine) (w : World M) where
   none_sent : sending M w none ≡ w
@@ -35,6 +35,6 @@ module _ (M : Machine) (w : World M) where
   unfolding after
   stays_heard c i h = ap (ending M w) h ∙ same_end
 
-  pub stays_given : M.give_up w.end ≡ w.end → after M w gives_up ≡ w
+  pub stays_given : M.give_up w.end ≡ w.end → after M w end_gives_up ≡ w
   unfolding after
   stays_given h = ap (ending M w) h ∙ same_end

@@ -39,8 +39,8 @@ pub data Happening (M : Machine) (w : World M) : Type 0 where
   sends_up : M.Room → M.Req → Happening M w
   handles : M.Room → (c : M.Up) → In c w.up → Happening M w
   comes_down : (c : M.Down) → In c w.down → Happening M w
-  gives_up : Happening M w
-  goes_on : M.Elsewhere → Happening M w
+  end_gives_up : Happening M w
+  moves_elsewhere : M.Elsewhere → Happening M w
   jolted : M.Jolt → Happening M w
 
 unfoldable pub sending : (M : Machine) → World M → Option (M.End × M.Up) → World M
@@ -59,8 +59,8 @@ unfoldable pub after : (M : Machine) (w : World M) → Happening M w → World M
 after M w (sends_up room r) = sending M w (M.send room w.end r)
 after M w (handles room c i) = replying M w (M.handle room w.table c).0 (M.handle room w.table c).1
 after M w (comes_down c i) = ending M w (M.receive w.end c)
-after M w gives_up = ending M w (M.give_up w.end)
-after M w (goes_on o) = replying M w (M.elsewhere w.table o) none
+after M w end_gives_up = ending M w (M.give_up w.end)
+after M w (moves_elsewhere o) = replying M w (M.elsewhere w.table o) none
 after M w (jolted j) = ending M w (M.jolt w.end j)
 
 unfoldable pub start : (M : Machine) → M.Table → M.End → World M
@@ -76,8 +76,8 @@ abbrev pub Calm : (M : Machine) → (M.Down → Type 0) → {w : World M} → Ha
 Calm M Matching (sends_up room r) = Unit {0}
 Calm M Matching (handles room c i) = Unit {0}
 Calm M Matching (comes_down c i) = ¬ Matching c
-Calm M Matching gives_up = ⊥
-Calm M Matching (goes_on o) = Unit {0}
+Calm M Matching end_gives_up = ⊥
+Calm M Matching (moves_elsewhere o) = Unit {0}
 Calm M Matching (jolted j) = ⊥
 
 -- a run of such events

@@ -2,12 +2,12 @@
 ghost use Rattle.std.specs.Prelude.{◌≡◌, ◌≤◌};
 ghost use Rattle.lists.specs.Entries.{instances_most, entries_from};
 ghost use Rattle.end.specs.End.{used_most, closed};
-ghost use Rattle.end.specs.Taking.{doubted, restored, applied_by, learned_by, took, takes, MovesBy, GivesUp};
+ghost use Rattle.end.specs.Taking.{doubted, restored, applied_by, learned_by, took, GivesUp};
 ghost use Rattle.end.specs.inner.Refused.{move_refused};
 ghost use Rattle.instances.specs.Run.{instances_of};
 ghost use Rattle.rules.specs.Judge.{judge};
 
-use crate::end::{DOUBT, End, KNOWN, rules_hold};
+use crate::end::{DOUBT, End, KNOWN};
 use crate::list::{list_good, run_from};
 use crate::picture::replaced_by;
 use crate::send::marked;
@@ -15,7 +15,7 @@ use answers::{Reply, reply_to};
 use instances::Run;
 use lists::entries_at;
 use profile::{Profile, read_access};
-use refusals::{COMPONENTMOST, Handling, Refusal};
+use refusals::{Handling, Refusal};
 use requests::{Request, blank_request};
 use rules::{Verdict, apply_request, judge_request};
 
@@ -66,36 +66,35 @@ fn applied(p: Profile, e: End, request: Request, picture: Run) -> End
     ensures { result ≡ applied_by p e (judge instances_most p e.operation e.request (instances_of e.picture)) }
 {
     match judge_request(p, e.operation, request, picture) {
-        Verdict::Fails { error: _ } => doubted(e),
+        Verdict::Fails { error: _ } => return doubted(e),
         Verdict::Passes { renews: _ } => {
             let next = apply_request(p, e.operation, request, picture);
-            closed(e, e.before, next)
+            return closed(e, e.before, next);
         }
     }
 }
 
-// A list, whose entries stand from `at` up to `end`. One expression, since an early return would copy the end.
+// A list, whose entries stand from `at` up to `end`.
 fn learned(p: Profile, e: End, s: &[u8], at: usize, end: usize) -> End
     ensures { result ≡ learned_by p e (entries_from instances_most s.now at end) }
 {
     let read = entries_at(s, at, end);
     if !read.ok {
-        doubted(e)
-    } else {
-        let list = read.list;
-        let procedure = e.request.procedure;
-        let new = run_from(p, list);
-        if !list_good(p, procedure, new) {
-            doubted(e)
-        } else {
-            let picture = e.picture;
-            let next = replaced_by(picture, procedure, new);
-            closed(e, KNOWN, next)
-        }
+        return doubted(e);
     }
+    let list = read.list;
+    let procedure = e.request.procedure;
+    let new = run_from(p, list);
+    if !list_good(p, procedure, new) {
+        return doubted(e);
+    }
+    let picture = e.picture;
+    let next = replaced_by(picture, procedure, new);
+    closed(e, KNOWN, next)
 }
 
-fn took(p: Profile, e: End, s: &[u8]) -> End
+// The step of an arriving component, by value; others have `lent`.
+pub(crate) fn took(p: Profile, e: End, s: &[u8]) -> End
     requires { e.used ≤ used_most }
     ensures { result ≡ took p e s.now }
 {
@@ -103,16 +102,16 @@ fn took(p: Profile, e: End, s: &[u8]) -> End
         return e;
     }
     match reply_to(s, e.used as i16, e.operation) {
-        Reply::Dropped => e,
-        Reply::Rejected => doubted(e),
-        Reply::Failed { value: _ } => restored(e),
+        Reply::Dropped => return e,
+        Reply::Rejected => return doubted(e),
+        Reply::Failed { value: _ } => return restored(e),
         Reply::Done => {
             let request = e.request;
             let picture = e.picture;
-            applied(p, e, request, picture)
+            return applied(p, e, request, picture);
         }
-        Reply::Listed { at, end } => learned(p, e, s, at, end),
-        Reply::Wrong => doubted(e),
+        Reply::Listed { at, end } => return learned(p, e, s, at, end),
+        Reply::Wrong => return doubted(e),
     }
 }
 
@@ -126,33 +125,6 @@ fn refuses(end: End, refusal: Refusal) -> Moved
 }
 
 impl End {
-    // The step of an arriving component, by value; others have `lent`. Its tests are `good`'s, one by one, since that would copy the end.
-    pub(crate) fn take(self, access: &[u8], component: &[u8]) -> Moved
-        ensures { MovesBy (takes access.now self component.now) result }
-    {
-        if COMPONENTMOST < component.len() {
-            return refuses(self, Refusal::LongComponent);
-        }
-        let read = read_access(access);
-        if !read.ok {
-            return refuses(self, Refusal::BadProfile);
-        }
-        let p = read.profile;
-        let request = self.request;
-        if !rules_hold(self, request) {
-            return refuses(self, Refusal::BadTable);
-        }
-        let picture = self.picture;
-        if !picture.good(p) {
-            return refuses(self, Refusal::BadTable);
-        }
-        let end = took(p, self, component);
-        Moved {
-            end,
-            outcome: Handling::Done,
-        }
-    }
-
     // The answer is waited for no longer.
     pub fn give_up(self, access: &[u8]) -> Moved
         ensures { GivesUp access.now self result }

@@ -64,62 +64,62 @@ fn last_after(p: Profile, identifier: i16, last: u16) -> u16
 }
 
 impl Table {
-    // The next table and the reply to a component, which is written at the start of the output. One function and one expression, since
-    // each further function that took the table, and each early return, would copy it.
+    // The next table and the reply to a component, which is written at the start of the output. One function, since each further one that
+    // took the table would copy it; and each branch returns, since one that gave its value to the expression around it would copy that.
     pub fn arrive(self, access: &[u8], component: &[u8], out: &mut [u8]) -> Arrived
         ensures { Arrives access.now self component.now out.old result out.new }
     {
-        let run = self.run;
         let read = read_access(access);
         let p = read.profile;
         if out.len() < OUTPUTLEAST {
-            refuses(self.last, run, Refusal::ShortOutput)
-        } else if COMPONENTMOST < component.len() {
-            refuses(self.last, run, Refusal::LongComponent)
-        } else if !read.ok {
-            refuses(self.last, run, Refusal::BadProfile)
-        } else if LASTMOST < self.last {
-            refuses(self.last, run, Refusal::BadTable)
-        } else if !run.good(p) {
-            refuses(self.last, run, Refusal::BadTable)
-        } else {
-            let q = question_of(p, self.last, component);
-            if !q.asked {
-                let answer = q.answer;
+            return refuses(self.last, self.run, Refusal::ShortOutput);
+        }
+        if COMPONENTMOST < component.len() {
+            return refuses(self.last, self.run, Refusal::LongComponent);
+        }
+        if !read.ok {
+            return refuses(self.last, self.run, Refusal::BadProfile);
+        }
+        if LASTMOST < self.last {
+            return refuses(self.last, self.run, Refusal::BadTable);
+        }
+        if !self.run.good(p) {
+            return refuses(self.last, self.run, Refusal::BadTable);
+        }
+        let q = question_of(p, self.last, component);
+        if !q.asked {
+            let answer = q.answer;
+            let count = put_answer(out, answer);
+            return answers(self.last, self.run, answer, count);
+        }
+        let r = q.request;
+        let operation = q.operation;
+        let identifier = q.identifier;
+        let last = last_after(p, identifier, self.last);
+        match judge_request(p, operation, r, self.run) {
+            Verdict::Fails { error } => {
+                let answer = Answer::Error {
+                    identifier,
+                    value: error,
+                };
                 let count = put_answer(out, answer);
-                answers(self.last, run, answer, count)
-            } else {
-                let r = q.request;
-                let operation = q.operation;
-                let identifier = q.identifier;
-                let last = last_after(p, identifier, self.last);
-                match judge_request(p, operation, r, run) {
-                    Verdict::Fails { error } => {
-                        let answer = Answer::Error {
-                            identifier,
-                            value: error,
-                        };
-                        let count = put_answer(out, answer);
-                        answers(last, run, answer, count)
-                    }
-                    Verdict::Passes { renews } => {
-                        if operation == INTERROGATION {
-                            let sel = selection_of(p, r);
-                            let answer = Answer::Listing { identifier };
-                            let count = run.put_listed(out, identifier, p, sel);
-                            answers(last, run, answer, count)
-                        } else {
-                            let next = if renews {
-                                renew_request(p, r, run)
-                            } else {
-                                apply_request(p, operation, r, run)
-                            };
-                            let answer = Answer::Result { identifier };
-                            let count = put_answer(out, answer);
-                            answers(last, next, answer, count)
-                        }
-                    }
+                return answers(last, self.run, answer, count);
+            }
+            Verdict::Passes { renews } => {
+                if operation == INTERROGATION {
+                    let sel = selection_of(p, r);
+                    let answer = Answer::Listing { identifier };
+                    let count = self.run.put_listed(out, identifier, p, sel);
+                    return answers(last, self.run, answer, count);
                 }
+                let next = if renews {
+                    renew_request(p, r, self.run)
+                } else {
+                    apply_request(p, operation, r, self.run)
+                };
+                let answer = Answer::Result { identifier };
+                let count = put_answer(out, answer);
+                return answers(last, next, answer, count);
             }
         }
     }

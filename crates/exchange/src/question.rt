@@ -119,6 +119,7 @@ fn rejects_null(problem: u8) -> QuestionRead
 }
 
 // What the component `s` asks of an exchange that has handled `last`.
+#[inline(never)]
 pub(crate) fn question_of(p: Profile, last: u16, s: &[u8]) -> QuestionRead
     ensures { result ≡ question_read (question p last s.now) }
 {

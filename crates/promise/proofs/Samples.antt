@@ -198,10 +198,10 @@ w8 =
 abbrev Follows : Type 0
 Follows =
     (machine.after M (begin sample_access) (machine.sends_up output_least activates) ≡ w1)
-    × (machine.after M w1 machine.gives_up ≡ w2)
+    × (machine.after M w1 machine.end_gives_up ≡ w2)
     × (machine.after M w2 (machine.sends_up output_least activates) ≡ w3)
     × (machine.after M w3 (machine.handles output_least activation_octets (inl refl)) ≡ w4)
-    × (machine.after M w4 machine.gives_up ≡ w5)
+    × (machine.after M w4 machine.end_gives_up ≡ w5)
     × (machine.after M w5 (machine.sends_up output_least interrogates) ≡ w6)
     × (machine.after M w6 (machine.handles output_least third_octets (inl refl)) ≡ w7)
     × (machine.after M w7 (machine.comes_down listing_octets (inl refl)) ≡ w8)
@@ -243,10 +243,10 @@ to x is run = subst (Trace M (begin sample_access)) is (further run x)
 asks : Trace M (begin sample_access) w6
 asks =
     to (machine.sends_up output_least interrogates) follows.5
-    (to machine.gives_up follows.4
+    (to machine.end_gives_up follows.4
     (to (machine.handles output_least activation_octets (inl refl)) follows.3
     (to (machine.sends_up output_least activates) follows.2
-    (to machine.gives_up follows.1
+    (to machine.end_gives_up follows.1
     (to (machine.sends_up output_least activates) follows.0 still)))))
 
 -- and handled

@@ -157,4 +157,4 @@ pub record RefusedStays (access : List ℕ) : Type 0 where
       after (machine access) w (comes_down s i) ≡ w
   pub giving :
       (w : World (machine access)) (n : ℕ) → (gives_up access w.end).told ≡ refuses n →
-      after (machine access) w events.gives_up ≡ w
+      after (machine access) w events.end_gives_up ≡ w

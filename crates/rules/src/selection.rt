@@ -33,6 +33,7 @@ pub(crate) fn is_asked(asked: u8, k: usize) -> bool
 }
 
 // The instances that a request selects.
+#[inline(never)]
 pub fn selection_of(p: Profile, r: Request) -> Selection
     ensures { SelectionOf p r result }
 {

@@ -45,11 +45,9 @@ pub extern "C" fn sconcetoad_arrive(
     ensures { ArrivedBy access.now table component.now out.old result out.new }
 {
     let arrived = table.arrive(access, component, out);
-    let outcome = arrived.outcome;
-    let table = arrived.table;
     Arrival {
-        refusal: refusal_in(outcome),
+        refusal: refusal_in(arrived.outcome),
         count: arrived.count,
-        table,
+        table: arrived.table,
     }
 }

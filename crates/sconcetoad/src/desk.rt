@@ -119,7 +119,7 @@ pub extern "C" fn sconcetoad_interrogate(
     }
 }
 
-// What `end` becomes, where it stands, when `component` arrives; the number of the refusal, 0 where there is none. Walked by hand, as `arrived` is.
+// What `end` becomes, where it stands, when `component` arrives; the number of the refusal, 0 where there is none.
 #[unsafe(no_mangle)]
 pub extern "C" fn sconcetoad_arrived(end: &mut End, access: &[u8], component: &[u8]) -> u8
     ensures { TakenBy access.now end.old component.now result end.new }

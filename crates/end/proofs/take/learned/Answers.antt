@@ -43,8 +43,8 @@ returns-then-not-list_good c =
     (sym c.list_good.ensures ∙ c.if-not-list_good.true) ∙
     got.by
 
-pub returns-else-not-list_good : goal.returns-else-not-list_good
-returns-else-not-list_good c =
+pub returns : goal.returns
+returns c =
     let a = c.args in
     let got = entered a.p a.e (entries_from instances_most a.s.now a.at a.end) _
     c.entries_at-read.ensures (not-false _

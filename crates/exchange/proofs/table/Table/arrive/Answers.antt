@@ -14,7 +14,7 @@ use native.Mathlib.Omega.{arith}
 use borrow.Author.Tests.{not-true, not-false}
 use borrow.Author.Rules.{rules}
 use Rattle.exchange.proofs.table.Table.arrive.Goals as goal
-use Rattle.exchange.proofs.table.Table.arrive.Goals.{else-renews, then-renews}
+use Rattle.exchange.proofs.table.Table.arrive.Goals.{then-renews, else-renews}
 
 pub returns-then-out-lt-OUTPUTLEAST : goal.returns-then-out-lt-OUTPUTLEAST
 returns-then-out-lt-OUTPUTLEAST c =
@@ -111,8 +111,8 @@ returns-then-operation-eq-INTERROGATION c =
     (rw c.selection_of-sel.ensures at
     (rw (to_z-of_z id) at c.put_listed-count.ensures)))
 
-pub returns-after-renews : goal.returns-after-renews
-returns-after-renews c =
+pub returns-in-Passes : goal.returns-in-Passes
+returns-in-Passes c =
     let a = c.args in
     let id : SFits w16 c.question_of-q.result.identifier = search (rules, c.question_of-q.type_inv) in
     let good = sym c.good.ensures ∙ c.if-not-good.false in
@@ -125,7 +125,7 @@ returns-after-renews c =
           c.in-Passes.is v.if-renews.true _ v.renew_request-next.ensures
       | else-renews v ↦ v.next-is ∙ v.apply_request-next.ensures
     ] in
-    rw (c.answers-else-operation-eq-INTERROGATION.ensures, to_z-of_z id)
+    rw (c.answers-in-Passes.ensures, to_z-of_z id)
     (changes_arrives a.access.now a.self a.component.now a.out.now c.read_access-read.result c.read_access-read.ensures
     (omega (arith, c.if-out-lt-OUTPUTLEAST.false))
     (omega (arith, c.if-component-gt-COMPONENTMOST.false))
@@ -136,4 +136,4 @@ returns-after-renews c =
     _ c.judge_request.ensures _
     c.in-Passes.is
     c.if-operation-eq-INTERROGATION.false _ applies
-    (rw (to_z-of_z id) at c.put_answer-count-else-operation-eq-INTERROGATION.ensures))
+    (rw (to_z-of_z id) at c.put_answer-count-in-Passes.ensures))
