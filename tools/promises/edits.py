@@ -167,7 +167,10 @@ def site(goal):
 def function_on(crate, source, number):
     """The function on a line of a file."""
     whole = (crate / source).read_text(encoding="utf-8")
-    return function_from(source, whole, sum(len(line) + 1 for line in whole.split("\n")[: number - 1]))
+    lines = whole.split("\n")
+    while lines[number - 1].lstrip().startswith("#["):  # the prover begins a function at its attributes
+        number += 1
+    return function_from(source, whole, sum(len(line) + 1 for line in lines[: number - 1]))
 
 
 def in_full(function, names):
