@@ -118,7 +118,8 @@ fn rejects_null(problem: u8) -> QuestionRead
     })
 }
 
-// What the component `s` asks of an exchange that has handled `last`.
+// What the component `s` asks of an exchange that has handled `last`. Not inlined, so that what it takes of the stack is free again when the
+// request is applied.
 #[inline(never)]
 pub(crate) fn question_of(p: Profile, last: u16, s: &[u8]) -> QuestionRead
     ensures { result ≡ question_read (question p last s.now) }

@@ -32,7 +32,7 @@ pub(crate) fn is_asked(asked: u8, k: usize) -> bool
     asked as usize == k
 }
 
-// The instances that a request selects.
+// The instances that a request selects. Not inlined, for the stack's sake, as `question_of` of the exchange.
 #[inline(never)]
 pub fn selection_of(p: Profile, r: Request) -> Selection
     ensures { SelectionOf p r result }
