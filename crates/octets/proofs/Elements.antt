@@ -10,16 +10,15 @@ use Rattle.laws.specs.Over.{Wrote}
 use Rattle.laws.specs.Stands.{Stands}
 use Rattle.laws.proofs.Over.{wrote, room_then, puts_then}
 use Rattle.laws.proofs.Stands.{stands_first, stands_left, stands_right}
-use Rattle.octets.specs.Head.{head_at}
+use Rattle.octets.specs.Head.{head_at, is_head}
 use Rattle.octets.specs.Element.{length_most, length_holds, length_with, length_fewest, head_with, head_octets, element, HeadSize, PutHead}
-use Rattle.octets.specs.declared.head.Head.TheVariants.{Is}
 use Rattle.octets.proofs.Lengths.{length_length, length_back, fewest_short, shortest_holds, shortest_most}
 
 -- a head with k octets after the length's first, k as it likes
 pub head_back :
     (k depth tag n : ℕ) (s : List ℕ) (at end : ℕ) → (depth ≡ 0 → ⊥) → (tag % 32 ≡ 31 → ⊥) → k ≤ length_most →
     length_holds n k ≡ true → Stands s at (head_with k tag n) → at + suc (suc k) + n ≤ end → end ≤ length s →
-    head_at depth s at end ≡ Is tag (at + suc (suc k)) (at + suc (suc k) + n) (at + suc (suc k) + n)
+    head_at depth s at end ≡ is_head tag (at + suc (suc k)) (at + suc (suc k) + n) (at + suc (suc k) + n)
 unfolding head_at
 head_back k depth tag n s at end deep low most holds st fit in-s =
     let next : at + 1 + suc k ≡ at + suc (suc k) = omega arith in
@@ -55,7 +54,7 @@ pub element_back :
     length contents < 65536 → Stands s at (element tag contents) → at + length (element tag contents) ≤ end →
     end ≤ length s →
     head_at depth s at end
-    ≡ Is tag (at + length (head_octets tag (length contents))) (at + length (element tag contents))
+    ≡ is_head tag (at + length (head_octets tag (length contents))) (at + length (element tag contents))
     (at + length (element tag contents))
 element_back depth tag contents s at end deep low small st fit in-s =
     let n : ℕ = length contents in
@@ -108,7 +107,7 @@ length_small tag contents h = omega (arith, ap length (element_small tag content
 -- they end
 pub record Inside (depth : ℕ) (s : List ℕ) (at end tag : ℕ) (ws : List ℕ) : Type 0 where
   pub start : ℕ
-  pub is : head_at depth s at end ≡ Is tag start (start + length ws) (start + length ws)
+  pub is : head_at depth s at end ≡ is_head tag start (start + length ws) (start + length ws)
   pub stands : Stands s start ws
   pub stop : start + length ws ≡ at + length (element tag ws)
   pub room : start + length ws ≤ length s

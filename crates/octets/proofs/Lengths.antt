@@ -8,6 +8,7 @@ use native.Mathlib.Omega.{arith}
 use lib.ListN.{length, get_or}
 use lib.Dec.{ltb, eqb}
 use borrow.Author.Tests.{lt-ltb, le-ltb, le-leb, lt-leb, ltb-true}
+use Rattle.std.specs.Prelude.{Option, Some, None}
 use Rattle.laws.specs.Stands.{Stands}
 use Rattle.laws.specs.Fewest.{fewest_from}
 use Rattle.laws.proofs.Picks.{pick_ind}
@@ -17,7 +18,6 @@ use Rattle.octets.specs.Word.{word_at, word_octets}
 use Rattle.octets.specs.Head.{span_of, length_at}
 use Rattle.octets.specs.Element.{length_most, length_holds, length_with, length_fewest}
 use Rattle.octets.specs.declared.head.Span.{Span}
-use Rattle.octets.specs.declared.head.Span.TheVariants.{Is, Wrong}
 use Rattle.octets.proofs.Words.{length_word, word_back}
 
 -- the bound: k octets after the first say every length below 256 ^ k (below 128 with none)
@@ -49,19 +49,19 @@ unfolding length_fewest length_holds
 fewest_long n h = rw (fewest_step (length_holds n) 1 0, le-ltb n 128 h)
 
 -- contents that end by `end`, and contents that do not
-pub span_fits : (start n end : ℕ) → start + n ≤ end → span_of start n end ≡ Is start (start + n)
+pub span_fits : (start n end : ℕ) → start + n ≤ end → span_of start n end ≡ Some (record { start = start; stop = start + n })
 unfolding span_of
 span_fits start n end h = rw (le-leb (start + n) end h)
 
-pub span_past : (start n end : ℕ) → end < start + n → span_of start n end ≡ Wrong
+pub span_past : (start n end : ℕ) → end < start + n → span_of start n end ≡ None
 unfolding span_of
 span_past start n end h = rw (lt-leb (start + n) end h)
 
 -- where no length octet is left there is no length
-pub length_past : (s : List ℕ) (at end : ℕ) → end ≤ at → length_at s at end ≡ Wrong
+pub length_past : (s : List ℕ) (at end : ℕ) → end ≤ at → length_at s at end ≡ None
 unfolding length_at
 length_past s at end h =
-    let P : Span → Type 0 = λ x. x ≡ Wrong in
+    let P : Option Span → Type 0 = λ x. x ≡ None in
     pick_ind P (ltb (get_or s at 0) 0x80) (λ _. span_past (at + 1) (get_or s at 0) end (omega arith)) (λ _.
     pick_ind P (eqb (get_or s at 0) 0x81) (λ _. span_past (at + 2) (word_at 1 s (at + 1)) end (omega arith)) (λ _.
     pick_ind P (eqb (get_or s at 0) 0x82) (λ _. span_past (at + 3) (word_at 2 s (at + 1)) end (omega arith)) (λ _. refl)))
@@ -79,7 +79,7 @@ length_by (suc (suc k)) s at end most first = absurd (omega arith)
 pub length_back :
     (k n : ℕ) (s : List ℕ) (at end : ℕ) → k ≤ length_most → length_holds n k ≡ true →
     Stands s at (length_with k n) → at + suc k + n ≤ end →
-    length_at s at end ≡ Is (at + suc k) (at + suc k + n)
+    length_at s at end ≡ Some (record { start = at + suc k; stop = at + suc k + n })
 unfolding length_at length_holds length_with
 length_back zero n s at end most holds st fit =
     rw (stands_first s at n [] st, holds) (span_fits (at + 1) n end fit)

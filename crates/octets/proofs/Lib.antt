@@ -6,3 +6,4 @@ pub mod Slices
 pub mod Spellings
 pub mod Bads
 pub mod Firsts
+pub mod Rooms

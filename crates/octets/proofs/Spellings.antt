@@ -9,18 +9,17 @@ use lib.ListN.{length, get_or, length-append}
 use lib.Seq.{slice, slice_empty, slice-cons, length-slice}
 use lib.Dec.{ltb, leb, eqb}
 use borrow.Author.Tests.{lt-ltb, leb-true, ltb-true, ltb-false, eqb-true, eqb-false}
+use Rattle.std.specs.Prelude.{Option, Some, None}
 use Rattle.laws.specs.Tests.{any}
 use Rattle.laws.specs.Stands.{Stands}
 use Rattle.laws.proofs.Picks.{pick_ind}
 use Rattle.laws.proofs.Stands.{stands_left, stands_right}
 use Rattle.octets.specs.Word.{word_at, word_octets}
-use Rattle.octets.specs.Head.{span_of, length_at, tagged, head_at}
+use Rattle.octets.specs.Head.{span_of, length_at, tagged, head_at, is_head}
 use Rattle.octets.specs.Element.{length_most, length_holds, length_with, length_fewest, head_with, element}
 use Rattle.octets.specs.Spelt.{Spells, Shortest}
 use Rattle.octets.specs.declared.head.Span.{Span}
-use Rattle.octets.specs.declared.head.Span.TheVariants as span
 use Rattle.octets.specs.declared.head.Head.{Head}
-use Rattle.octets.specs.declared.head.Head.TheVariants as head
 use Rattle.octets.proofs.Slices.{slice_join, slice_one}
 use Rattle.octets.proofs.Within.{neither}
 use Rattle.octets.proofs.Lengths.{length_length, shortest_holds, shortest_least, shortest_most}
@@ -60,9 +59,9 @@ record LengthSpelt (s : List ℕ) (at end start stop : ℕ) : Type 0 where
   ends : stop ≤ end
   is : slice at start s ≡ length_with k (stop - start)
 
-abbrev LengthIf : List ℕ → ℕ → ℕ → Span → Type 0
-LengthIf s at end (span.Is start stop) = LengthSpelt s at end start stop
-LengthIf s at end span.Wrong = Unit {0}
+abbrev LengthIf : List ℕ → ℕ → ℕ → Option Span → Type 0
+LengthIf s at end (Some span) = LengthSpelt s at end span.start span.stop
+LengthIf s at end None = Unit {0}
 
 -- a length n of k octets after the first, if its contents end by `end`
 span_only :
@@ -114,7 +113,7 @@ module _ (s : List ℕ) (small : (i : ℕ) → get_or s i 0 < 256) where
   unfolding length_at
   length_only at end inside =
       let b : ℕ = get_or s at 0 in
-      let P : Span → Type 0 = LengthIf s at end in
+      let P : Option Span → Type 0 = LengthIf s at end in
       pick_ind P (ltb b 0x80) (λ e. length_one at end inside (ltb-true b 0x80 e)) (λ _.
       pick_ind P (eqb b 0x81) (λ e. length_some 0 at end (omega arith) inside (eqb-true b 0x81 e)) (λ _.
       pick_ind P (eqb b 0x82) (λ e. length_some 1 at end (omega arith) inside (eqb-true b 0x82 e)) (λ _. tt)))
@@ -135,16 +134,18 @@ pub record HeadSpelt (depth : ℕ) (s : List ℕ) (at end tag start stop next : 
   pub inside : end ≤ length s
   pub spells : Spells tag (slice start stop s) (slice at next s)
 
-abbrev HeadIf : ℕ → List ℕ → ℕ → ℕ → Head → Type 0
-HeadIf depth s at end (head.Is tag start stop next) = HeadSpelt depth s at end tag start stop next
-HeadIf depth s at end head.Bad = Unit {0}
+abbrev HeadIf : ℕ → List ℕ → ℕ → ℕ → Option Head → Type 0
+HeadIf depth s at end (Some h) = HeadSpelt depth s at end h.tag h.start h.stop h.next
+HeadIf depth s at end None = Unit {0}
 
 tagged_only :
-    (depth : ℕ) (s : List ℕ) (at end : ℕ) (x : Span) → (depth ≡ 0 → ⊥) → end ≤ length s → (get_or s at 0 % 32 ≡ 31 → ⊥) →
+    (depth : ℕ) (s : List ℕ) (at end : ℕ) (x : Option Span) → (depth ≡ 0 → ⊥) → end ≤ length s → (get_or s at 0 % 32 ≡ 31 → ⊥) →
     LengthIf s (at + 1) end x →
     HeadIf depth s at end (tagged (get_or s at 0) x)
-tagged_only depth s at end (span.Is start stop) deep inside low l =
+tagged_only depth s at end (Some span) deep inside low l =
     let tag : ℕ = get_or s at 0 in
+    let start : ℕ = span.start in
+    let stop : ℕ = span.stop in
     let after : suc at ≡ at + 1 = omega arith in
     let starts : start ≡ at + suc (suc l.k) = omega (arith, l.starts) in
     let long : length (slice start stop s) ≡ stop - start = length-slice start stop s (omega (arith, l.ends)) in
@@ -169,7 +170,7 @@ tagged_only depth s at end (span.Is start stop) deep inside low l =
         is = rw long (sym (slice_join at start stop s (omega arith) l.stops) ∙ ap (λ (ws : List ℕ). ws ++ slice start stop s) is);
       };
     }
-tagged_only depth s at end span.Wrong deep inside low l = tt
+tagged_only depth s at end None deep inside low l = tt
 
 module _ (s : List ℕ) (small : (i : ℕ) → get_or s i 0 < 256) where
   head_if : (depth at end : ℕ) → HeadIf depth s at end (head_at depth s at end)
@@ -186,7 +187,7 @@ module _ (s : List ℕ) (small : (i : ℕ) → get_or s i 0 < 256) where
 
   -- what is accepted as an element spells one, and there was a level left to go
   pub head_only :
-      (depth at end : ℕ) {tag start stop next : ℕ} → head_at depth s at end ≡ head.Is tag start stop next →
+      (depth at end : ℕ) {tag start stop next : ℕ} → head_at depth s at end ≡ is_head tag start stop next →
       HeadSpelt depth s at end tag start stop next
   head_only depth at end e = rw e at (head_if depth at end)
 
@@ -206,7 +207,7 @@ spells_length {tag} {contents} sp =
 pub spells_back :
     (depth : ℕ) {tag : ℕ} {contents ws : List ℕ} (s : List ℕ) (at end : ℕ) (sp : Spells tag contents ws) →
     (depth ≡ 0 → ⊥) → (tag % 32 ≡ 31 → ⊥) → Stands s at ws → at + length ws ≤ end → end ≤ length s →
-    head_at depth s at end ≡ head.Is tag (at + suc (suc sp.k)) (at + length ws) (at + length ws)
+    head_at depth s at end ≡ is_head tag (at + suc (suc sp.k)) (at + length ws) (at + length ws)
 spells_back depth {tag} {contents} {ws} s at end sp deep low st fit inside =
     let n : ℕ = length contents in
     let long : at + suc (suc sp.k) + n ≡ at + length ws = omega (arith, spells_length sp) in

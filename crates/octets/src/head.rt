@@ -8,95 +8,79 @@ use crate::word::word_at;
 
 // Where contents stand.
 #[derive(Clone, Copy)]
-enum Span {
-    Is { start: usize, stop: usize },
-    Wrong,
+struct Span {
+    start: usize,
+    stop: usize,
 }
 
 // An element: its tag, its contents from `start` up to `stop`, and `next`, where what follows it begins.
 #[derive(Clone, Copy)]
-pub enum Head {
-    Is {
-        tag: u8,
-        start: usize,
-        stop: usize,
-        next: usize,
-    },
-    Bad,
+pub struct Head {
+    pub tag: u8,
+    pub start: usize,
+    pub stop: usize,
+    pub next: usize,
 }
 
 // `n` octets from `start` on, if they end by `end`.
-fn span_of(start: usize, n: usize, end: usize) -> Span
+fn span_of(start: usize, n: usize, end: usize) -> Option<Span>
     requires { start ≤ end }
     ensures { result ≡ span_of start n end }
 {
     if n <= end - start {
-        Span::Is {
+        Some(Span {
             start,
             stop: start + n,
-        }
+        })
     } else {
-        Span::Wrong
+        None
     }
 }
 
 // The contents whose length the `k` octets from `at` on say.
-fn length_by(s: &[u8], at: usize, k: usize, end: usize) -> Span
+fn length_by(s: &[u8], at: usize, k: usize, end: usize) -> Option<Span>
     requires { (at ≤ end) × (end ≤ length s.now) × (k ≤ length_most) }
     ensures { result ≡ span_of (at + k) (word_at k s.now at) end }
 {
     if end - at < k {
-        return Span::Wrong;
+        return None;
     }
     let n = word_at(s, at, k);
     span_of(at + k, n, end)
 }
 
 // The contents whose length octets begin at `at`.
-fn length_at(s: &[u8], at: usize, end: usize) -> Span
+fn length_at(s: &[u8], at: usize, end: usize) -> Option<Span>
     requires { end ≤ length s.now }
     ensures { result ≡ length_at s.now at end }
 {
     if end <= at {
-        return Span::Wrong;
+        return None;
     }
-    let first = s[at];
-    if first < 0x80 {
-        return span_of(at + 1, first as usize, end);
+    match s[at] {
+        first @ 0..0x80 => span_of(at + 1, first as usize, end),
+        0x81 => length_by(s, at + 1, 1, end),
+        0x82 => length_by(s, at + 1, 2, end),
+        _ => None,
     }
-    if first == 0x81 {
-        return length_by(s, at + 1, 1, end);
-    }
-    if first == 0x82 {
-        return length_by(s, at + 1, 2, end);
-    }
-    Span::Wrong
 }
 
 // The element at `at`, of the octets of `s` before `end`; `depth` says how many elements deep it may go, itself counted.
-pub fn head_at(s: &[u8], at: usize, end: usize, depth: u8) -> Head
+pub fn head_at(s: &[u8], at: usize, end: usize, depth: u8) -> Option<Head>
     ensures { HeadAt depth s.now at end result }
 {
-    if depth == 0 {
-        return Head::Bad;
-    }
-    if s.len() < end {
-        return Head::Bad;
-    }
-    if end <= at {
-        return Head::Bad;
+    if depth == 0 || s.len() < end || end <= at {
+        return None;
     }
     let tag = s[at];
     if tag % 32 == 31 {
-        return Head::Bad;
+        return None;
     }
-    match length_at(s, at + 1, end) {
-        Span::Is { start, stop } => Head::Is {
-            tag,
-            start,
-            stop,
-            next: stop,
-        },
-        Span::Wrong => Head::Bad,
-    }
+    let Span { start, stop } = length_at(s, at + 1, end)?;
+    Some(Head {
+        tag,
+        start,
+        stop,
+        next: stop,
+    })
 }

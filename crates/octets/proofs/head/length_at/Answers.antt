@@ -8,16 +8,16 @@ use Rattle.octets.proofs.head.length_at.Goals as goal
 pub returns-then-end-at : goal.returns-then-end-at
 returns-then-end-at c = sym (length_past _ _ _ c.if-end-at.true)
 
-pub returns-then-first-lt128 : goal.returns-then-first-lt128
+pub returns-in-0-to-127 : goal.returns-in-0-to-127
 unfolding length_at
-returns-then-first-lt128 c = search (cases, c.span_of.ensures)
+returns-in-0-to-127 c = search (cases, c.span_of.ensures)
 
-pub returns-then-first : goal.returns-then-first
-returns-then-first c = c.length_by.ensures ∙ sym (length_by 0 _ _ _ (omega arith) c.if-first.true)
+pub returns-in-129 : goal.returns-in-129
+returns-in-129 c = c.length_by.ensures ∙ sym (length_by 0 _ _ _ (omega arith) c.in-129.is)
 
-pub returns-then-first-2 : goal.returns-then-first-2
-returns-then-first-2 c = c.length_by-then-first-2.ensures ∙ sym (length_by 1 _ _ _ (omega arith) c.if-first-2.true)
+pub returns-in-130 : goal.returns-in-130
+returns-in-130 c = c.length_by-in-130.ensures ∙ sym (length_by 1 _ _ _ (omega arith) c.in-130.is)
 
-pub returns : goal.returns
+pub returns-in_default : goal.returns-in_default
 unfolding length_at
-returns c = search cases
+returns-in_default c = search cases

@@ -3,21 +3,20 @@ use lib.ListN.{length-set}
 use mathlib.Core.Path.{◌≡◌, refl, sym, ap, ◌∙◌}
 use Prim.Native.Nat.{ℕ, ◌+◌}
 use native.Mathlib.Omega.{arith}
-use borrow.Author.Rules.{rules}
 use Rattle.octets.proofs.write.write_word.Goals as goal
 
 pub loop-i-init : goal.loop-i-init
-loop-i-init c = (search rules, refl, refl)
+loop-i-init c = (refl, refl)
 
 pub loop-i-preserved : goal.loop-i-preserved
 loop-i-preserved c =
     let l = c.loop-i in
-    (search rules, simp length-set l.invariant.1, word_turn l.out c.args.at l.i l.rest (omega arith) ∙ l.invariant.2)
+    (simp length-set l.invariant.0, word_turn l.out c.args.at l.i l.rest (omega arith) ∙ l.invariant.1)
 
 pub returns : goal.returns
 returns c = let a = c.args in
     let none : c.loop-i.i ≡ 0 = omega arith in
     record {
       moved = ap (λ (j : ℕ). a.at + j) (sym (length_word a.k a.n));
-      holds = sym (word_over c.loop-i.out a.at c.loop-i.rest) ∙ (rw none at c.loop-i.invariant.2);
+      holds = sym (word_over c.loop-i.out a.at c.loop-i.rest) ∙ (rw none at c.loop-i.invariant.1);
     }
