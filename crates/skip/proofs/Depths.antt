@@ -9,6 +9,7 @@ use native.Mathlib.Omega.{arith}
 use lib.ListN.{length}
 use lib.Dec.{leb, leb-suc-zero, leb-suc-suc}
 use borrow.Author.Tests.{le-leb, eq-eqb, ne_eqb}
+use Rattle.std.specs.Prelude.{Some, None}
 use Rattle.laws.specs.Pick.{pick}
 use Rattle.laws.specs.Stands.{Stands}
 use Rattle.laws.proofs.Picks.{pick_last}
@@ -18,11 +19,10 @@ use Rattle.octets.proofs.Elements.{Inside, inside_element, length_element}
 use Rattle.skip.specs.Skip.{skip_depth, after_skip, skip_element, skip_at}
 use Rattle.skip.specs.Nested.{nested_around, nested}
 use Rattle.skip.specs.inner.Skip.{skip_contents}
-use Rattle.skip.specs.declared.skip.Skip.TheVariants.{To, Wrong}
 use Rattle.skip.proofs.Skips.{contents_end, contents_step, element_step}
 
 -- no element goes no elements deep
-pub skip_none : (s : List ℕ) (at end : ℕ) → skip_element 0 s at end ≡ Wrong
+pub skip_none : (s : List ℕ) (at end : ℕ) → skip_element 0 s at end ≡ None
 unfolding skip_element
 skip_none s at end = refl
 
@@ -30,7 +30,7 @@ skip_none s at end = refl
 pub skip_constructed :
     (depth : ℕ) (s : List ℕ) (at end tag : ℕ) (ws : List ℕ) → tag / 32 % 2 ≡ 1 → (i : Inside depth s at end tag ws) →
     skip_element depth s at end
-    ≡ pick (skip_contents (depth - 1) s i.start (i.start + length ws)) (To (at + length (element tag ws))) Wrong
+    ≡ pick (skip_contents (depth - 1) s i.start (i.start + length ws)) (Some (at + length (element tag ws))) None
 skip_constructed depth s at end tag ws holds i =
     element_step depth s at end
     ∙ rw (
@@ -43,11 +43,11 @@ skip_constructed depth s at end tag ws holds i =
 -- contents that are one element are good exactly if that is skipped
 pub contents_one :
     (depth : ℕ) (s : List ℕ) (start stop : ℕ) (b : Bool) → start < stop →
-    skip_element depth s start stop ≡ pick b (To stop) Wrong → skip_contents depth s start stop ≡ b
+    skip_element depth s start stop ≡ pick b (Some stop) None → skip_contents depth s start stop ≡ b
 contents_one depth s start stop b some e =
     contents_step depth s start stop some ∙ ap (after_skip (λ next. skip_contents depth s next stop)) e ∙ by_test b
   where
-    by_test : (t : Bool) → after_skip (λ next. skip_contents depth s next stop) (pick t (To stop) Wrong) ≡ t
+    by_test : (t : Bool) → after_skip (λ next. skip_contents depth s next stop) (pick t (Some stop) None) ≡ t
     by_test true = contents_end depth s stop stop (omega arith) ∙ eq-eqb stop stop refl
     by_test false = refl
 
@@ -58,20 +58,20 @@ pub record Leaf (ws : List ℕ) : Type 0 where
   pub some : 0 < length ws
   pub skipped : (depth : ℕ) (s : List ℕ) (at end : ℕ) →
       Stands s at ws → at + length ws ≤ end → end ≤ length s →
-      skip_element depth s at end ≡ pick (leb 1 depth) (To (at + length ws)) Wrong
+      skip_element depth s at end ≡ pick (leb 1 depth) (Some (at + length ws)) None
 
 -- an element that is skipped wherever one more may stand
 element_leaf :
     (tag : ℕ) (ws : List ℕ) → (tag % 32 ≡ 31 → ⊥) → length ws < 65536 →
     ((depth : ℕ) (s : List ℕ) (at end : ℕ) → Inside (suc depth) s at end tag ws →
-    skip_element (suc depth) s at end ≡ To (at + length (element tag ws))) →
+    skip_element (suc depth) s at end ≡ Some (at + length (element tag ws))) →
     Leaf (element tag ws)
 element_leaf tag ws low small passed = record { some = omega (arith, length_element tag ws); skipped = skipped }
   where
     skipped :
         (depth : ℕ) (s : List ℕ) (at end : ℕ) →
         Stands s at (element tag ws) → at + length (element tag ws) ≤ end → end ≤ length s →
-        skip_element depth s at end ≡ pick (leb 1 depth) (To (at + length (element tag ws))) Wrong
+        skip_element depth s at end ≡ pick (leb 1 depth) (Some (at + length (element tag ws))) None
     skipped zero s at end st fit in-s = skip_none s at end
     skipped (suc depth) s at end st fit in-s =
         rw (le-leb 1 (suc depth) (omega arith))
@@ -96,7 +96,7 @@ module _ (tag : ℕ) (low : tag % 32 ≡ 31 → ⊥) (holds : tag / 32 % 2 ≡ 1
     pub around_skipped :
         (n depth : ℕ) (s : List ℕ) (at end : ℕ) → length (nested_around tag n inmost) < 65536 →
         Stands s at (nested_around tag n inmost) → at + length (nested_around tag n inmost) ≤ end → end ≤ length s →
-        skip_element depth s at end ≡ pick (leb (suc n) depth) (To (at + length (nested_around tag n inmost))) Wrong
+        skip_element depth s at end ≡ pick (leb (suc n) depth) (Some (at + length (nested_around tag n inmost))) None
     unfolding nested_around
     around_skipped zero depth s at end small st fit in-s = leaf.skipped depth s at end st fit in-s
     around_skipped (suc n) zero s at end small st fit in-s = rw (leb-suc-zero (suc n)) (skip_none s at end)
@@ -118,7 +118,7 @@ module _ (tag : ℕ) (low : tag % 32 ≡ 31 → ⊥) (holds : tag / 32 % 2 ≡ 1
     pub depth_eight :
         (n : ℕ) → length (nested_around tag n inmost) < 65536 →
         skip_at (nested_around tag n inmost) 0 (length (nested_around tag n inmost))
-        ≡ pick (leb (suc n) skip_depth) (To (length (nested_around tag n inmost))) Wrong
+        ≡ pick (leb (suc n) skip_depth) (Some (length (nested_around tag n inmost))) None
     depth_eight n small =
         let s : List ℕ = nested_around tag n inmost in
         rw (zero-add (length s)) at
@@ -133,7 +133,7 @@ module _ (tag : ℕ) (low : tag % 32 ≡ 31 → ⊥) (holds : tag / 32 % 2 ≡ 1
   -- n elements, each within the next and the innermost empty, are skipped exactly if n is at most 8
   pub nested_eight :
       (n : ℕ) → (n ≡ 0 → ⊥) → length (nested tag n) < 65536 →
-      skip_at (nested tag n) 0 (length (nested tag n)) ≡ pick (leb n skip_depth) (To (length (nested tag n))) Wrong
+      skip_at (nested tag n) 0 (length (nested tag n)) ≡ pick (leb n skip_depth) (Some (length (nested tag n))) None
   nested_eight zero some small = absurd (some refl)
   nested_eight (suc n) some small =
       rw (nested_around_lem n) (depth_eight (element tag []) empty_leaf n (rw (nested_around_lem n) at small))

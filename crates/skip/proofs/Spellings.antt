@@ -8,18 +8,16 @@ use lib.ListN.{length, get_or}
 use lib.Seq.{slice}
 use lib.Dec.{eqb}
 use borrow.Author.Tests.{ne_eqb, eqb-false}
+use Rattle.std.specs.Prelude.{Option, Some, None}
 use Rattle.laws.specs.Tests.{any}
 use Rattle.laws.specs.Stands.{Stands}
 use Rattle.laws.proofs.Picks.{pick_ind, pick_last, by_bool}
 use Rattle.octets.specs.Head.{head_at}
 use Rattle.octets.specs.declared.head.Head.{Head}
-use Rattle.octets.specs.declared.head.Head.TheVariants as head
 use Rattle.octets.proofs.Spellings.{head_only, spells_length, spells_back, spells_contents}
 use Rattle.skip.specs.Skip.{past_element, skip_element}
 use Rattle.skip.specs.Spelt.{Run, SkipSpelt, Skippable}
 use Rattle.skip.specs.inner.Skip.{skip_contents}
-use Rattle.skip.specs.declared.skip.Skip.{Skip}
-use Rattle.skip.specs.declared.skip.Skip.TheVariants.{To, Wrong}
 use Rattle.skip.proofs.Skips.{further, element_step}
 use Rattle.skip.proofs.Runs.{run_fills, run_only}
 use Rattle.skip.proofs.Depths.{skip_none}
@@ -32,7 +30,7 @@ spelt_back :
     ((cs : List ℕ) (start : ℕ) → inside cs → Stands s start cs → start + length cs ≤ length s →
     skip_contents depth s start (start + length cs) ≡ true) →
     Stands s at ws → at + length ws ≤ end → end ≤ length s →
-    skip_element (suc depth) s at end ≡ To (at + length ws)
+    skip_element (suc depth) s at end ≡ Some (at + length ws)
 spelt_back inside depth ws s at end k good st fit in-s =
     let sp = k.spells in
     let start : ℕ = at + suc (suc sp.k) in
@@ -50,7 +48,7 @@ spelt_back inside depth ws s at end k good st fit in-s =
 
 pub skip_back :
     (depth : ℕ) (ws s : List ℕ) (at end : ℕ) → Skippable depth ws → Stands s at ws → at + length ws ≤ end → end ≤ length s →
-    skip_element depth s at end ≡ To (at + length ws)
+    skip_element depth s at end ≡ Some (at + length ws)
 unfolding skip_contents
 skip_back zero ws s at end k st fit in-s = absurd k
 skip_back (suc depth) ws s at end k st fit in-s =
@@ -69,7 +67,7 @@ skippable_some (suc depth) ws k = omega (arith, spells_length k.spells)
 -- ---- and nothing else
 
 -- no place after a wrong element
-pub apart : {a : ℕ} → ◌≡◌ {A = Skip} Wrong (To a) → ⊥
+pub apart : {a : ℕ} → ◌≡◌ {A = Option ℕ} None (Some a) → ⊥
 apart e = let z : ◌≡◌ {A = ℕ} 0 1 = cc in omega arith
 
 module _ (s : List ℕ) (small : (i : ℕ) → get_or s i 0 < 256) where
@@ -77,28 +75,31 @@ module _ (s : List ℕ) (small : (i : ℕ) → get_or s i 0 < 256) where
   spelt_only :
       (inside : List ℕ → Type 0) (depth at end : ℕ) →
       ((start stop : ℕ) → start ≤ stop → skip_contents depth s start stop ≡ true → inside (slice start stop s)) →
-      (x : Head) → head_at (suc depth) s at end ≡ x → (next : ℕ) → past_element (skip_contents depth s) x ≡ To next →
+      (x : Option Head) → head_at (suc depth) s at end ≡ x → (next : ℕ) → past_element (skip_contents depth s) x ≡ Some next →
       SkipSpelt inside (slice at next s)
-  spelt_only inside depth at end good (head.Is tag start stop after) e next h =
-      pick_ind (λ (x : Skip). x ≡ To next → SkipSpelt inside (slice at next s))
+  spelt_only inside depth at end good (Some found) e next h =
+      let tag : ℕ = found.tag in
+      let start : ℕ = found.start in
+      let stop : ℕ = found.stop in
+      pick_ind (λ (x : Option ℕ). x ≡ Some next → SkipSpelt inside (slice at next s))
       (any (eqb (tag / 32 % 2) 0 ∷ skip_contents depth s start stop ∷ []))
       (λ passed same.
-      let found = head_only s small (suc depth) at end e in
-      let place : after ≡ next = cc in
+      let spelt = head_only s small (suc depth) at end e in
+      let place : found.next ≡ next = cc in
       record {
         tag = tag;
         contents = slice start stop s;
-        low = found.low;
-        spells = rw place at found.spells;
-        holds = λ one. good start stop found.stops
+        low = spelt.low;
+        spells = rw place at spelt.spells;
+        holds = λ one. good start stop spelt.stops
             (sym (pick_last (skip_contents depth s start stop))
             ∙ rw (ne_eqb (tag / 32 % 2) 0 (λ zero. omega arith)) at passed);
       })
       (λ _ same. absurd (apart same)) h
-  spelt_only inside depth at end good head.Bad e next h = absurd (apart h)
+  spelt_only inside depth at end good None e next h = absurd (apart h)
 
   pub skip_only :
-      (depth at end next : ℕ) → skip_element depth s at end ≡ To next → Skippable depth (slice at next s)
+      (depth at end next : ℕ) → skip_element depth s at end ≡ Some next → Skippable depth (slice at next s)
   unfolding skip_contents
   skip_only zero at end next h = apart (sym (skip_none s at end) ∙ h)
   skip_only (suc depth) at end next h =
