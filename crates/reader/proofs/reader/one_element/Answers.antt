@@ -1,19 +1,11 @@
-use Rattle.std.proofs.Common.{◌-◌, ℕ, List, length, ap, ◌∙◌, Bor}
-use Rattle.reader.specs.inner.Cursor.{element_from}
+use Rattle.std.proofs.Common.{sym, ◌∙◌}
 use Rattle.reader.proofs.Fills.{fills}
 use Rattle.reader.proofs.reader.one_element.Goals as goal
 
 pub returns : goal.returns
 returns c =
-    let s = c.args.s in
-    let depth = c.args.depth in
-    let start = c.new-reader in
-    let on = c.moved-after in
-    fills depth s.now c.next-head.result c.if_none_left.result c.left.result
-    (c.next-head.ensures
-    ∙ ap (λ (x : Bor (List ℕ)). element_from depth x.now start.result.at) start.ensures.0
-    ∙ ap (element_from depth s.now) start.ensures.1)
-    (c.left.ensures
-    ∙ ap (λ (x : Bor (List ℕ)). length x.now - on.result.at) (on.ensures.0 ∙ start.ensures.0)
-    ∙ ap (λ (k : ℕ). length s.now - k) (on.ensures.1 ∙ c.next_after.ensures))
-    c.if_none_left.ensures
+    let start = c.new-reader.ensures in
+    let on = c.next.ensures in
+    let first = rw (start.0, start.1) at (sym on.found ∙ c.in_ok-head.was) in
+    let rest = rw (on.same, on.moved, start.0, start.1, first) at c.left.ensures in
+    c.then_some.ensures ∙ fills c.args.depth c.args.s.now c.in_ok-head.head c.left.result first rest
