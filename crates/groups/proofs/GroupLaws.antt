@@ -8,13 +8,13 @@ use native.Mathlib.Omega.{arith}
 use lib.ListN.{length, get_or}
 use lib.Dec.{ltb, eqb}
 use borrow.Author.Tests.{lt-ltb, le-ltb, ne_eqb, ltb-true, ltb-false, eqb-false}
+use Rattle.std.specs.Prelude.{Option, Some, None}
+use Rattle.laws.specs.Got.{Got, got, wrong}
 use Rattle.laws.specs.Pick.{pick}
 use Rattle.laws.specs.Stands.{Stands}
 use Rattle.laws.proofs.Picks.{pick_ind}
 use Rattle.laws.proofs.Stands.{stands_first, stands_right, stands_nil, stands_cons}
-use Rattle.groups.specs.Groups.{Found, found, nothing, infront, groups_in, groups_told, groups_at, groups_with, groups}
-use Rattle.groups.specs.declared.groups.Groups.{Groups}
-use Rattle.groups.specs.declared.groups.Groups.TheVariants.{Is, Large, Bad}
+use Rattle.groups.specs.Groups.{infront, groups_in, groups_told, groups_at, groups_with, groups}
 
 -- ---- what is read
 
@@ -24,19 +24,19 @@ pub record Takes (k at v next : ℕ) : Type 0 where
   pub starts : at < next
   pub stops : next ≤ at + k
 
-abbrev TakesIf : ℕ → ℕ → Found → Type 0
-TakesIf k at (found v next) = Takes k at v next
-TakesIf k at nothing = Unit {0}
+abbrev TakesIf : ℕ → ℕ → Got ℕ → Type 0
+TakesIf k at (got v next) = Takes k at v next
+TakesIf k at wrong = Unit {0}
 
 infront_takes :
-    (k at b : ℕ) (x : Found) → TakesIf k (at + 1) x → TakesIf (suc k) at (infront (b % 128) x)
-infront_takes k at b (found v next) t =
+    (k at b : ℕ) (x : Got ℕ) → TakesIf k (at + 1) x → TakesIf (suc k) at (infront (b % 128) x)
+infront_takes k at b (got v next) t =
     pick_ind (TakesIf (suc k) at) (eqb v 0) (λ _. tt) (λ _. record {
       small = omega (arith, t.small);
       starts = omega (arith, t.starts);
       stops = omega (arith, t.stops);
     })
-infront_takes k at b nothing t = tt
+infront_takes k at b wrong t = tt
 
 takes_if : (k : ℕ) (s : List ℕ) (at : ℕ) → TakesIf k at (groups_in k s at)
 unfolding groups_in
@@ -51,15 +51,15 @@ takes_if (suc k) s at =
     (λ _. infront_takes k at (get_or s at 0) (groups_in k s (at + 1)) (takes_if k s (at + 1)))
 
 -- the bound: a number of at most k groups is below 128 ^ k, and takes at least one octet and at most k
-pub groups_bound : (k : ℕ) (s : List ℕ) (at v next : ℕ) → groups_in k s at ≡ found v next → Takes k at v next
+pub groups_bound : (k : ℕ) (s : List ℕ) (at v next : ℕ) → groups_in k s at ≡ got v next → Takes k at v next
 groups_bound k s at v next e = rw e at (takes_if k s at)
 
 abbrev Least : ℕ → ℕ → ℕ → Type 0
 Least at v next = (j : ℕ) → next ≡ at + suc j → 0 < j → 128 ^ j ≤ v
 
-abbrev LeastIf : ℕ → Found → Type 0
-LeastIf at (found v next) = Least at v next
-LeastIf at nothing = Unit {0}
+abbrev LeastIf : ℕ → Got ℕ → Type 0
+LeastIf at (got v next) = Least at v next
+LeastIf at wrong = Unit {0}
 
 infront_least : (at b v next : ℕ) → Least (at + 1) v next → (v ≡ 0 → ⊥) → Least at (b % 128 + 128 * v) next
 infront_least at b v next h some zero e pos = omega arith
@@ -73,14 +73,14 @@ least_if (suc k) s at =
     pick_ind (LeastIf at) (ltb (get_or s at 0) 128) (λ _ j e pos. absurd (omega arith))
     (λ _. under (groups_in k s (at + 1)) (least_if k s (at + 1)))
   where
-    under : (x : Found) → LeastIf (at + 1) x → LeastIf at (infront (get_or s at 0 % 128) x)
-    under (found v next) h =
+    under : (x : Got ℕ) → LeastIf (at + 1) x → LeastIf at (infront (get_or s at 0 % 128) x)
+    under (got v next) h =
         pick_ind (LeastIf at) (eqb v 0) (λ _. tt) (λ e. infront_least at (get_or s at 0) v next h (eqb-false v 0 e))
-    under nothing h = tt
+    under wrong h = tt
 
 -- the shortest: a number that took j + 1 groups, j not 0, needs them all
 pub groups_shortest :
-    (k : ℕ) (s : List ℕ) (at v next j : ℕ) → groups_in k s at ≡ found v next → next ≡ at + suc j → 0 < j →
+    (k : ℕ) (s : List ℕ) (at v next j : ℕ) → groups_in k s at ≡ got v next → next ≡ at + suc j → 0 < j →
     128 ^ j ≤ v
 groups_shortest k s at v next j e = rw e at (least_if k s at) j
 
@@ -132,7 +132,7 @@ groups_length k n h = rw (groups_enough k n h) at (with_length k n)
 
 -- one group, which ends the number
 pub groups_last :
-    (k : ℕ) (s : List ℕ) (at : ℕ) → get_or s at 0 < 128 → groups_in (suc k) s at ≡ found (get_or s at 0) (at + 1)
+    (k : ℕ) (s : List ℕ) (at : ℕ) → get_or s at 0 < 128 → groups_in (suc k) s at ≡ got (get_or s at 0) (at + 1)
 unfolding groups_in
 groups_last k s at h = rw (lt-ltb (get_or s at 0) 128 h)
 
@@ -150,7 +150,7 @@ small_or_not {P} n f g =
 -- the round trip: a number that stands somewhere in its groups is read as that number
 pub groups_back :
     (n k : ℕ) (s : List ℕ) (at : ℕ) → Stands s at (groups n) → length (groups n) ≤ k →
-    groups_in k s at ≡ found n (at + length (groups n))
+    groups_in k s at ≡ got n (at + length (groups n))
 groups_back n zero s at st le =
     small_or_not n (λ h. absurd (omega (arith, ap length (groups_one n h))))
     (λ h. absurd (omega (arith, ap length (groups_more n h))))
@@ -181,12 +181,12 @@ groups_back n (suc k) s at st le =
 -- a number below 2 ^ 32 that stands before `end` is told
 pub groups_at_back :
     (n : ℕ) (s : List ℕ) (at end : ℕ) → n < 2 ^ 32 → Stands s at (groups n) → at + length (groups n) ≤ end →
-    end ≤ length s → groups_at s at end ≡ Is n (at + length (groups n))
+    end ≤ length s → groups_at s at end ≡ got (Some n) (at + length (groups n))
 unfolding groups_at
 groups_at_back n s at end small st fit in-s =
     rw (le-ltb (length s) end in-s, groups_back n (end - at) s at st (omega arith), lt-ltb n (2 ^ 32) small)
 
--- ---- nothing else is read
+-- ---- wrong else is read
 
 abbrev Octets : List ℕ → ℕ → ℕ → Type 0
 Octets s at next = (i : ℕ) → at ≤ i → i < next → get_or s i 0 < 256
@@ -196,9 +196,9 @@ pub record StandsTo (s : List ℕ) (at : ℕ) (ws : List ℕ) (next : ℕ) : Typ
   pub stands : Stands s at ws
   pub ends : next ≡ at + length ws
 
-abbrev OnlyIf : List ℕ → ℕ → Found → Type 0
-OnlyIf s at (found v next) = Octets s at next → StandsTo s at (groups v) next
-OnlyIf s at nothing = Unit {0}
+abbrev OnlyIf : List ℕ → ℕ → Got ℕ → Type 0
+OnlyIf s at (got v next) = Octets s at next → StandsTo s at (groups v) next
+OnlyIf s at wrong = Unit {0}
 
 only_last : (s : List ℕ) (at : ℕ) → get_or s at 0 < 128 → StandsTo s at (groups (get_or s at 0)) (at + 1)
 only_last s at h =
@@ -208,8 +208,8 @@ only_last s at h =
     })
 
 only_infront :
-    (s : List ℕ) (at v next : ℕ) → 128 ≤ get_or s at 0 → (v ≡ 0 → ⊥) → OnlyIf s (at + 1) (found v next) →
-    OnlyIf s at (found (get_or s at 0 % 128 + 128 * v) next)
+    (s : List ℕ) (at v next : ℕ) → 128 ≤ get_or s at 0 → (v ≡ 0 → ⊥) → OnlyIf s (at + 1) (got v next) →
+    OnlyIf s at (got (get_or s at 0 % 128 + 128 * v) next)
 only_infront s at v next big some h o =
     let b : ℕ = get_or s at 0 in
     let n : ℕ = b % 128 + 128 * v in
@@ -231,40 +231,30 @@ only_if (suc k) s at =
     pick_ind (OnlyIf s at) (ltb (get_or s at 0) 128) (λ e _. only_last s at (ltb-true (get_or s at 0) 128 e))
     (λ e. under (ltb-false (get_or s at 0) 128 e) (groups_in k s (at + 1)) (only_if k s (at + 1)))
   where
-    under : 128 ≤ get_or s at 0 → (x : Found) → OnlyIf s (at + 1) x → OnlyIf s at (infront (get_or s at 0 % 128) x)
-    under big (found v next) h =
+    under : 128 ≤ get_or s at 0 → (x : Got ℕ) → OnlyIf s (at + 1) x → OnlyIf s at (infront (get_or s at 0 % 128) x)
+    under big (got v next) h =
         pick_ind (OnlyIf s at) (eqb v 0) (λ _. tt) (λ e. only_infront s at v next big (eqb-false v 0 e) h)
-    under big nothing h = tt
+    under big wrong h = tt
 
 -- what is accepted is exactly what is written: the octets of a number that is read are its groups
 pub groups_only :
     (k : ℕ) (s : List ℕ) (at v next : ℕ) → ((i : ℕ) → at ≤ i → i < next → get_or s i 0 < 256) →
-    groups_in k s at ≡ found v next → StandsTo s at (groups v) next
+    groups_in k s at ≡ got v next → StandsTo s at (groups v) next
 groups_only k s at v next o e = rw e at (only_if k s at) o
 
-abbrev value_or : ℕ → Groups → ℕ
-value_or d (Is v next) = v
-value_or d (Large next) = d
-value_or d Bad = d
-
-abbrev next_or : ℕ → Groups → ℕ
-next_or d (Is v next) = next
-next_or d (Large next) = d
-next_or d Bad = d
-
-told_found : (x : Found) (v next : ℕ) → groups_told x ≡ Is v next → x ≡ found v next
-told_found (found w p) v next =
-    pick_ind (λ y. y ≡ Is v next → found w p ≡ found v next) (ltb w (2 ^ 32))
-    (λ _ e. rw (ap (value_or w) e, ap (next_or p) e))
-    (λ _ e. let z : ◌≡◌ {A = ℕ} 0 1 = cc in absurd (omega arith))
-told_found nothing v next = λ e. let z : ◌≡◌ {A = ℕ} 0 1 = cc in absurd (omega arith)
+told_got : (x : Got ℕ) (v next : ℕ) → groups_told x ≡ got (Some v) next → x ≡ got v next
+told_got (got w p) v next =
+    pick_ind (λ y. ◌≡◌ {A = Got (Option ℕ)} (got y p) (got (Some v) next) → got w p ≡ got v next) (ltb w (2 ^ 32)) {x = Some w} {y = None}
+    (λ _ e. cc)
+    (λ _ e. absurd (cc))
+told_got wrong v next = λ e. absurd (cc)
 
 -- the same of a number that is told
 pub groups_at_only :
     (s : List ℕ) (at end v next : ℕ) → ((i : ℕ) → at ≤ i → i < next → get_or s i 0 < 256) →
-    groups_at s at end ≡ Is v next → StandsTo s at (groups v) next
+    groups_at s at end ≡ got (Some v) next → StandsTo s at (groups v) next
 unfolding groups_at
 groups_at_only s at end v next o =
-    pick_ind (λ x. x ≡ Is v next → StandsTo s at (groups v) next) (ltb (length s) end)
-    (λ _ e. let z : ◌≡◌ {A = ℕ} 0 1 = cc in absurd (omega arith))
-    (λ _ e. groups_only (end - at) s at v next o (told_found (groups_in (end - at) s at) v next e))
+    pick_ind (λ x. x ≡ got (Some v) next → StandsTo s at (groups v) next) (ltb (length s) end)
+    (λ _ e. absurd (cc))
+    (λ _ e. groups_only (end - at) s at v next o (told_got (groups_in (end - at) s at) v next e))

@@ -9,10 +9,13 @@ use Rattle.laws.proofs.Over.{over_cons}
 use native.Mathlib.Omega.{arith}
 use lib.ListN.{length, get_or, set}
 use borrow.Author.Tests.{lt-ltb, le-ltb, ne_eqb}
+use Rattle.std.specs.Prelude.{Some, None, Result, Ok, Err}
+use Rattle.std.specs.Result.{OkIff, result_ok}
+use Rattle.std.proofs.lemmas.Result.{OkIff-at_ok, OkIff-at_err}
+use Rattle.laws.specs.Got.{Got, got, wrong}
 use Rattle.laws.specs.Over.{over, Wrote}
-use Rattle.groups.specs.Groups.{Found, found, nothing, groups_in, groups_told, groups_at, groups}
+use Rattle.groups.specs.Groups.{groups_in, told_value, groups_told, groups_at, groups}
 use Rattle.groups.specs.inner.Groups.{LastAt, groups_most, groups_value}
-use Rattle.groups.specs.declared.groups.Groups.TheVariants.{Is, Large, Bad}
 use Rattle.groups.proofs.GroupLaws.{groups_last, groups_infront, groups_shortest, groups_one, groups_more}
 
 -- ---- the value of k groups
@@ -110,7 +113,7 @@ last_wider s at end last h l = record {
 
 -- no last group, no number
 groups_none :
-    (k : ℕ) (s : List ℕ) (at end : ℕ) → end ≡ at + k → LastAt s at end end → groups_in k s at ≡ nothing
+    (k : ℕ) (s : List ℕ) (at end : ℕ) → end ≡ at + k → LastAt s at end end → groups_in k s at ≡ wrong
 unfolding groups_in
 groups_none zero s at end e l = refl
 groups_none (suc k) s at end e l =
@@ -120,7 +123,7 @@ groups_none (suc k) s at end e l =
 -- a last group of 0 behind others: not the shortest
 groups_zero :
     (j k : ℕ) (s : List ℕ) (at end last : ℕ) → last ≡ at + suc j → end ≡ at + k → LastAt s at end last → last < end →
-    get_or s last 0 ≡ 0 → groups_in k s at ≡ nothing
+    get_or s last 0 ≡ 0 → groups_in k s at ≡ wrong
 groups_zero j zero s at end last e f l lt z = absurd (omega arith)
 groups_zero zero (suc zero) s at end last e f l lt z = absurd (omega arith)
 groups_zero zero (suc (suc k)) s at end last e f l lt z =
@@ -135,7 +138,7 @@ groups_zero (suc j) (suc k) s at end last e f l lt z =
 -- any other last group
 groups_ends :
     (j k : ℕ) (s : List ℕ) (at end last : ℕ) → last ≡ at + j → end ≡ at + k → LastAt s at end last → last < end →
-    (get_or s last 0 ≡ 0 → ⊥) → groups_in k s at ≡ found (groups_value (suc j) s at) (last + 1)
+    (get_or s last 0 ≡ 0 → ⊥) → groups_in k s at ≡ got (groups_value (suc j) s at) (last + 1)
 unfolding groups_value
 groups_ends j zero s at end last e f l lt some = absurd (omega arith)
 groups_ends zero (suc k) s at end last e f l lt some =
@@ -152,63 +155,70 @@ groups_ends (suc j) (suc k) s at end last e f l lt some =
       ne_eqb rest 0 (value_some j s (at + 1) last e' (l.last lt) some),
     )
 
+-- a value of 64 bits as one of 32: it is told where it is below 2 ^ 32
+pub told_try : {E : Type 0} (r : Result ℕ E) (v : ℕ) → OkIff r (v < 2 ^ 32) v → result_ok r ≡ told_value v
+told_try {E} (Ok x) v h =
+    let p = OkIff-at_ok {E = E} (Ok x) (v < 2 ^ 32) v x h refl in
+    rw (p.1, lt-ltb v (2 ^ 32) p.0)
+told_try {E} (Err e) v h = rw (le-ltb v (2 ^ 32) (not_less (OkIff-at_err {T = ℕ} {E = E} (Err e) (v < 2 ^ 32) v e h refl)))
+  where
+    not_less : (v < 2 ^ 32 → ⊥) → 2 ^ 32 ≤ v
+    not_less not = omega (arith, not)
+
 -- ---- the ways out of `groups_at`
 module _ (s : List ℕ) (at end : ℕ) (in-s : end ≤ length s) where
-  groups_at_told : {x : Found} → groups_in (end - at) s at ≡ x → groups_at s at end ≡ groups_told x
+  groups_at_told : {x : Got ℕ} → groups_in (end - at) s at ≡ x → groups_at s at end ≡ groups_told x
   unfolding groups_at
   groups_at_told e = rw (le-ltb (length s) end in-s, e)
 
   -- no octet left
-  pub groups_at_empty : end ≤ at → groups_at s at end ≡ Bad
+  pub groups_at_empty : end ≤ at → groups_at s at end ≡ wrong
   unfolding groups_in
-  groups_at_empty h = let none : end - at ≡ 0 = omega arith in groups_at_told {x = nothing} (rw none)
+  groups_at_empty h = let none : end - at ≡ 0 = omega arith in groups_at_told {x = wrong} (rw none)
 
   -- one group
-  pub groups_at_first : at < end → get_or s at 0 < 128 → groups_at s at end ≡ Is (get_or s at 0) (at + 1)
+  pub groups_at_first : at < end → get_or s at 0 < 128 → groups_at s at end ≡ got (Some (get_or s at 0)) (at + 1)
   groups_at_first lt small =
       let some : end - at ≡ suc (end - at - 1) = omega arith in
-      groups_at_told {x = found (get_or s at 0) (at + 1)} (rw some (groups_last (end - at - 1) s at small))
+      groups_at_told {x = got (get_or s at 0) (at + 1)} (rw some (groups_last (end - at - 1) s at small))
       ∙ rw (lt-ltb (get_or s at 0) (2 ^ 32) (omega arith))
 
-  module _ (last : ℕ) (lt : at < end) (big : 128 ≤ get_or s at 0) (l : LastAt s (at + 1) end last) where
-    -- the last group is missing
-    pub groups_at_open : end ≤ last → groups_at s at end ≡ Bad
-    groups_at_open h =
-        let same : last ≡ end = omega (arith, l.within) in
-        let l' : LastAt s at end end = rw same at (last_wider s at end last big l) in
-        groups_at_told (groups_none (end - at) s at end (omega arith) l')
+  -- the last group is missing
+  pub groups_at_open : at < end → 128 ≤ get_or s at 0 → LastAt s (at + 1) end end → groups_at s at end ≡ wrong
+  groups_at_open lt big l = groups_at_told (groups_none (end - at) s at end (omega arith) (last_wider s at end end big l))
 
+  module _ (last : ℕ) (lt : at < end) (big : 128 ≤ get_or s at 0) (l : (last < end) × LastAt s (at + 1) end last) where
     -- the last group is 0
-    pub groups_at_zero : last < end → get_or s last 0 ≡ 0 → groups_at s at end ≡ Bad
-    groups_at_zero h z =
-        let l' : LastAt s at end last = last_wider s at end last big l in
-        groups_at_told (groups_zero (last - at - 1) (end - at) s at end last (omega (arith, l.from)) (omega arith) l' h z)
+    pub groups_at_zero : get_or s last 0 ≡ 0 → groups_at s at end ≡ wrong
+    groups_at_zero z =
+        let l' : LastAt s at end last = last_wider s at end last big l.1 in
+        groups_at_told (groups_zero (last - at - 1) (end - at) s at end last (omega (arith, l.1.from)) (omega arith) l' l.0 z)
 
     groups_at_found :
-        last < end → (get_or s last 0 ≡ 0 → ⊥) →
-        groups_in (end - at) s at ≡ found (groups_value (last + 1 - at) s at) (last + 1)
-    groups_at_found h some =
-        let l' : LastAt s at end last = last_wider s at end last big l in
-        let count : last + 1 - at ≡ suc (last - at) = omega (arith, l.from) in
-        rw count (groups_ends (last - at) (end - at) s at end last (omega (arith, l.from)) (omega arith) l' h some)
+        (get_or s last 0 ≡ 0 → ⊥) →
+        groups_in (end - at) s at ≡ got (groups_value (last + 1 - at) s at) (last + 1)
+    groups_at_found some =
+        let l' : LastAt s at end last = last_wider s at end last big l.1 in
+        let count : last + 1 - at ≡ suc (last - at) = omega (arith, l.1.from) in
+        rw count (groups_ends (last - at) (end - at) s at end last (omega (arith, l.1.from)) (omega arith) l' l.0 some)
 
     -- any other number
     pub groups_at_ends :
-        last < end → (get_or s last 0 ≡ 0 → ⊥) →
-        groups_at s at end ≡ groups_told (found (groups_value (last + 1 - at) s at) (last + 1))
-    groups_at_ends h some = groups_at_told (groups_at_found h some)
+        (get_or s last 0 ≡ 0 → ⊥) →
+        groups_at s at end ≡ got (told_value (groups_value (last + 1 - at) s at)) (last + 1)
+    groups_at_ends some = groups_at_told (groups_at_found some)
 
     -- more groups than a number below 2 ^ 32 has
     pub groups_at_large :
-        last < end → (get_or s last 0 ≡ 0 → ⊥) → groups_most < last + 1 - at →
-        groups_at s at end ≡ Large (last + 1)
-    groups_at_large h some many =
+        (get_or s last 0 ≡ 0 → ⊥) → groups_most < last + 1 - at →
+        groups_at s at end ≡ got None (last + 1)
+    groups_at_large some many =
         let v : ℕ = groups_value (last + 1 - at) s at in
         let least : 128 ^ (last - at) ≤ v =
-        groups_shortest (end - at) s at v (last + 1) (last - at) (groups_at_found h some) (omega arith) (omega arith) in
+        groups_shortest (end - at) s at v (last + 1) (last - at) (groups_at_found some) (omega arith) (omega arith) in
         let most : groups_most ≤ last - at = omega arith in
         let power : 128 ^ groups_most ≤ 128 ^ (last - at) = pow-le-pow_right (omega arith) most in
-        groups_at_ends h some ∙ rw (le-ltb v (2 ^ 32) (omega arith))
+        groups_at_ends some ∙ rw (le-ltb v (2 ^ 32) (omega arith))
 
 -- ---- the turns of `put_groups`
 

@@ -2,32 +2,24 @@
 ghost use Rattle.std.specs.Prelude.{◌≡◌, ◌+◌, ◌≤◌, ◌<◌, length};
 ghost use Rattle.laws.specs.Over.{Wrote};
 ghost use Rattle.groups.specs.Groups.{GroupsAt, PutGroups, groups};
-ghost use Rattle.groups.specs.inner.Groups.{LastAt, groups_most, groups_value};
+ghost use Rattle.groups.specs.inner.Groups.{LastGroup, groups_most, groups_value};
 
-// A number and the place after it; a number that 32 bits do not hold is only said to be one.
-#[derive(Clone, Copy)]
-pub enum Groups {
-    Is { value: u32, next: usize },
-    Large { next: usize },
-    Bad,
-}
+use octets::{Found, has_room};
 
 // The most groups of a number below 2 to the 32nd.
 const GROUPSMOST: usize = 5;
 
-// The first place from `at` on whose octet says that no more follow, or `end` where there is none.
-fn last_group(s: &[u8], at: usize, end: usize) -> usize
+// The first place from `at` on whose octet says that no more follow.
+fn last_group(s: &[u8], at: usize, end: usize) -> Option<usize>
     requires { (at ≤ end) × (end ≤ length s.now) }
-    ensures { LastAt s.now at end result }
+    ensures { LastGroup s.now at end result }
 {
-    let mut i = at;
-    while i < end {
+    for i in at..end {
         if s[i] < 128 {
-            return i;
+            return Some(i);
         }
-        i += 1;
     }
-    i
+    None
 }
 
 // The number that `k` groups from `at` on stand for.
@@ -36,54 +28,39 @@ fn groups_value(s: &[u8], at: usize, k: usize) -> u64
     ensures { result ≡ groups_value k s.now at }
 {
     let mut v: u64 = 0;
-    let mut i = k;
-    while 0 < i {
-        i -= 1;
+    for i in (0..k).rev() {
         let low = (s[at + i] % 128) as u64;
         v = low + 128 * v;
     }
     v
 }
 
-// The number at `at`, of the octets of `s` before `end`.
-pub fn groups_at(s: &[u8], at: usize, end: usize) -> Groups
+// The number at `at`, of the octets of `s` before `end`; its value where 32 bits hold it.
+pub fn groups_at(s: &[u8], at: usize, end: usize) -> Option<Found<Option<u32>>>
     ensures { GroupsAt s.now at end result }
 {
-    if s.len() < end {
-        return Groups::Bad;
-    }
-    if end <= at {
-        return Groups::Bad;
+    if s.len() < end || end <= at {
+        return None;
     }
     let first = s[at];
     if first < 128 {
-        return Groups::Is {
-            value: first as u32,
+        return Some(Found {
+            value: Some(first as u32),
             next: at + 1,
-        };
+        });
     }
-    let last = last_group(s, at + 1, end);
-    if end <= last {
-        return Groups::Bad;
-    }
+    let last = last_group(s, at + 1, end)?;
     let top = s[last];
     if top == 0 {
-        return Groups::Bad;
+        return None;
     }
     let next = last + 1;
     let k = next - at;
     if GROUPSMOST < k {
-        return Groups::Large { next };
+        return Some(Found { value: None, next });
     }
-    let v = groups_value(s, at, k);
-    if v < 4294967296 {
-        Groups::Is {
-            value: v as u32,
-            next,
-        }
-    } else {
-        Groups::Large { next }
-    }
+    let value = u32::try_from(groups_value(s, at, k)).ok();
+    Some(Found { value, next })
 }
 
 // How many groups `n` has.
@@ -92,8 +69,9 @@ fn groups_size(n: u32) -> usize
 {
     let mut rest = n;
     let mut k: usize = 1;
+    // What is left decides how many follow, so there is nothing that a `for` could count.
     while 128 <= rest {
-        rest = rest / 128;
+        rest /= 128;
         k += 1;
     }
     k
@@ -106,9 +84,10 @@ fn write_groups(out: &mut [u8], at: usize, n: u32) -> usize
 {
     let mut rest = n;
     let mut p = at;
+    // As in `groups_size`.
     while 128 <= rest {
         out[p] = (128 + rest % 128) as u8;
-        rest = rest / 128;
+        rest /= 128;
         p += 1;
     }
     out[p] = rest as u8;
@@ -120,10 +99,7 @@ pub fn put_groups(out: &mut [u8], at: usize, n: u32) -> usize
     ensures { PutGroups out.old at n result out.new }
 {
     let need = groups_size(n);
-    if out.len() < need {
-        return at;
-    }
-    if out.len() - need < at {
+    if !has_room(out, at, need) {
         return at;
     }
     write_groups(out, at, n)

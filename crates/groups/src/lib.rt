@@ -3,4 +3,4 @@
 
 mod groups;
 
-pub use groups::{Groups, groups_at, put_groups};
+pub use groups::{groups_at, put_groups};
