@@ -7,3 +7,4 @@ pub mod Spellings
 pub mod Bads
 pub mod Firsts
 pub mod Rooms
+pub mod Founds
