@@ -12,6 +12,7 @@ use lib.Dec.{eqb}
 use borrow.Author.Tests.{eqb-true}
 use Rattle.laws.specs.Pick.{pick}
 use Rattle.laws.specs.Tests.{all}
+use Rattle.std.specs.Prelude.{Option, Some, None}
 use Rattle.laws.specs.Got.{Got, got, wrong, and_then}
 use Rattle.laws.proofs.Gots.{Something, FoundAt, found_is, found_at_then}
 use Rattle.laws.proofs.Picks.{pick_ind}
@@ -20,16 +21,13 @@ use Rattle.codes.specs.Digits.{type_good}
 use Rattle.octets.specs.Head.{head_at}
 use Rattle.octets.specs.Spelt.{Spells}
 use Rattle.octets.specs.declared.head.Head.{Head}
-use Rattle.octets.specs.declared.head.Head.TheVariants as head
 use Rattle.octets.proofs.Slices.{slice_join}
 use Rattle.octets.proofs.Spellings.{HeadSpelt, head_only}
 use Rattle.values.specs.Enumerated.{enumerated_tag, enumerated_at}
-use Rattle.values.specs.declared.enumerated.Enumerated.{Enumerated}
-use Rattle.values.specs.declared.enumerated.Enumerated.TheVariants as enumerated
 use Rattle.values.proofs.Enumerateds.{enumerated_within}
 use Rattle.values.proofs.Spellings.{enumerated_only}
 use Rattle.numbers.specs.Number.{most, unknown, padded, fair, digits_good}
-use Rattle.numbers.specs.Number.{digits_in, value_of, string_of, string_at, public_in, other_tag, number_in, number_at}
+use Rattle.numbers.specs.Number.{digits_in, string_of, string_at, public_in, other_tag, number_in, number_at}
 use Rattle.numbers.specs.Address.{octets_in, sub_in, sub_at, address_in, address_at}
 use Rattle.numbers.specs.Spelt.{NumberSpelt, SubSpelt, AddressSpelt}
 use Rattle.numbers.specs.declared.number.Number.{Number}
@@ -57,9 +55,13 @@ module _ (s : List ℕ) (small : (i : ℕ) → get_or s i 0 < 256) where
   string_head :
       (depth at start stop next kind place : ℕ) → start ≤ place → type_good kind ≡ true →
       Spells enumerated_tag (kind ∷ []) (slice start place s) → Spells 0xA1 (slice start stop s) (slice at next s) →
-      (h : Head) → head_at depth s place stop ≡ h → FoundAt (Spelt at) (string_of kind s stop next h)
+      (h : Option Head) → head_at depth s place stop ≡ h → FoundAt (Spelt at) (string_of kind s stop next h)
   unfolding digits_in
-  string_head depth at start stop next kind place le kinds first sp (head.Is tag from to last) e =
+  string_head depth at start stop next kind place le kinds first sp (Some x) e =
+      let tag : ℕ = x.tag in
+      let from : ℕ = x.start in
+      let to : ℕ = x.stop in
+      let last : ℕ = x.next in
       pick_ind (FoundAt (Spelt at)) (all (eqb tag 0x12 ∷ eqb last stop ∷ []))
       (λ both.
       pick_ind (FoundAt (Spelt at)) (digits_good (slice from to s))
@@ -81,7 +83,7 @@ module _ (s : List ℕ) (small : (i : ℕ) → get_or s i 0 < 256) where
       })))
       (λ _. tt))
       (λ _. tt)
-  string_head depth at start stop next kind place le kinds first sp head.Bad e = tt
+  string_head depth at start stop next kind place le kinds first sp None e = tt
 
   -- the contents of a public number
   public_only :
@@ -91,21 +93,25 @@ module _ (s : List ℕ) (small : (i : ℕ) → get_or s i 0 < 256) where
   public_only depth at start stop next sp = from (enumerated_at depth s start stop) refl
     where
       from :
-          (v : Enumerated) → enumerated_at depth s start stop ≡ v →
+          (v : Got ℕ) → enumerated_at depth s start stop ≡ v →
           FoundAt (Spelt at)
-          (and_then (value_of v) (λ kind place. pick (type_good kind) (string_at depth kind s place stop next) wrong))
-      from (enumerated.Is kind place) e =
+          (and_then v (λ kind place. pick (type_good kind) (string_at depth kind s place stop next) wrong))
+      from (got kind place) e =
           pick_ind (FoundAt (Spelt at)) (type_good kind)
           (λ kinds.
           string_head depth at start stop next kind place (omega (arith, enumerated_within depth s start stop e)) kinds
           (enumerated_only s small depth start stop e) sp (head_at depth s place stop) refl)
           (λ _. tt)
-      from enumerated.Unreadable e = tt
+      from wrong e = tt
 
   number_head :
-      (depth at end : ℕ) (h : Head) → head_at depth s at end ≡ h →
+      (depth at end : ℕ) (h : Option Head) → head_at depth s at end ≡ h →
       FoundAt (Spelt at) (number_in depth s h)
-  number_head depth at end (head.Is tag start stop next) e =
+  number_head depth at end (Some h) e =
+      let tag : ℕ = h.tag in
+      let start : ℕ = h.start in
+      let stop : ℕ = h.stop in
+      let next : ℕ = h.next in
       let P : Got Number → Type 0 = FoundAt (Spelt at) in
       let sp : Spells tag (slice start stop s) (slice at next s) = (head_only s small depth at end e).spells in
       pick_ind P (eqb tag 0x80) (λ t. unknown_only at start stop next (rw (eqb-true tag 0x80 t) at sp)) (λ _.
@@ -113,7 +119,7 @@ module _ (s : List ℕ) (small : (i : ℕ) → get_or s i 0 < 256) where
       pick_ind P (other_tag tag)
       (λ kinds. inr (inr (record { tag = tag; contents = slice start stop s; kinds = kinds; spells = sp; is = refl })))
       (λ _. tt)))
-  number_head depth at end head.Bad e = tt
+  number_head depth at end None e = tt
 
   -- what is accepted as a number spells it
   pub number_only :
@@ -139,9 +145,13 @@ module _ (s : List ℕ) (small : (i : ℕ) → get_or s i 0 < 256) where
       (λ _. tt)
 
   sub_head :
-      (depth at end : ℕ) (h : Head) → head_at depth s at end ≡ h →
+      (depth at end : ℕ) (h : Option Head) → head_at depth s at end ≡ h →
       Something (λ sub. SubSpelt sub (slice at end s)) (sub_in s end h)
-  sub_head depth at end (head.Is tag start stop next) e =
+  sub_head depth at end (Some x) e =
+      let tag : ℕ = x.tag in
+      let start : ℕ = x.start in
+      let stop : ℕ = x.stop in
+      let next : ℕ = x.next in
       let P : Got Sub → Type 0 = Something (λ sub. SubSpelt sub (slice at end s)) in
       let h : HeadSpelt depth s at end tag start stop next = head_only s small depth at end e in
       pick_ind P (eqb next end)
@@ -154,7 +164,7 @@ module _ (s : List ℕ) (small : (i : ℕ) → get_or s i 0 < 256) where
       octets_only at start stop end (omega (arith, h.nexts, h.ends, h.inside)) (rw (eqb-true tag 0x04 t) at sp))
       (λ _. tt)))
       (λ _. tt)
-  sub_head depth at end head.Bad e = tt
+  sub_head depth at end None e = tt
 
   -- what is accepted as the rest of an address spells it
   pub sub_only :
@@ -167,9 +177,13 @@ module _ (s : List ℕ) (small : (i : ℕ) → get_or s i 0 < 256) where
       (λ _. sub_head depth at end (head_at depth s at end) refl))
 
   address_head :
-      (depth at end : ℕ) (h : Head) → head_at depth s at end ≡ h →
+      (depth at end : ℕ) (h : Option Head) → head_at depth s at end ≡ h →
       FoundAt (λ to next. AddressSpelt to (slice at next s)) (address_in depth s h)
-  address_head depth at end (head.Is tag start stop next) e =
+  address_head depth at end (Some h) e =
+      let tag : ℕ = h.tag in
+      let start : ℕ = h.start in
+      let stop : ℕ = h.stop in
+      let next : ℕ = h.next in
       let P : Forwarded → ℕ → Type 0 = λ to next. AddressSpelt to (slice at next s) in
       let inner : ℕ = depth - 1 in
       let sp : Spells tag (slice start stop s) (slice at next s) = (head_only s small depth at end e).spells in
@@ -191,7 +205,7 @@ module _ (s : List ℕ) (small : (i : ℕ) → get_or s i 0 < 256) where
         is = refl;
       })))
       (λ _. tt)
-  address_head depth at end head.Bad e = tt
+  address_head depth at end None e = tt
 
   -- what is accepted as an address spells it
   pub address_only :

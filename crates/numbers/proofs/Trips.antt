@@ -7,13 +7,13 @@ use mathlib.Core.List.{List, [], ◌∷◌, ◌++◌}
 use mathlib.Core.Logic.{inl, inr, ⊎_elim}
 use native.Mathlib.Omega.{arith}
 use lib.ListN.{length}
+use Rattle.std.specs.Prelude.{Option, Some, None}
 use Rattle.laws.specs.Got.{Got, got, wrong}
 use Rattle.laws.specs.Stands.{Stands}
 use Rattle.octets.specs.Head.{head_at}
 use Rattle.octets.specs.Element.{element}
 use Rattle.values.specs.Enumerated.{enumerated_tag, enumerated_octets}
 use Rattle.octets.specs.declared.head.Head.{Head}
-use Rattle.octets.specs.declared.head.Head.TheVariants as head
 use Rattle.octets.proofs.Spellings.{element_spells}
 use Rattle.numbers.specs.Number.{most, other_tag, number_in, number_at, digits_of, tidy_number, number_good, number_octets}
 use Rattle.numbers.specs.Address.{sub_of, address_at, sub_octets_of, tidy_address, address_good, sub_octets, address_octets}
@@ -66,9 +66,9 @@ pub number_back :
 number_back depth n s at end deep h = number_spelt_back depth s at end (number_spells n h) deep
 
 -- an element that is found, and is not NULL, whose tag is 05
-abbrev pub NotNull : Head → Type 0
-NotNull (head.Is tag start stop next) = tag ≡ 0x05 → ⊥
-NotNull head.Bad = ⊥
+abbrev pub NotNull : Option Head → Type 0
+NotNull (Some h) = h.tag ≡ 0x05 → ⊥
+NotNull None = ⊥
 
 -- what is read as a number is never NULL: a reader may tell the two apart by the tag
 pub number_not_null :
@@ -80,9 +80,9 @@ number_not_null depth s at end {n} {next} = in_head (head_at depth s at end)
     none : ◌≡◌ {A = Got Number} wrong (got n next) → ⊥
     none h = let z : ◌≡◌ {A = ℕ} 0 1 = cc in omega arith
 
-    in_head : (x : Head) → number_in depth s x ≡ got n next → NotNull x
-    in_head (head.Is tag start stop after) h = λ e. none (rw e at h)
-    in_head head.Bad h = none h
+    in_head : (x : Option Head) → number_in depth s x ≡ got n next → NotNull x
+    in_head (Some x) h = λ e. none (rw e at h)
+    in_head None h = none h
 
 -- ---- addresses
 

@@ -1,21 +1,21 @@
 -- Addresses: "a sequence of a number and perhaps a subaddress: an octet string (tag 04) of 1 to 20, or a user-specified one
 -- (tag 30, contents not read)" (document 01, "Numbers").
-use Rattle.std.specs.Prelude.{ℕ, ◌-◌, ◌≡◌, Bool, true, false, List, [], ◌∷◌, ◌++◌, length, take, leb, eqb}
+use Rattle.std.specs.Prelude.{ℕ, ◌-◌, ◌≡◌, Bool, List, [], ◌∷◌, ◌++◌, length, take, leb, eqb, Option, Some, None}
 use Rattle.std.proofs.Math.Seq.{slice}
 use Rattle.laws.specs.Pick.{pick}
 use Rattle.laws.specs.Tests.{all}
 use Rattle.laws.specs.Got.{Got, got, wrong, and_then}
 use Rattle.laws.specs.Over.{Puts}
 use Rattle.octets.specs.Head.{head_at}
+use Rattle.octets.specs.Found.{found}
 use Rattle.octets.specs.Element.{element}
 use Rattle.octets.specs.declared.head.Head.{Head}
-use Rattle.octets.specs.declared.head.Head.TheVariants as head
+use Rattle.octets.specs.declared.found.Found.{Found}
 use Rattle.numbers.specs.Number.{most, padded, fair, blank_number, number_at, tidy_number, number_good, number_octets}
 use Rattle.numbers.specs.declared.number.Number.{Number}
 use Rattle.numbers.specs.declared.address.Sub.{Sub}
 use Rattle.numbers.specs.declared.address.Address.{Address}
 use Rattle.numbers.specs.declared.address.Forwarded.{Forwarded}
-use Rattle.numbers.specs.declared.address.AddressRead.{AddressRead}
 
 -- a subaddress of the octets ws, none where there are none; and a user-specified one
 abbrev pub sub_of : List ℕ → Sub
@@ -32,12 +32,12 @@ unfoldable pub octets_in : List ℕ → ℕ → ℕ → Got Sub
 octets_in s start stop = pick (fair (stop - start)) (got (sub_of (slice start stop s)) stop) wrong
 
 -- a subaddress is the last element of its address
-abbrev pub sub_in : List ℕ → ℕ → Head → Got Sub
-sub_in s end (head.Is tag start stop next) =
-    pick (eqb next end)
-    (pick (eqb tag 0x30) (got user_sub stop) (pick (eqb tag 0x04) (octets_in s start stop) wrong))
+abbrev pub sub_in : List ℕ → ℕ → Option Head → Got Sub
+sub_in s end (Some h) =
+    pick (eqb h.next end)
+    (pick (eqb h.tag 0x30) (got user_sub h.stop) (pick (eqb h.tag 0x04) (octets_in s h.start h.stop) wrong))
     wrong
-sub_in s end head.Bad = wrong
+sub_in s end None = wrong
 
 -- what stands between the number and the end of an address
 unfoldable pub sub_at : ℕ → List ℕ → ℕ → ℕ → Got Sub
@@ -57,22 +57,17 @@ blank_forwarded = forwarded_of blank_number blank_sub
 abbrev pub blank_address : Address
 blank_address = blank_forwarded.address
 
-abbrev pub address_in : ℕ → List ℕ → Head → Got Forwarded
-address_in depth s (head.Is tag start stop next) =
-    pick (eqb tag 0x30)
-    (and_then (number_at (depth - 1) s start stop) (λ number place.
-    and_then (sub_at (depth - 1) s place stop) (λ sub last. got (forwarded_of number sub) next)))
+abbrev pub address_in : ℕ → List ℕ → Option Head → Got Forwarded
+address_in depth s (Some h) =
+    pick (eqb h.tag 0x30)
+    (and_then (number_at (depth - 1) s h.start h.stop) (λ number place.
+    and_then (sub_at (depth - 1) s place h.stop) (λ sub last. got (forwarded_of number sub) h.next)))
     wrong
-address_in depth s head.Bad = wrong
+address_in depth s None = wrong
 
 -- the address at `at`, of the octets of s before `end`
 unfoldable pub address_at : ℕ → List ℕ → ℕ → ℕ → Got Forwarded
 address_at depth s at end = address_in depth s (head_at depth s at end)
-
--- what a reader answers
-abbrev pub address_read : Got Forwarded → AddressRead
-address_read (got to next) = record { ok = true; to = to; next = next }
-address_read wrong = record { ok = false; to = blank_forwarded; next = 0 }
 
 -- ---- addresses that a table holds, and how they are written
 
@@ -103,8 +98,8 @@ abbrev pub BlankAddress : Address → Type 0
 BlankAddress r = r ≡ blank_address
 
 -- what `address_at` promises
-abbrev pub AddressAt : ℕ → List ℕ → ℕ → ℕ → AddressRead → Type 0
-AddressAt depth s at end r = r ≡ address_read (address_at depth s at end)
+abbrev pub AddressAt : ℕ → List ℕ → ℕ → ℕ → Option (Found Forwarded) → Type 0
+AddressAt depth s at end r = r ≡ found (address_at depth s at end)
 
 -- what `address_good` promises
 abbrev pub AddressGood : Address → Bool → Type 0

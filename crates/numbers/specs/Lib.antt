@@ -1,4 +1,3 @@
 pub mod Number
 pub mod Address
 pub mod Spelt
-pub mod inner

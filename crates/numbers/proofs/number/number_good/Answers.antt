@@ -1,74 +1,55 @@
-use Rattle.numbers.proofs.Readers.{digits_few, record_good}
-use Rattle.numbers.specs.Number.{most, digits_of, number_good}
-use lib.Seq.{length-take-le}
-use lib.ListN.{length}
-use native.Mathlib.Omega.{arith}
 use mathlib.Core.Path.{◌≡◌, sym, ◌∙◌}
-use borrow.Author.Tests.{le-leb, lt-leb, eq-eqb, ne_eqb}
+use native.Mathlib.Omega.{arith}
+use lib.ListN.{length}
+use lib.Seq.{length-take-le}
 use borrow.Author.Rules.{rules}
+use borrow.Author.Tests.{le-leb, lt-leb, eq-eqb}
+use Rattle.laws.proofs.Cases.{cases}
+use Rattle.numbers.specs.Number.{most, digits_of, number_good}
+use Rattle.numbers.proofs.Readers.{digits_few, record_good}
 use Rattle.numbers.proofs.number.number_good.Goals as goal
+use Rattle.numbers.proofs.number.number_good.Goals.{then-count-gt-MOST-via-then-count-gt-MOST, then-count-gt-MOST-via-else-count-gt-MOST+then-count-lt1, then-count-gt-MOST-via-else-count-gt-MOST+else-count-lt1+then-not-all_digits}
 
 pub returns-then-count-gt-MOST : goal.returns-then-count-gt-MOST
 unfolding number_good
-returns-then-count-gt-MOST c = rw (lt-leb _ _ c.if-count-gt-MOST.true)
-
-pub returns-then-count-lt1 : goal.returns-then-count-lt1
-unfolding number_good
-returns-then-count-lt1 c =
+returns-then-count-gt-MOST c =
     let n = c.args.n in
     let long : length n.digits ≡ most = search rules in
-    rw (le-leb _ _ c.if-count-gt-MOST.false, digits_few (digits_of n) n.count (length-take-le _ _ (omega arith)) c.if-count-lt1.true)
+    elim c.then-count-gt-MOST.branch [
+      | then-count-gt-MOST-via-then-count-gt-MOST w ↦ rw (lt-leb _ _ w.if-count-gt-MOST.true)
+      | then-count-gt-MOST-via-else-count-gt-MOST+then-count-lt1 w ↦
+          rw (le-leb _ _ w.if-count-gt-MOST.false, digits_few (digits_of n) n.count (length-take-le _ _ (omega arith)) w.if-count-lt1.true)
+      | then-count-gt-MOST-via-else-count-gt-MOST+else-count-lt1+then-not-all_digits w ↦
+          sym (record_good n w.if-count-lt1.false w.if-count-gt-MOST.false long ∙ rw (sym w.all_digits.ensures ∙ w.if-not-all_digits.true))
+    ]
 
-pub slice_bounds-digits-end : goal.slice_bounds-digits-end
-slice_bounds-digits-end c =
-    let n = c.args.n in
-    let long : length n.digits ≡ most = search rules in
-    omega arith
-
-pub slice_bounds-all_digits-end : goal.slice_bounds-all_digits-end
-slice_bounds-all_digits-end c =
-    let n = c.args.n in
-    let long : length n.digits ≡ most = search rules in
-    sym (length-take-le _ _ (omega arith))
-
-pub returns-then-not-all_digits : goal.returns-then-not-all_digits
-returns-then-not-all_digits c =
-    let n = c.args.n in
-    let long : length n.digits ≡ most = search rules in
-    rw (
-      record_good n c.if-count-lt1.false c.if-count-gt-MOST.false long,
-      sym c.all_digits.ensures ∙ c.if-not-all_digits.true,
-    )
-
-pub returns-then-n-eq-UNKNOWN : goal.returns-then-n-eq-UNKNOWN
-returns-then-n-eq-UNKNOWN c =
+pub returns-in-0 : goal.returns-in-0
+returns-in-0 c =
     let n = c.args.n in
     let long : length n.digits ≡ most = search rules in
     rw (
       record_good n c.if-count-lt1.false c.if-count-gt-MOST.false long,
       sym c.all_digits.ensures ∙ c.if-not-all_digits.false,
-      eq-eqb _ _ c.if-n-eq-UNKNOWN.true,
+      eq-eqb _ _ c.in-0.is,
     )
 
-pub returns-then-n-eq-PUBLIC : goal.returns-then-n-eq-PUBLIC
-returns-then-n-eq-PUBLIC c =
+pub returns-in-1 : goal.returns-in-1
+returns-in-1 c =
     let n = c.args.n in
     let long : length n.digits ≡ most = search rules in
     rw (
       record_good n c.if-count-lt1.false c.if-count-gt-MOST.false long,
       sym c.all_digits.ensures ∙ c.if-not-all_digits.false,
-      ne_eqb _ _ c.if-n-eq-UNKNOWN.false,
-      eq-eqb _ _ c.if-n-eq-PUBLIC.true,
+      c.in-1.is,
     )
     c.type_good.ensures
 
-pub returns : goal.returns
-returns c =
+pub returns-in_default : goal.returns-in_default
+returns-in_default c =
     let n = c.args.n in
     let long : length n.digits ≡ most = search rules in
     rw (
       record_good n c.if-count-lt1.false c.if-count-gt-MOST.false long,
       sym c.all_digits.ensures ∙ c.if-not-all_digits.false,
-      ne_eqb _ _ c.if-n-eq-UNKNOWN.false,
-      ne_eqb _ _ c.if-n-eq-PUBLIC.false,
     )
+    (search cases)

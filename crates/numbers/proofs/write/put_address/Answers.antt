@@ -2,6 +2,7 @@ use Rattle.numbers.proofs.Sizes.{every_contents_most, address_long}
 use Rattle.numbers.proofs.Writers.{address_room, address_wrote}
 use Rattle.numbers.specs.Number.{most, number_octets}
 use Rattle.numbers.specs.Address.{sub_octets_of, sub_octets, address_octets}
+use Rattle.octets.proofs.Rooms.{room_here, room_past}
 use Rattle.laws.proofs.Over.{room_then, puts_none, puts_all}
 use lib.ListN.{length, length-append}
 use mathlib.Core.Path.{◌≡◌}
@@ -17,19 +18,12 @@ overflow_add-need c = let a = c.args.a in
     let few = every_contents_most a digits sub in
     omega (arith, c.contents_size-size.ensures, few)
 
-pub returns-then-out-need : goal.returns-then-out-need
-returns-then-out-need c = let a = c.args.a in
+pub returns-then-not-has_room : goal.returns-then-not-has_room
+returns-then-not-has_room c = let a = c.args.a in
     let digits : length a.number.digits ≡ most = search (rules, c.well_formed) in
     let sub : length a.sub ≡ most = search (rules, c.well_formed) in
     let few = every_contents_most a digits sub in
-    puts_none (omega (arith, c.contents_size-size.ensures, address_long a few))
-
-pub returns-then-out-need-2 : goal.returns-then-out-need-2
-returns-then-out-need-2 c = let a = c.args.a in
-    let digits : length a.number.digits ≡ most = search (rules, c.well_formed) in
-    let sub : length a.sub ≡ most = search (rules, c.well_formed) in
-    let few = every_contents_most a digits sub in
-    puts_none (omega (arith, c.contents_size-size.ensures, address_long a few))
+    puts_none (omega (arith, c.contents_size-size.ensures, address_long a few, room_past c.args.out.now c.args.at _ c.if-not-has_room.ensures))
 
 pub overflow_cast-size : goal.overflow_cast-size
 overflow_cast-size c = let a = c.args.a in
@@ -49,8 +43,7 @@ write_number-q-requires c =
       arith,
       c.contents_size-size.ensures,
       address_long a few,
-      c.if-out-need.false,
-      c.if-out-need-2.false,
+      room_here c.args.out.now c.args.at _ c.if-not-has_room.ensures,
     ) in
     let rest = address_room a fits c.contents_size-size.ensures c.put_head-p.ensures in
     omega (arith, rest, length-append (number_octets a.number) (sub_octets (sub_octets_of a)))
@@ -63,7 +56,7 @@ write_sub-requires c =
     let few = every_contents_most a digits sub in
     let fits : c.args.at + length (address_octets a) ≤ length
     c.args.out.now =
-    omega (arith, c.contents_size-size.ensures, address_long a few, c.if-out-need.false, c.if-out-need-2.false) in
+    omega (arith, c.contents_size-size.ensures, address_long a few, room_here c.args.out.now c.args.at _ c.if-not-has_room.ensures) in
     let rest =
     address_room a fits c.contents_size-size.ensures
     c.put_head-p.ensures in
@@ -77,7 +70,7 @@ returns c =
     let few = every_contents_most a digits sub in
     let fits : c.args.at + length (address_octets a) ≤ length
     c.args.out.now =
-    omega (arith, c.contents_size-size.ensures, address_long a few, c.if-out-need.false, c.if-out-need-2.false) in
+    omega (arith, c.contents_size-size.ensures, address_long a few, room_here c.args.out.now c.args.at _ c.if-not-has_room.ensures) in
     puts_all fits
     (address_wrote a fits c.contents_size-size.ensures
     c.put_head-p.ensures

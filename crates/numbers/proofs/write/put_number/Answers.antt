@@ -1,17 +1,19 @@
-use Rattle.laws.proofs.Over.{puts_none, puts_all}
 use native.Mathlib.Omega.{arith}
+use Rattle.laws.proofs.Over.{puts_none, puts_all}
+use Rattle.octets.proofs.Rooms.{room_here, room_past}
 use Rattle.numbers.proofs.write.put_number.Goals as goal
 
-pub returns-then-out-need : goal.returns-then-out-need
-returns-then-out-need c = puts_none (omega (arith, c.number_size-need.ensures))
-
-pub returns-then-out-need-2 : goal.returns-then-out-need-2
-returns-then-out-need-2 c = puts_none (omega (arith, c.number_size-need.ensures))
+pub returns-then-not-has_room : goal.returns-then-not-has_room
+returns-then-not-has_room c =
+    let a = c.args in
+    puts_none (omega (arith, c.number_size-need.ensures, room_past a.out.now a.at _ c.if-not-has_room.ensures))
 
 pub write_number-requires : goal.write_number-requires
-write_number-requires c = omega (arith, c.number_size-need.ensures)
+write_number-requires c =
+    let a = c.args in
+    omega (arith, c.number_size-need.ensures, room_here a.out.now a.at _ c.if-not-has_room.ensures)
 
 pub returns : goal.returns
 returns c =
-    puts_all (omega (arith, c.number_size-need.ensures))
-    c.write_number.ensures
+    let a = c.args in
+    puts_all (omega (arith, c.number_size-need.ensures, room_here a.out.now a.at _ c.if-not-has_room.ensures)) c.write_number.ensures

@@ -1,4 +1,0 @@
-use Rattle.numbers.proofs.number.no_number.Goals as goal
-
-pub returns : goal.returns
-returns c = rw c.blank_number.ensures
