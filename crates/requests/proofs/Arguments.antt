@@ -20,7 +20,7 @@ use Rattle.octets.specs.Head.{head_at}
 use Rattle.octets.specs.Spelt.{Spells}
 use Rattle.octets.specs.Part.{part_of}
 use Rattle.octets.specs.declared.head.Head.{Head}
-use Rattle.octets.specs.declared.head.Head.TheVariants as head
+use Rattle.std.specs.Prelude.{Option, Some, None}
 use Rattle.octets.proofs.Spellings.{spells_length, spells_back}
 use Rattle.octets.proofs.Firsts.{spells_first}
 use Rattle.values.specs.Enumerated.{enumerated_tag}
@@ -79,9 +79,9 @@ one_back :
 unfolding served_at
 one_back depth s at end {n} {next} h = in_head (head_at depth s at end) (number_not_null depth s at end h)
   where
-    in_head : (x : Head) → NotNull x → and_then (part_of x) (served_in depth s at end) ≡ got (individual n) next
-    in_head (head.Is tag start stop after) other = rw (ne_eqb tag 0x05 other, h)
-    in_head head.Bad other = absurd other
+    in_head : (x : Option Head) → NotNull x → and_then (part_of x) (served_in depth s at end) ≡ got (individual n) next
+    in_head (Some x) other = rw (ne_eqb x.tag 0x05 other, h)
+    in_head None other = absurd other
 
 -- whatever spells a served number is read as it
 pub served_back :

@@ -21,7 +21,7 @@ use Rattle.values.proofs.Enumerateds.{enumerated_within}
 use Rattle.values.proofs.Spellings.{enumerated_only}
 use Rattle.skip.specs.Depth.{argument_depth}
 use Rattle.codes.specs.Codes.{procedure_code, service_code, activation, deactivation, interrogation}
-use Rattle.numbers.specs.Number.{value_of, number_at}
+use Rattle.numbers.specs.Number.{number_at}
 use Rattle.numbers.specs.Address.{address_at}
 use Rattle.numbers.specs.declared.address.Forwarded.{Forwarded}
 use Rattle.numbers.proofs.Readers.{number_within, address_within}
@@ -32,7 +32,7 @@ use Rattle.requests.specs.Spelt.{Known, activation_is, deactivation_is, interrog
 use Rattle.requests.specs.Spelt.{CodeSpelt, ServiceSpelt, ToSpelt, ServedSpelt, ContentsSpelt}
 use Rattle.requests.specs.declared.request.Served.{Served}
 use Rattle.requests.specs.declared.request.Request.{Request}
-use Rattle.requests.proofs.Founds.{same_found, both_found, test_found, value_from, part_from}
+use Rattle.requests.proofs.Founds.{same_found, both_found, test_found, part_from}
 use Rattle.requests.proofs.Privates.{privates_only}
 
 -- what was read from `at` up to `next`, before `end`, is such as P says
@@ -50,9 +50,9 @@ module _ (s : List ℕ) (small : (i : ℕ) → get_or s i 0 < 256) where
       Took (CodeSpelt good code) s at next end
   unfolding code_at
   code_only good depth at end e =
-      let b = both_found (value_of (enumerated_at depth s at end)) _ e in
+      let b = both_found (enumerated_at depth s at end) _ e in
       let t = test_found (good b.found) (got b.found b.at) b.second in
-      let v = value_from (enumerated_at depth s at end) (b.first ∙ t.1) in
+      let v = b.first ∙ t.1 in
       let lies = enumerated_within depth s at end v in
       record {
         spelt = record { lets = ap good (sym (same_found t.1).0) ∙ t.0; spells = enumerated_only s small depth at end v };

@@ -16,7 +16,8 @@ use Rattle.laws.proofs.Stands.{stands_whole, stands_left}
 use Rattle.octets.specs.Head.{head_at}
 use Rattle.octets.specs.Spelt.{Spells}
 use Rattle.octets.specs.declared.head.Head.{Head}
-use Rattle.octets.specs.declared.head.Head.TheVariants as head
+use Rattle.std.specs.Prelude.{Option, Some, None}
+use Rattle.octets.specs.Head.{is_head}
 use Rattle.octets.proofs.Spellings.{head_only, spells_back}
 use Rattle.octets.proofs.Bads.{head_past, head_ones}
 use Rattle.octets.proofs.Firsts.{spells_first}
@@ -29,20 +30,20 @@ use Rattle.requests.proofs.Tags.{no_reply_tag}
 
 module _ (s : List ℕ) where
   -- no element
-  pub heard_bad : head_at component_depth s 0 (length s) ≡ head.Bad → heard s ≡ NotOne
+  pub heard_bad : head_at component_depth s 0 (length s) ≡ None → heard s ≡ NotOne
   unfolding heard
   heard_bad e = rw e
 
   -- one that does not fill them
   heard_part :
-      {tag start stop next : ℕ} → head_at component_depth s 0 (length s) ≡ head.Is tag start stop next →
+      {tag start stop next : ℕ} → head_at component_depth s 0 (length s) ≡ is_head tag start stop next →
       (next ≡ length s → ⊥) → heard s ≡ NotOne
   unfolding heard
   heard_part {next = next} e other = rw (e, ne_eqb next (length s) other)
 
   -- one that does
   heard_filled :
-      {tag start stop next : ℕ} → head_at component_depth s 0 (length s) ≡ head.Is tag start stop next → next ≡ length s →
+      {tag start stop next : ℕ} → head_at component_depth s 0 (length s) ≡ is_head tag start stop next → next ≡ length s →
       heard s ≡ heard_in s (record { tag = tag; start = start; stop = stop })
   unfolding heard
   heard_filled {next = next} e all = rw (e, eq-eqb next (length s) all)
@@ -73,15 +74,15 @@ heard_not_one s small none = by_head (head_at component_depth s 0 (length s)) re
     whole : slice 0 (length s) s ≡ s
     whole = take-length s
 
-    by_head : (x : Head) → head_at component_depth s 0 (length s) ≡ x → heard s ≡ NotOne
-    by_head (head.Is tag start stop next) e =
+    by_head : (x : Option Head) → head_at component_depth s 0 (length s) ≡ x → heard s ≡ NotOne
+    by_head (Some h) e =
         let found = head_only s small component_depth 0 (length s) e in
-        by_bool (heard s ≡ NotOne) (eqb next (length s))
+        by_bool (heard s ≡ NotOne) (eqb h.next (length s))
         (λ all.
-        absurd (none tag (slice start stop s) found.low
-        (rw (eqb-true next (length s) all, whole) at found.spells)))
-        (λ other. heard_part s e (eqb-false next (length s) other))
-    by_head head.Bad e = heard_bad s e
+        absurd (none h.tag (slice h.start h.stop s) found.low
+        (rw (eqb-true h.next (length s) all, whole) at found.spells)))
+        (λ other. heard_part s e (eqb-false h.next (length s) other))
+    by_head None e = heard_bad s e
 
 -- ---- the outer tag
 

@@ -15,9 +15,8 @@ use Rattle.octets.specs.Spelt.{Spells}
 use Rattle.octets.proofs.Slices.{slice_join}
 use Rattle.octets.proofs.Spellings.{spells_length, spells_contents, element_spells}
 use Rattle.octets.proofs.Firsts.{spells_first}
+use Rattle.laws.specs.Got.{Got, got, wrong}
 use Rattle.values.specs.Ident.{ident_tag, ident_at}
-use Rattle.values.specs.declared.ident.Ident.{Ident}
-use Rattle.values.specs.declared.ident.Ident.TheVariants as ident
 use Rattle.values.proofs.Idents.{ident_range, ident_within, ident_spells_back}
 use Rattle.values.proofs.Spellings.{ident_only}
 use Rattle.skip.specs.Depth.{inside_depth}
@@ -31,14 +30,14 @@ use Rattle.requests.proofs.Heards.{heard_within}
 -- one that is spelt is read
 signed_back :
     (z : ℤ) (ws s : List ℕ) (at end : ℕ) → SignedSpelt z ws → Stands s at ws → at + length ws ≤ end → end ≤ length s →
-    ident_at inside_depth s at end ≡ ident.Is z (at + length ws)
+    ident_at inside_depth s at end ≡ got z (at + length ws)
 signed_back z ws s at end v st fit in-s =
     ident_spells_back inside_depth z s at end v.spells (λ e. omega arith) v.range st fit in-s
 
 -- what is read as one spells it
 pub signed_only :
     (s : List ℕ) → ((i : ℕ) → get_or s i 0 < 256) → (at end : ℕ) {z : ℤ} {next : ℕ} →
-    ident_at inside_depth s at end ≡ ident.Is z next → SignedSpelt z (slice at next s)
+    ident_at inside_depth s at end ≡ got z next → SignedSpelt z (slice at next s)
 signed_only s small at end e = record {
   range = rw e at (ident_range inside_depth s at end);
   spells = ident_only s small inside_depth at end e;
@@ -47,19 +46,19 @@ signed_only s small at end e = record {
 -- where none stands first, none is read
 none_read :
     (s : List ℕ) → ((i : ℕ) → get_or s i 0 < 256) → (at : ℕ) (ws : List ℕ) → NoneFirst ws → Stands s at ws →
-    at + length ws ≤ length s → ident_at inside_depth s at (at + length ws) ≡ ident.Unreadable
+    at + length ws ≤ length s → ident_at inside_depth s at (at + length ws) ≡ wrong
 none_read s small at ws none st in-s = by_ident (ident_at inside_depth s at end) refl
   where
     end : ℕ
     end = at + length ws
 
-    by_ident : (x : Ident) → ident_at inside_depth s at end ≡ x → x ≡ ident.Unreadable
-    by_ident (ident.Is z next) e =
+    by_ident : (x : Got ℤ) → ident_at inside_depth s at end ≡ x → x ≡ wrong
+    by_ident (got z next) e =
         let lies = ident_within inside_depth s at end e in
         let parts : ws ≡ slice at next s ++ slice next end s =
         sym (slice_stands s at ws st in-s) ∙ sym (slice_join at next end s (omega (arith, lies.0)) lies.1) in
         absurd (none z (slice at next s) (slice next end s) parts (signed_only s small at end e))
-    by_ident ident.Unreadable e = refl
+    by_ident wrong e = refl
 
 -- an element of another tag
 pub other_first :

@@ -12,8 +12,7 @@ use Rattle.laws.specs.Stands.{Stands}
 use Rattle.laws.proofs.Picks.{pick_ind}
 use Rattle.laws.proofs.Stands.{stands_first}
 use Rattle.skip.specs.Skip.{skip_depth}
-use Rattle.skip.specs.declared.skip.Skip.{Skip}
-use Rattle.skip.specs.declared.skip.Skip.TheVariants.{To}
+use Rattle.std.specs.Prelude.{Option, Some}
 use Rattle.skip.proofs.Skips.{Further, further}
 use Rattle.skip.proofs.Runs.{run_fills, run_only}
 use Rattle.skip.proofs.Spellings.{skip_back, skippable_some, skip_only, apart}
@@ -29,7 +28,7 @@ first_stands s at (w ∷ ws) some st = stands_first s at w ws st
 -- what spells a private element is passed
 private_back :
     (s : List ℕ) (end : ℕ) → end ≤ length s → (ws : List ℕ) (at : ℕ) → PrivateSpelt ws → Stands s at ws → at + length ws ≤ end →
-    private_at s at end ≡ To (at + length ws)
+    private_at s at end ≡ Some (at + length ws)
 unfolding private_at
 private_back s end in-s ws at p st fit =
     rw (first_stands s at ws (skippable_some skip_depth ws p.skipped) st, eq-eqb (get_or ws 0 0 / 64) 3 p.class)
@@ -44,12 +43,12 @@ privates_back s ps at end run st fit in-s =
     run_fills PrivateSpelt (λ a. private_at s a end) s end (λ a. private_further s a end) (private_back s end in-s) run at st fit
 
 module _ (s : List ℕ) (small : (i : ℕ) → get_or s i 0 < 256) where
-  private_only : (end at next : ℕ) → end ≤ length s → private_at s at end ≡ To next → PrivateSpelt (slice at next s)
+  private_only : (end at next : ℕ) → end ≤ length s → private_at s at end ≡ Some next → PrivateSpelt (slice at next s)
   unfolding private_at
   private_only end at next in-s =
-      pick_ind (λ (x : Skip). x ≡ To next → PrivateSpelt (slice at next s)) (eqb (get_or s at 0 / 64) 3)
+      pick_ind (λ (x : Option ℕ). x ≡ Some next → PrivateSpelt (slice at next s)) (eqb (get_or s at 0 / 64) 3)
       (λ e h.
-      let on : Further at end (To next) = rw h at (further skip_depth s at end) in
+      let on : Further at end (Some next) = rw h at (further skip_depth s at end) in
       let first : get_or (slice at next s) 0 0 ≡ get_or s at 0 =
       ap (λ (l : List ℕ). get_or l 0 0) (slice-cons at next s 0 on.0 (omega (arith, on.1))) in
       record { class = rw first (eqb-true (get_or s at 0 / 64) 3 e); skipped = skip_only s small skip_depth at end next h })

@@ -18,7 +18,7 @@ use Rattle.octets.specs.Spelt.{Spells}
 use Rattle.octets.specs.Part.{Part, part_at, last_at, tag_is}
 use Rattle.octets.proofs.Slices.{slice_join}
 use Rattle.octets.proofs.Spellings.{head_only}
-use Rattle.values.specs.Ident.{ident_at, signed_at}
+use Rattle.values.specs.Ident.{ident_at}
 use Rattle.values.proofs.Idents.{ident_within}
 use Rattle.skip.specs.Depth.{inside_depth, component_depth}
 use Rattle.requests.specs.Heard.{reply_tag, local, operation_at, identifier_at, heard_in, heard}
@@ -28,7 +28,7 @@ use Rattle.requests.specs.declared.heard.Heard.{Heard}
 use Rattle.requests.specs.declared.heard.Heard.TheVariants.{NotOne, Silent, OtherTag, NoIdentifier, NoOperation, Asks}
 use Rattle.requests.specs.declared.heard.Operation.{Operation}
 use Rattle.requests.specs.declared.request.Request.{Request}
-use Rattle.requests.proofs.Founds.{same_found, none_found, both_found, test_found, signed_from, part_from}
+use Rattle.requests.proofs.Founds.{same_found, none_found, both_found, test_found, part_from}
 use Rattle.requests.proofs.Ranges.{or_else_lem}
 use Rattle.requests.proofs.Invokes.{signed_only}
 use Rattle.requests.proofs.ContentsOnly.{contents_only}
@@ -78,16 +78,14 @@ module _ (s : List ℕ) (small : (i : ℕ) → get_or s i 0 < 256) where
   unfolding identifier_at operation_at
   identifier_only start stop =
       let P : Heard → Type 0 = WhenAsks (AsksFrom s start stop) in
-      or_else_lem P NoIdentifier (signed_at inside_depth s start stop) _ tt (λ identifier middle e.
-      or_else_lem P (NoOperation identifier) (signed_at inside_depth s middle stop) _ tt (λ value at f.
-      let i = signed_from (ident_at inside_depth s start stop) e in
-      let o = signed_from (ident_at inside_depth s middle stop) f in
-      let lies = ident_within inside_depth s start stop i in
-      let follows = ident_within inside_depth s middle stop o in
+      or_else_lem P NoIdentifier (ident_at inside_depth s start stop) _ tt (λ identifier middle e.
+      or_else_lem P (NoOperation identifier) (ident_at inside_depth s middle stop) _ tt (λ value at f.
+      let lies = ident_within inside_depth s start stop e in
+      let follows = ident_within inside_depth s middle stop f in
       record {
         middle = middle;
-        identifiers = signed_only s small start stop i;
-        operations = signed_only s small middle stop o;
+        identifiers = signed_only s small start stop e;
+        operations = signed_only s small middle stop f;
         first = omega (arith, lies.0);
         second = omega (arith, follows.0);
         third = follows.1;

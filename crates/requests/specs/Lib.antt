@@ -4,4 +4,3 @@ pub mod Sent
 pub mod Invoke
 pub mod Spelt
 pub mod Sending
-pub mod inner

@@ -20,7 +20,7 @@ returns-then-s-here-ne3 c =
 pub loop-here-smaller : goal.loop-here-smaller
 loop-here-smaller c =
     let a = c.args in
-    let found = sym c.skip_at.ensures ∙ c.in-To.is in
+    let found = sym c.skip_at.ensures ∙ c.in-Some.is in
     let on = rw found at (further skip_depth a.s.now c.loop-here.here a.end) in
     omega (arith, c.loop-here-test.true, on)
 
@@ -30,17 +30,17 @@ loop-here-preserved c =
     let a = c.args in
     let step = privates_step a.s.now c.loop-here.here a.end
     c.loop-here-test.true in
-    let found = sym c.skip_at.ensures ∙ c.in-To.is in
+    let found = sym c.skip_at.ensures ∙ c.in-Some.is in
     c.loop-here.invariant
     ∙ rw (step, eq-eqb _ _ c.if-s-here-ne3.false, found)
 
-pub returns-in-Wrong : goal.returns-in-Wrong
+pub returns-in_default : goal.returns-in_default
 unfolding private_at
-returns-in-Wrong c =
+returns-in_default c =
     let a = c.args in
     let step = privates_step a.s.now c.loop-here.here a.end
     c.loop-here-test.true in
-    let found = sym c.skip_at.ensures ∙ c.in-Wrong.is in
+    let found = sym c.skip_at.ensures ∙ c.in_default.is in
     rw (c.loop-here.invariant, step, eq-eqb _ _ c.if-s-here-ne3.false, found)
 
 pub returns : goal.returns

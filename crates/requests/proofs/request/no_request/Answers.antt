@@ -1,4 +1,0 @@
-use Rattle.requests.proofs.request.no_request.Goals as goal
-
-pub returns : goal.returns
-returns c = rw c.blank_request-request.ensures
