@@ -1,8 +1,9 @@
-use Rattle.lists.proofs.Readers.{entry_found, entry_none, reached_first, reached_full, reached_wrong, reached_next, reached_answer}
+use mathlib.Core.Path.{sym, ◌∙◌}
+use Rattle.octets.proofs.Founds.{found_got, found_wrong}
+use Rattle.lists.proofs.Readers.{reached_first, reached_full, reached_wrong, reached_next, reached_answer}
 use Rattle.lists.specs.Entry.{entry_at}
 use Rattle.lists.specs.Entries.{instances_most}
 use native.Mathlib.Omega.{arith}
-use borrow.Author.Tests.{not-true, not-false}
 use borrow.Author.Rules.{rules}
 use Rattle.lists.proofs.entries.entries_at.Goals as goal
 
@@ -15,16 +16,16 @@ returns-then-count-eq-INSTANCESMOST c =
     let l = c.loop-here in
     let none = reached_full instances_most a.s.now a.at a.end l.count l.here l.entries l.invariant
     c.loop-here-test.true c.if-count-eq-INSTANCESMOST.true in
-    rw none c.not_entries.ensures
+    rw none
 
-pub returns-then-not-read : goal.returns-then-not-read
-returns-then-not-read c =
+pub returns-in_err-entry : goal.returns-in_err-entry
+returns-in_err-entry c =
     let a = c.args in
     let l = c.loop-here in
-    let unread = entry_none (entry_at _ _ _) _ c.entry_at-read.ensures (not-true _ c.if-not-read.true) in
+    let unread = found_wrong (entry_at _ _ _) c.entry_at.ensures c.in_err-entry.was in
     let none = reached_wrong instances_most a.s.now a.at a.end l.count l.here l.entries l.invariant
     c.loop-here-test.true c.if-count-eq-INSTANCESMOST.false unread in
-    rw none c.not_entries-then-not-read.ensures
+    rw none c.from_residual.ensures
 
 pub loop-here-smaller : goal.loop-here-smaller
 loop-here-smaller c = omega (arith, c.loop-here.invariant.few, c.if-count-eq-INSTANCESMOST.false)
@@ -33,7 +34,7 @@ pub loop-here-preserved : goal.loop-here-preserved
 loop-here-preserved c =
     let a = c.args in
     let l = c.loop-here in
-    let found = entry_found (entry_at _ _ _) _ c.entry_at-read.ensures (not-false _ c.if-not-read.false) in
+    let found = found_got (entry_at _ _ _) c.entry_at.ensures c.in_ok-entry.was in
     reached_next instances_most a.s.now a.at a.end l.count l.here l.entries l.invariant
     c.loop-here-test.true
     c.if-count-eq-INSTANCESMOST.false _ _ found
