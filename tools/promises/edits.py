@@ -10,6 +10,8 @@ from dataclasses import dataclass, field
 from pathlib import Path
 
 FUNCTION = re.compile(r'^( *)(?:pub(?:\(crate\))? )?(?:extern "C" )?fn (\w+)', re.M)
+# The head of an `impl`: a trait and what it is of, if it is a trait's, and the type.
+OWNER = re.compile(r"^impl(?:<[^>]*>)? (?:(\w+)(?:<(\w+)>)? for )?(\w+)", re.M)
 # What a check says of a fact of a function that a proof file answers; of one that no file answers, by the place in the code where it is owed;
 # and of each function that is not proved.
 ERROR = re.compile(r"(?:\./)?proofs/(\S+)/(?:Proof|Invariants|Answers)\.antt:\d+:\d+: error: (?:`([^`]+)`: )?(.*)")
@@ -71,13 +73,13 @@ def function_at(crate, source, text):
 
 
 def function_from(source, whole, at):
-    """The function at a place of a file, as `module::function`, or a method as `Type::function`."""
+    """The function at a place of a file, as `module::function`, or a method as `Type::function`, a trait's as `TypeTrait::function`."""
     heads = [head for head in FUNCTION.finditer(whole) if head.start() <= at]
     if not heads or at > whole.find(f"\n{heads[-1][1]}}}", heads[-1].start()) + 1 + len(heads[-1][1]):
         return ""
     if heads[-1][1]:  # the prover names a method by the module of its type, which may be another one
-        owners = [owner[1] for owner in re.finditer(r"^impl (\w+)", whole, re.M) if owner.start() < heads[-1].start()]
-        return f"{owners[-1]}::{heads[-1][2]}"
+        trait, of, owner = [owner.groups("") for owner in OWNER.finditer(whole) if owner.start() < heads[-1].start()][-1]
+        return f"{owner[0].upper()}{owner[1:]}{trait}{of}::{heads[-1][2]}"
     module = source.removeprefix("src/").removesuffix(".rt").removesuffix("lib").split("/")
     return "::".join(part for part in [*module, heads[-1][2]] if part)
 
