@@ -1,15 +1,17 @@
 -- What is told where nothing more is answered, and what is written beside it (document 01, "Local refusals").
-use Rattle.std.specs.Prelude.{ℕ, ◌≡◌, List, []}
+use Rattle.std.specs.Prelude.{ℕ, List, [], Result, Ok, Err}
 use Rattle.refusals.specs.Refusal.{refusal_no, Told, refuses, tells}
 use Rattle.refusals.specs.declared.refusal.Refusal.{Refusal}
-use Rattle.refusals.specs.declared.handling.Handling.{Handling}
-use Rattle.refusals.specs.declared.handling.Handling.TheVariants.{Refuses, Done}
-use Rattle.refusals.specs.declared.handling.Written.{Written}
 
 -- what is told: the refusal, or that it is done
-abbrev pub handling_told : Handling → Told (Unit {0})
-handling_told (Refuses refusal) = refuses (refusal_no refusal)
-handling_told Done = tells tt
+abbrev pub handling_told : {A : Type 0} → Result A Refusal → Told (Unit {0})
+handling_told (Err refusal) = refuses (refusal_no refusal)
+handling_told (Ok _) = tells tt
+
+-- how many octets were written; a refusal writes none
+abbrev pub written_count : Result ℕ Refusal → ℕ
+written_count (Ok count) = count
+written_count (Err _) = 0
 
 -- what is told, and the octets at the start of the lent output
 pub record Made : Type 0 where
@@ -22,14 +24,3 @@ not_made refusal = record { told = refuses (refusal_no refusal); octets = [] }
 
 abbrev pub made : List ℕ → Made
 made octets = record { told = tells tt; octets = octets }
-
--- what is answered where nothing is written, and where all is
-abbrev pub not_written : Refusal → Written
-not_written refusal = record { outcome = Refuses refusal; count = 0 }
-
-abbrev pub all_written : ℕ → Written
-all_written count = record { outcome = Done; count = count }
-
--- what `not_written` promises
-abbrev pub NotWritten : Refusal → Written → Type 0
-NotWritten refusal r = r ≡ not_written refusal

@@ -1,8 +1,6 @@
-// Local refusals, by their numbers, and what is told (document 01, "Local refusals").
+// Local refusals, by their numbers (document 01, "Local refusals"). What is refused answers Err: it is not done, and nothing is written.
 #![tactic(auto)]
 
-mod handling;
 mod refusal;
 
-pub use handling::{Handling, Written, not_written};
-pub use refusal::{COMPONENTMOST, OUTPUTLEAST, Refusal, refusal_no};
+pub use refusal::{COMPONENTMOST, OUTPUTLEAST, Refusal};

@@ -1,7 +1,7 @@
 // Why something is refused, with document 01's words, in the order of the numbers (document 01, "Local refusals").
 ghost use Rattle.refusals.specs.Refusal.{RefusalNo};
 
-#[derive(Clone, Copy)]
+#[derive(Clone, Copy, PartialEq, Eq, Debug)]
 pub enum Refusal {
     // "lent output under 707 octets (any component) or 1,613 (sheet)"
     ShortOutput,
@@ -32,19 +32,21 @@ pub const OUTPUTLEAST: usize = 707;
 pub const COMPONENTMOST: usize = 1024;
 
 // The number of a refusal.
-pub fn refusal_no(refusal: Refusal) -> u8
-    ensures { RefusalNo refusal result }
-{
-    match refusal {
-        Refusal::ShortOutput => 1,
-        Refusal::LongComponent => 2,
-        Refusal::BadProfile => 3,
-        Refusal::BadTable => 4,
-        Refusal::BadCall => 5,
-        Refusal::LimitReached => 6,
-        Refusal::Outstanding => 7,
-        Refusal::Exhausted => 8,
-        Refusal::BadSheet => 9,
-        Refusal::BadRequest => 10,
+impl From<Refusal> for u8 {
+    ghost from_gives = { RefusalNo };
+
+    fn from(refusal: Refusal) -> u8 {
+        match refusal {
+            Refusal::ShortOutput => 1,
+            Refusal::LongComponent => 2,
+            Refusal::BadProfile => 3,
+            Refusal::BadTable => 4,
+            Refusal::BadCall => 5,
+            Refusal::LimitReached => 6,
+            Refusal::Outstanding => 7,
+            Refusal::Exhausted => 8,
+            Refusal::BadSheet => 9,
+            Refusal::BadRequest => 10,
+        }
     }
 }
