@@ -1,7 +1,7 @@
 -- Laws of the access record's reader, over plain values. Assumes nothing.
 use Prim.Native.Nat.{ℕ, ◌+◌, ◌*◌, ◌-◌, ◌≤◌, ◌<◌}
 use mathlib.Core.Path.{◌≡◌, refl, sym, ap, ◌∙◌}
-use mathlib.Core.Bool.{Bool, true, false≢true}
+use mathlib.Core.Bool.{Bool, true, false, false≢true}
 use mathlib.Core.List.{List, [], ◌∷◌}
 use native.Mathlib.Nat.{add_assoc}
 use native.Mathlib.Omega.{arith}
@@ -9,7 +9,10 @@ use lib.ListN.{length, take, drop, get_or, set, replicate, length-set}
 use lib.Dec.{eqb}
 use lib.Seq.{take-length, slice, length-slice}
 use borrow.Author.Tests.{eqb-true}
+use Rattle.std.specs.Prelude.{Option, Some, None}
+use Rattle.std.proofs.lemmas.Option.{none-some, same_Some}
 use Rattle.laws.specs.Over.{Puts, over}
+use Rattle.laws.specs.Pick.{pick}
 use Rattle.laws.specs.Places.{each_from}
 use Rattle.laws.specs.Tests.{all}
 use Rattle.laws.proofs.Each.{get_d_each, spelled, each_spelled, each_set, each_done, slice_each}
@@ -20,10 +23,9 @@ use Rattle.numbers.specs.Number.{most}
 use Rattle.numbers.specs.declared.number.Number.{Number}
 use Rattle.profile.specs.Profile.{numbers_most, no_number, services_most, prefixes_most, profile_good}
 use Rattle.profile.specs.Access.{numbers_at, number_size, services_at, subscribed_at, flags_at, prefixes_at, prefix_size}
-use Rattle.profile.specs.Access.{access_size, number_from, prefix_from, prefixes_from, profile_from, no_access, access_read}
+use Rattle.profile.specs.Access.{access_size, number_from, prefix_from, prefixes_from, profile_from, AccessRead, no_access, access_read, profile_read}
 use Rattle.profile.specs.declared.profile.Prefix.{Prefix}
 use Rattle.profile.specs.declared.profile.Profile.{Profile}
-use Rattle.profile.specs.declared.access.AccessRead.{AccessRead}
 use Rattle.laws.proofs.Tests.{all_at}
 
 -- ---- digits
@@ -125,6 +127,14 @@ profile_made s a b c d prefixes long first second third fourth rest =
 
 -- ---- what is read
 
+pick_some : {A : Type 0} (b : Bool) (x y : A) → pick b (Some x) None ≡ Some y → (b ≡ true) × (x ≡ y)
+pick_some true x y h = (refl, same_Some x y h)
+pick_some false x y h = absurd (none-some y h)
+
+pick_none : {A : Type 0} (b : Bool) (x : A) → pick b (Some x) None ≡ None → b ≡ false
+pick_none true x h = absurd (none-some x (sym h))
+pick_none false x h = refl
+
 -- what holds of no record, and of a profile that breaks no rule in a record of the right size, holds of what is read
 access_ind :
     (s : List ℕ) (P : AccessRead → Type 0) → P no_access →
@@ -137,6 +147,15 @@ access_ind s P none good =
     pick_ind P (all (size ∷ fair ∷ []))
     (λ h. let each = all_at (size ∷ fair ∷ []) in good (eqb-true (length s) access_size (each 0 h)) (each 1 h))
     (λ _. none)
+
+-- what was read, by whether there is a profile
+pub read_some :
+    (s : List ℕ) (r : Option Profile) (p : Profile) → r ≡ profile_read (access_read s) → r ≡ Some p →
+    ((access_read s).ok ≡ true) × ((access_read s).profile ≡ p)
+read_some s r p read is = pick_some (access_read s).ok _ p (sym read ∙ is)
+
+pub read_none : (s : List ℕ) (r : Option Profile) → r ≡ profile_read (access_read s) → r ≡ None → (access_read s).ok ≡ false
+read_none s r read is = pick_none (access_read s).ok (access_read s).profile (sym read ∙ is)
 
 -- a profile that was read breaks no rule
 pub access_good : (s : List ℕ) → (access_read s).ok ≡ true → profile_good (access_read s).profile ≡ true

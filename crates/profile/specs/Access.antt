@@ -1,5 +1,5 @@
 -- The access record: lent octets at fixed offsets (docs/RECORDS.md), read into a profile.
-use Rattle.std.specs.Prelude.{ℕ, ◌+◌, ◌*◌, ◌≡◌, true, false, List, [], ◌∷◌, length, get_or, replicate, eqb}
+use Rattle.std.specs.Prelude.{ℕ, ◌+◌, ◌*◌, ◌≡◌, Bool, true, false, Option, Some, None, List, [], ◌∷◌, length, get_or, replicate, eqb}
 use Rattle.std.proofs.Math.Seq.{slice}
 use Rattle.laws.specs.Pick.{pick}
 use Rattle.laws.specs.Tests.{all}
@@ -9,7 +9,6 @@ use Rattle.numbers.specs.declared.number.Number.{Number}
 use Rattle.profile.specs.Profile.{numbers_most, services_most, prefixes_most, profile_good}
 use Rattle.profile.specs.declared.profile.Prefix.{Prefix}
 use Rattle.profile.specs.declared.profile.Profile.{Profile}
-use Rattle.profile.specs.declared.access.AccessRead.{AccessRead}
 
 -- where each field stands, and the record's size
 abbrev pub numbers_at : ℕ
@@ -89,6 +88,11 @@ no_profile = record {
   prefixes = replicate prefixes_most (record { count = 0; digits = replicate most 0 });
 }
 
+-- what an access record says: the profile, or `ok` is false where it breaks a rule
+pub record AccessRead : Type 0 where
+  pub ok : Bool
+  pub profile : Profile
+
 abbrev pub no_access : AccessRead
 no_access = record { ok = false; profile = no_profile }
 
@@ -99,6 +103,10 @@ access_read s =
     (record { ok = true; profile = profile_from s })
     no_access
 
+-- the profile that was read, where there is one
+abbrev pub profile_read : AccessRead → Option Profile
+profile_read a = pick a.ok (Some a.profile) None
+
 -- what `read_access` promises
-abbrev pub ReadAccess : List ℕ → AccessRead → Type 0
-ReadAccess s r = r ≡ access_read s
+abbrev pub ReadAccess : List ℕ → Option Profile → Type 0
+ReadAccess s r = r ≡ profile_read (access_read s)

@@ -2,7 +2,7 @@
 ghost use Rattle.std.specs.Prelude.{◌≡◌, ◌+◌, ◌≤◌, length};
 ghost use Rattle.std.proofs.Math.Seq.{slice};
 ghost use Rattle.numbers.specs.Number.{most};
-ghost use Rattle.profile.specs.Access.{number_size, prefix_size, access_size, no_access, number_from, prefix_from, prefixes_from, profile_from, ReadAccess};
+ghost use Rattle.profile.specs.Access.{number_size, prefix_size, access_size, number_from, prefix_from, prefixes_from, profile_from, ReadAccess};
 
 use crate::profile::{NUMBERS, PREFIXES, Prefix, Profile, SERVICES, profile_good};
 use numbers::{MOST, Number};
@@ -24,47 +24,6 @@ const PREFIXESAT: usize = 111;
 const PREFIXSIZE: usize = 21;
 
 const ACCESSSIZE: usize = 447;
-
-// A profile that breaks no rule; or `ok` is false, refusal 3.
-#[derive(Clone, Copy)]
-pub struct AccessRead {
-    pub ok: bool,
-    pub profile: Profile,
-}
-
-fn no_access() -> AccessRead
-    ensures { result ≡ no_access }
-{
-    let none = Number {
-        form: 0,
-        kind: 0,
-        count: 0,
-        digits: [0; MOST],
-    };
-    let prefix = Prefix {
-        count: 0,
-        digits: [0; MOST],
-    };
-    AccessRead {
-        ok: false,
-        profile: Profile {
-            numbercount: 0,
-            numbers: [none; NUMBERS],
-            servicecount: 0,
-            services: [0; SERVICES],
-            subscribed: [0; 3],
-            msn: 0,
-            all: 0,
-            inuse: 0,
-            counted: 0,
-            option: 0,
-            release: 0,
-            limit: 0,
-            prefixcount: 0,
-            prefixes: [prefix; PREFIXES],
-        },
-    }
-}
 
 // The twenty places for digits that begin at `at`.
 fn digits_from(s: &[u8], at: usize) -> [u8; MOST]
@@ -153,16 +112,17 @@ fn profile_from(s: &[u8]) -> Profile
     }
 }
 
-// The profile of an access record; or `ok` is false where the record breaks a rule.
-pub fn read_access(access: &[u8]) -> AccessRead
+// The profile of an access record; None where the record breaks a rule, refusal 3.
+#[tactic(auto, unfolding(crate::specs::Access::access_read))]
+pub fn read_access(access: &[u8]) -> Option<Profile>
     ensures { ReadAccess access.now result }
 {
     if access.len() != ACCESSSIZE {
-        return no_access();
+        return None;
     }
     let profile = profile_from(access);
     if !profile_good(profile) {
-        return no_access();
+        return None;
     }
-    AccessRead { ok: true, profile }
+    Some(profile)
 }

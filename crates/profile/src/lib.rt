@@ -4,5 +4,5 @@
 mod access;
 mod profile;
 
-pub use access::{AccessRead, NUMBERSAT, NUMBERSIZE, read_access};
+pub use access::{NUMBERSAT, NUMBERSIZE, read_access};
 pub use profile::{NUMBERS, PREFIXES, Prefix, Profile, SERVICES, number_place, same, service_slot};
