@@ -8,13 +8,13 @@ use lib.IntN.{ℤ}
 use lib.Signed.{mag}
 use lib.ListN.{length}
 use borrow.Author.Tests.{lt-ltb, le-ltb}
+use Rattle.std.specs.Prelude.{Result, Ok, Err}
 use Rattle.laws.specs.Over.{Puts}
 use Rattle.laws.proofs.Over.{wrote_none, puts_all}
 use Rattle.refusals.specs.Refusal.{output_least}
-use Rattle.refusals.specs.Handling.{Made, not_made, made, not_written, all_written}
+use Rattle.refusals.specs.Handling.{Made, not_made, made}
 use Rattle.refusals.specs.declared.refusal.Refusal.{Refusal}
 use Rattle.refusals.specs.declared.refusal.Refusal.TheVariants.{ShortOutput, BadTable, BadRequest}
-use Rattle.refusals.specs.declared.handling.Written.{Written}
 use Rattle.requests.specs.Sent.{sendable, request_octets}
 use Rattle.requests.specs.Sending.{PutRequest}
 use Rattle.requests.specs.declared.request.Request.{Request}
@@ -55,16 +55,13 @@ module _ (identifier : ℤ) (list : Entries) (size : ℕ) where
     list_few few = rw (le-ltb size output_least enough, le-ltb instances_most list.count few)
 
 -- what is refused writes nothing
-pub refused_made :
-    (m : Made) (xs : List ℕ) (refusal : Refusal) (w : Written) → m ≡ not_made refusal → w ≡ not_written refusal →
-    MadeIn m xs w xs
-refused_made m xs refusal w is e = record { told = rw (is, e); lent = rw (is, e) (puts_all (omega arith) wrote_none) }
+pub refused_made : (m : Made) (xs : List ℕ) (refusal : Refusal) → m ≡ not_made refusal → MadeIn m xs (Err refusal) xs
+refused_made m xs refusal is = record { told = rw is; lent = rw is (puts_all (omega arith) wrote_none) }
 
 -- what is put there is what is told
 pub written_made :
-    (m : Made) (xs : List ℕ) (w : Written) (ws : List ℕ) (n : ℕ) (ys : List ℕ) → m ≡ made ws → w ≡ all_written n →
-    Puts xs 0 ws n ys → MadeIn m xs w ys
-written_made m xs w ws n ys is e put = record { told = rw (is, e); lent = rw (is, e) put }
+    (m : Made) (xs ws : List ℕ) (n : ℕ) (ys : List ℕ) → m ≡ made ws → Puts xs 0 ws n ys → MadeIn m xs (Ok n) ys
+written_made m xs ws n ys is put = record { told = rw is; lent = rw is put }
 
 -- a request that may be sent is put whole: it has at most 95 octets
 pub request_put :

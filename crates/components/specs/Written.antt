@@ -1,11 +1,11 @@
 -- A request and the list of an interrogation, each a component by itself in lent output (document 01, "Local refusals").
-use Rattle.std.specs.Prelude.{ℕ, ◌≡◌, not, List, [], ◌∷◌, ℤ, length, ltb}
+use Rattle.std.specs.Prelude.{ℕ, ◌≡◌, not, List, [], ◌∷◌, ℤ, length, ltb, Result}
 use Rattle.laws.specs.Tests.{first, test}
 use Rattle.laws.specs.Over.{Puts}
 use Rattle.refusals.specs.Refusal.{output_least}
-use Rattle.refusals.specs.Handling.{handling_told, Made, not_made, made}
+use Rattle.refusals.specs.Handling.{handling_told, written_count, Made, not_made, made}
 use Rattle.refusals.specs.declared.refusal.Refusal.TheVariants.{ShortOutput, BadTable, BadRequest}
-use Rattle.refusals.specs.declared.handling.Written.{Written}
+use Rattle.refusals.specs.declared.refusal.Refusal.{Refusal}
 use Rattle.requests.specs.Sent.{sendable, request_octets}
 use Rattle.requests.specs.declared.request.Request.{Request}
 use Rattle.lists.specs.Entries.{instances_most, entries_in}
@@ -33,14 +33,14 @@ wrote_list identifier list size =
     (made (list_octets identifier (entries_in list)))
 
 -- what is told, how many octets were written, and every octet of the output; all of them or none, where there is no room
-pub record MadeIn (m : Made) (xs : List ℕ) (r : Written) (ys : List ℕ) : Type 0 where
-  pub told : handling_told r.outcome ≡ m.told
-  pub lent : Puts xs 0 m.octets r.count ys
+pub record MadeIn (m : Made) (xs : List ℕ) (r : Result ℕ Refusal) (ys : List ℕ) : Type 0 where
+  pub told : handling_told r ≡ m.told
+  pub lent : Puts xs 0 m.octets (written_count r) ys
 
 -- what `write_request` promises
-abbrev pub WritesRequest : ℤ → ℕ → Request → List ℕ → Written → List ℕ → Type 0
+abbrev pub WritesRequest : ℤ → ℕ → Request → List ℕ → Result ℕ Refusal → List ℕ → Type 0
 WritesRequest identifier operation r xs w ys = MadeIn (wrote_request identifier operation r (length xs)) xs w ys
 
 -- what `write_list` promises
-abbrev pub WritesList : ℤ → Entries → List ℕ → Written → List ℕ → Type 0
+abbrev pub WritesList : ℤ → Entries → List ℕ → Result ℕ Refusal → List ℕ → Type 0
 WritesList identifier list xs w ys = MadeIn (wrote_list identifier list (length xs)) xs w ys
