@@ -18,7 +18,6 @@ use Rattle.codes.specs.Codes.{interrogation}
 use Rattle.profile.specs.Access.{access_read}
 use Rattle.profile.specs.Profile.{profile_good}
 use Rattle.profile.specs.declared.profile.Profile.{Profile}
-use Rattle.profile.specs.declared.access.AccessRead.{AccessRead}
 use Rattle.profile.proofs.Profiles.{good_profile}
 use Rattle.profile.proofs.Records.{access_good}
 use Rattle.requests.specs.declared.request.Request.{Request}
@@ -149,46 +148,43 @@ answered_arrives access t s xs x n ys is fits room put =
       lent = rw is w.holds;
     }
 
+-- a profile that was read breaks no rule
+pub read_good :
+    (access : List ℕ) (p : Profile) → ((access_read access).ok ≡ true) × ((access_read access).profile ≡ p) → profile_good p ≡ true
+read_good access p read = rw read.1 at (access_good access read.0)
+
 -- a request that only renews the instances of a good run
 pub renews_applied :
-    (access : List ℕ) (read : AccessRead) → read ≡ access_read access → read.ok ≡ true →
-    (run : Run) → run_good instances_most read.profile run ≡ true →
-    (operation : ℕ) (r : Request) (v : Verdict) → JudgeRequest read.profile operation r run v →
+    (p : Profile) → profile_good p ≡ true → (run : Run) → run_good instances_most p run ≡ true →
+    (operation : ℕ) (r : Request) (v : Verdict) → JudgeRequest p operation r run v →
     (renews : Bool) → v ≡ Passes renews → renews ≡ true →
-    (next : Run) → RenewRequest read.profile r run next → next ≡ applied read.profile operation r run
-renews_applied access read reads ok run good operation r v judged renews is h next e =
-    let profile : profile_good read.profile ≡ true = rw reads (access_good access (rw reads at ok)) in
-    renew_applied read.profile operation r run next (selection_of read.profile r) refl
-    (good_profile read.profile profile) instances_most (run_good_lem read.profile instances_most run good)
-    (sym (passes_none _ _ v judged renews is).1 ∙ h) e
+    (next : Run) → RenewRequest p r run next → next ≡ applied p operation r run
+renews_applied p profile run good operation r v judged renews is h next e =
+    renew_applied p operation r run next (selection_of p r) refl (good_profile p profile) instances_most
+    (run_good_lem p instances_most run good) (sym (passes_none _ _ v judged renews is).1 ∙ h) e
 
 -- ---- the four answers, as the code tells them
 
 module _
-    (access : List ℕ) (t : Table) (s xs : List ℕ) (read : AccessRead) (reads : read ≡ access_read access)
-    (room : output_least ≤ length xs) (fair : length s ≤ component_most) (ok : read.ok ≡ true)
-    (low : t.last ≤ last_most) (good : run_good instances_most read.profile t.run ≡ true)
+    (access : List ℕ) (t : Table) (s xs : List ℕ) (p : Profile)
+    (read : ((access_read access).ok ≡ true) × ((access_read access).profile ≡ p))
+    (room : output_least ≤ length xs) (fair : length s ≤ component_most)
+    (low : t.last ≤ last_most) (good : run_good instances_most p t.run ≡ true)
   where
-    abbrev p : Profile
-    p = read.profile
+    table : table_good instances_most p t ≡ true
+    table = table_run instances_most p t low ∙ good
 
     fits : StepFits (step p t s)
-    fits =
-        let ok : (access_read access).ok ≡ true = rw reads at ok in
-        let table : table_good instances_most (access_read access).profile t ≡ true =
-        rw reads at (table_run instances_most p t low ∙ good) in
-        rw reads (step_fits (access_read access).profile t (access_good access ok) table s)
+    fits = step_fits p t (read_good access p read) table s
 
     step_arrives :
         (x : Step) (n : ℕ) (ys : List ℕ) → step p t s ≡ x → Puts xs 0 (answer_octets x.answer x.entries) n ys →
         Arrives access t s xs (arrived_answered x.next x.answer n) ys
     step_arrives x n ys is put =
-        let ok : (access_read access).ok ≡ true = rw reads at ok in
-        let table : table_good instances_most (access_read access).profile t ≡ true =
-        rw reads at (table_run instances_most p t low ∙ good) in
-        let steps : step (access_read access).profile t s ≡ x = rw reads at is in
+        let table : table_good instances_most (access_read access).profile t ≡ true = rw read.1 table in
+        let steps : step (access_read access).profile t s ≡ x = rw read.1 is in
         answered_arrives access t s xs x n ys
-        (done_answers access t s (length xs) room fair ok table ∙ ap answered steps)
+        (done_answers access t s (length xs) room fair read.0 table ∙ ap answered steps)
         (rw is at fits) room put
 
     module _ (q : QuestionRead) (told : q ≡ question_read (question p t.last s)) (n : ℕ) (ys : List ℕ) where

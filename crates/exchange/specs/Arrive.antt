@@ -1,5 +1,5 @@
 -- "Each arriving component turns a table into the next table and a reply" (document 01, "Replies", "Local refusals").
-use Rattle.std.specs.Prelude.{ℕ, ◌≡◌, not, List, [], ◌∷◌, length, ltb}
+use Rattle.std.specs.Prelude.{ℕ, ◌≡◌, not, List, [], ◌∷◌, length, ltb, Result, Ok, Err}
 use Rattle.laws.specs.Tests.{test, first}
 use Rattle.laws.specs.Over.{over}
 use Rattle.refusals.specs.Refusal.{refusal_no, Told, refuses, tells, output_least, component_most}
@@ -11,14 +11,18 @@ use Rattle.answers.specs.Answer.{answer_octets, Answered, answered_by}
 use Rattle.exchange.specs.Table.{table_good}
 use Rattle.exchange.specs.Step.{Step, step}
 use Rattle.exchange.specs.declared.table.Table.{Table}
-use Rattle.exchange.specs.declared.arrive.Arriving.{Arriving}
-use Rattle.exchange.specs.declared.arrive.Arriving.TheVariants.{Refuses, Answers}
+use Rattle.exchange.specs.declared.arrive.Answered as arrive
 use Rattle.exchange.specs.declared.arrive.Arrived.{Arrived}
 
 -- what is told of an arriving component
-abbrev pub arriving_told : Arriving → Told Answered
-arriving_told (Refuses refusal) = refuses (refusal_no refusal)
-arriving_told (Answers a) = tells (answered_by a)
+abbrev pub arriving_told : Result arrive.Answered Refusal → Told Answered
+arriving_told (Err refusal) = refuses (refusal_no refusal)
+arriving_told (Ok a) = tells (answered_by a.answer)
+
+-- how many octets the reply has; a refusal writes none
+abbrev pub arriving_count : Result arrive.Answered Refusal → ℕ
+arriving_count (Err _) = 0
+arriving_count (Ok a) = a.count
 
 -- what the exchange does with an arriving component
 pub record Done : Type 0 where
@@ -54,5 +58,5 @@ done access t s size =
 pub record Arrives (access : List ℕ) (t : Table) (s xs : List ℕ) (r : Arrived) (ys : List ℕ) : Type 0 where
   pub table : r.table ≡ (done access t s (length xs)).table
   pub told : arriving_told r.outcome ≡ (done access t s (length xs)).told
-  pub count : r.count ≡ length (done access t s (length xs)).octets
+  pub count : arriving_count r.outcome ≡ length (done access t s (length xs)).octets
   pub lent : ys ≡ over xs 0 (done access t s (length xs)).octets

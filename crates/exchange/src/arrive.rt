@@ -14,19 +14,18 @@ use profile::{Profile, read_access};
 use refusals::{COMPONENTMOST, OUTPUTLEAST, Refusal};
 use rules::{Verdict, apply_request, judge_request, renew_request, selection_of};
 
-// What comes of an arriving component: it is not looked at, or it is answered.
+// What an arriving component is answered, and how many octets the reply has.
 #[derive(Clone, Copy)]
-pub enum Arriving {
-    Refuses { refusal: Refusal },
-    Answers { answer: Answer },
+pub struct Answered {
+    pub answer: Answer,
+    pub count: usize,
 }
 
-// The next table, the answer or the refusal, and how many octets the reply has.
+// The next table, and the answer, or why the component is not looked at.
 #[derive(Clone, Copy)]
 pub struct Arrived {
     pub table: Table,
-    pub outcome: Arriving,
-    pub count: usize,
+    pub outcome: Result<Answered, Refusal>,
 }
 
 fn refuses(last: u16, run: Run, refusal: Refusal) -> Arrived
@@ -35,8 +34,7 @@ fn refuses(last: u16, run: Run, refusal: Refusal) -> Arrived
     let table = Table { last, run };
     Arrived {
         table,
-        outcome: Arriving::Refuses { refusal },
-        count: 0,
+        outcome: Err(refusal),
     }
 }
 
@@ -45,8 +43,7 @@ fn answers(last: u16, run: Run, answer: Answer, count: usize) -> Arrived
 {
     Arrived {
         table: Table { last, run },
-        outcome: Arriving::Answers { answer },
-        count,
+        outcome: Ok(Answered { answer, count }),
     }
 }
 
@@ -69,17 +66,15 @@ impl Table {
     pub fn arrive(self, access: &[u8], component: &[u8], out: &mut [u8]) -> Arrived
         ensures { Arrives access.now self component.now out.old result out.new }
     {
-        let read = read_access(access);
-        let p = read.profile;
         if out.len() < OUTPUTLEAST {
             return refuses(self.last, self.run, Refusal::ShortOutput);
         }
         if COMPONENTMOST < component.len() {
             return refuses(self.last, self.run, Refusal::LongComponent);
         }
-        if !read.ok {
+        let Some(p) = read_access(access) else {
             return refuses(self.last, self.run, Refusal::BadProfile);
-        }
+        };
         if LASTMOST < self.last {
             return refuses(self.last, self.run, Refusal::BadTable);
         }

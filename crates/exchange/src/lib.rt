@@ -5,5 +5,5 @@ mod arrive;
 mod question;
 mod table;
 
-pub use arrive::{Arrived, Arriving};
+pub use arrive::{Answered, Arrived};
 pub use table::{Table, fresh_table};

@@ -1,12 +1,12 @@
-use Rattle.exchange.proofs.Arrivals.{done_short, done_long, done_profile, done_table, refused_arrives}
+use Rattle.exchange.proofs.Arrivals.{done_short, done_long, done_profile, done_table, refused_arrives, read_good}
 use Rattle.exchange.proofs.Arrivals.{says_arrives, fails_arrives, lists_arrives, changes_arrives, renews_applied}
 use Rattle.exchange.proofs.Tables.{table_over, table_run}
 use Rattle.refusals.specs.declared.refusal.Refusal.TheVariants.{ShortOutput, LongComponent, BadProfile, BadTable}
 use Rattle.lists.specs.Entries.{instances_most}
 use Rattle.rules.specs.Judge.{applied}
-use Rattle.profile.specs.declared.access.AccessRead.{AccessRead}
+use Rattle.profile.proofs.Records.{read_some, read_none}
 use lib.ListN.{length}
-use mathlib.Core.Path.{◌≡◌, sym, ap, ◌∙◌}
+use mathlib.Core.Path.{◌≡◌, sym, ◌∙◌}
 use mir.Facts.{to_z-of_z}
 use mir.Syntax.{w16}
 use mir.Val.{SFits}
@@ -31,14 +31,14 @@ returns-then-component-gt-COMPONENTMOST c =
     (omega (arith, c.if-component-gt-COMPONENTMOST.true)))
     c.refuses-then-component-gt-COMPONENTMOST.ensures
 
-pub returns-then-not-read : goal.returns-then-not-read
-returns-then-not-read c =
+pub returns-in_default : goal.returns-in_default
+returns-in_default c =
     let a = c.args in
     refused_arrives a.access.now a.self a.component.now a.out.now BadProfile _
     (done_profile a.access.now a.self a.component.now (length a.out.now)
     (omega (arith, c.if-out-lt-OUTPUTLEAST.false)) (omega (arith, c.if-component-gt-COMPONENTMOST.false))
-    (ap (λ (r : AccessRead). r.ok) (sym c.read_access-read.ensures) ∙ not-true _ c.if-not-read.true))
-    c.refuses-then-not-read.ensures
+    (read_none a.access.now _ c.read_access.ensures c.in_default.is))
+    c.refuses-in_default.ensures
 
 pub returns-then-self-gt-LASTMOST : goal.returns-then-self-gt-LASTMOST
 returns-then-self-gt-LASTMOST c =
@@ -47,19 +47,20 @@ returns-then-self-gt-LASTMOST c =
     (done_table a.access.now a.self a.component.now (length a.out.now)
     (omega (arith, c.if-out-lt-OUTPUTLEAST.false))
     (omega (arith, c.if-component-gt-COMPONENTMOST.false))
-    (ap (λ (r : AccessRead). r.ok) (sym c.read_access-read.ensures) ∙ not-false _ c.if-not-read.false)
+    (read_some a.access.now _ _ c.read_access.ensures c.in-Some.is).0
     (table_over instances_most _ a.self c.if-self-gt-LASTMOST.true))
     c.refuses-then-self-gt-LASTMOST.ensures
 
 pub returns-then-not-good : goal.returns-then-not-good
 returns-then-not-good c =
     let a = c.args in
+    let read = read_some a.access.now _ _ c.read_access.ensures c.in-Some.is in
     refused_arrives a.access.now a.self a.component.now a.out.now BadTable _
     (done_table a.access.now a.self a.component.now (length a.out.now)
     (omega (arith, c.if-out-lt-OUTPUTLEAST.false))
     (omega (arith, c.if-component-gt-COMPONENTMOST.false))
-    (ap (λ (r : AccessRead). r.ok) (sym c.read_access-read.ensures) ∙ not-false _ c.if-not-read.false)
-    (rw c.read_access-read.ensures at
+    read.0
+    (rw read.1
     (table_run instances_most _ a.self c.if-self-gt-LASTMOST.false ∙ sym c.good.ensures
     ∙ c.if-not-good.true)))
     c.refuses-then-not-good.ensures
@@ -68,10 +69,10 @@ pub returns-then-not-q : goal.returns-then-not-q
 returns-then-not-q c =
     let a = c.args in
     rw c.answers.ensures
-    (says_arrives a.access.now a.self a.component.now a.out.now c.read_access-read.result c.read_access-read.ensures
+    (says_arrives a.access.now a.self a.component.now a.out.now c.in-Some.p
+    (read_some a.access.now _ _ c.read_access.ensures c.in-Some.is)
     (omega (arith, c.if-out-lt-OUTPUTLEAST.false))
     (omega (arith, c.if-component-gt-COMPONENTMOST.false))
-    (not-false _ c.if-not-read.false)
     c.if-self-gt-LASTMOST.false (sym c.good.ensures ∙ c.if-not-good.false)
     c.question_of-q.result c.question_of-q.ensures _ _
     (not-true _ c.if-not-q.true) c.put_answer-count.ensures)
@@ -81,10 +82,10 @@ returns-in-Fails c =
     let a = c.args in
     let id : SFits w16 c.question_of-q.result.identifier = search (rules, c.question_of-q.type_inv) in
     rw (c.answers-in-Fails.ensures, to_z-of_z id)
-    (fails_arrives a.access.now a.self a.component.now a.out.now c.read_access-read.result c.read_access-read.ensures
+    (fails_arrives a.access.now a.self a.component.now a.out.now c.in-Some.p
+    (read_some a.access.now _ _ c.read_access.ensures c.in-Some.is)
     (omega (arith, c.if-out-lt-OUTPUTLEAST.false))
     (omega (arith, c.if-component-gt-COMPONENTMOST.false))
-    (not-false _ c.if-not-read.false)
     c.if-self-gt-LASTMOST.false (sym c.good.ensures ∙ c.if-not-good.false)
     c.question_of-q.result c.question_of-q.ensures _ _
     (not-false _ c.if-not-q.false) _
@@ -98,10 +99,10 @@ returns-then-operation-eq-INTERROGATION c =
     let a = c.args in
     let id : SFits w16 c.question_of-q.result.identifier = search (rules, c.question_of-q.type_inv) in
     rw (c.answers-then-operation-eq-INTERROGATION.ensures, to_z-of_z id)
-    (lists_arrives a.access.now a.self a.component.now a.out.now c.read_access-read.result c.read_access-read.ensures
+    (lists_arrives a.access.now a.self a.component.now a.out.now c.in-Some.p
+    (read_some a.access.now _ _ c.read_access.ensures c.in-Some.is)
     (omega (arith, c.if-out-lt-OUTPUTLEAST.false))
     (omega (arith, c.if-component-gt-COMPONENTMOST.false))
-    (not-false _ c.if-not-read.false)
     c.if-self-gt-LASTMOST.false (sym c.good.ensures ∙ c.if-not-good.false)
     c.question_of-q.result c.question_of-q.ensures _ _
     (not-false _ c.if-not-q.false) _ (rw (to_z-of_z id) at c.last_after-last.ensures)
@@ -116,20 +117,18 @@ returns-in-Passes c =
     let a = c.args in
     let id : SFits w16 c.question_of-q.result.identifier = search (rules, c.question_of-q.type_inv) in
     let good = sym c.good.ensures ∙ c.if-not-good.false in
-    let applies : c.if-renews.next ≡ applied c.read_access-read.result.profile
-    c.question_of-q.result.operation c.question_of-q.result.request a.self.run =
+    let read = read_some a.access.now _ _ c.read_access.ensures c.in-Some.is in
+    let applies : c.if-renews.next ≡ applied c.in-Some.p c.question_of-q.result.operation c.question_of-q.result.request a.self.run =
     elim c.if-renews.branch [
-      | then-renews v ↦ v.next-is ∙ renews_applied a.access.now c.read_access-read.result c.read_access-read.ensures
-          (not-false _ c.if-not-read.false) a.self.run good _ _ _
-          c.judge_request.ensures _
+      | then-renews v ↦ v.next-is ∙ renews_applied c.in-Some.p
+          (read_good a.access.now c.in-Some.p read) a.self.run good _ _ _ c.judge_request.ensures _
           c.in-Passes.is v.if-renews.true _ v.renew_request-next.ensures
       | else-renews v ↦ v.next-is ∙ v.apply_request-next.ensures
     ] in
     rw (c.answers-in-Passes.ensures, to_z-of_z id)
-    (changes_arrives a.access.now a.self a.component.now a.out.now c.read_access-read.result c.read_access-read.ensures
+    (changes_arrives a.access.now a.self a.component.now a.out.now c.in-Some.p read
     (omega (arith, c.if-out-lt-OUTPUTLEAST.false))
     (omega (arith, c.if-component-gt-COMPONENTMOST.false))
-    (not-false _ c.if-not-read.false)
     c.if-self-gt-LASTMOST.false good
     c.question_of-q.result c.question_of-q.ensures _ _
     (not-false _ c.if-not-q.false) _ (rw (to_z-of_z id) at c.last_after-last.ensures)
