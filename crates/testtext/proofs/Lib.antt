@@ -1,4 +1,4 @@
 pub mod Hexes
 pub mod Lines
 pub mod Octets
-pub mod Signs
+pub mod Outsides

@@ -3,24 +3,18 @@ ghost use Rattle.std.specs.Prelude.{◌≡◌};
 ghost use Rattle.testtext.specs.Hex.{hex_digit, OctetOf, HexCharacter};
 
 // What a hexadecimal digit stands for; 0 for any other character.
+#[tactic(auto, unfolding(crate::specs::Hex::hex_digit), using(laws::proofs::Cases::cases))]
 pub(crate) fn hex_digit(c: u8) -> u8
     ensures { result ≡ hex_digit c }
 {
-    if c < b'0' {
-        return 0;
+    match c {
+        b'0'..=b'9' => c - b'0',
+        b'A'..=b'F' => c - b'A' + 10,
+        _ => 0,
     }
-    if c <= b'9' {
-        return c - b'0';
-    }
-    if c < b'A' {
-        return 0;
-    }
-    if c <= b'F' {
-        return c - b'A' + 10;
-    }
-    0
 }
 
+#[tactic(auto, using(crate::proofs::Hexes::hex_small))]
 pub fn octet_of(high: u8, low: u8) -> u8
     ensures { OctetOf high low result }
 {
@@ -28,6 +22,7 @@ pub fn octet_of(high: u8, low: u8) -> u8
 }
 
 // The digit for `n % 16`.
+#[tactic(auto, unfolding(crate::specs::Hex::hex_character), using(laws::proofs::Cases::cases))]
 pub fn hex_character(n: u8) -> u8
     ensures { HexCharacter n result }
 {

@@ -8,35 +8,31 @@ use crate::hex::hex_digit;
 pub fn find(s: &[u8], at: usize, wanted: u8) -> usize
     ensures { Find s.now at wanted result }
 {
-    let mut i = at;
-    while i < s.len() {
-        if s[i] == wanted {
-            return i;
+    match s.get(at..) {
+        Some(rest) => {
+            at + rest
+                .iter()
+                .position(|octet| *octet == wanted)
+                .unwrap_or(rest.len())
         }
-        i += 1;
+        None => at,
     }
-    i
 }
 
 // The number of a word that had the number `n` before the character `c`.
+#[tactic(auto, unfolding(crate::specs::Line::next_number), using(laws::proofs::Cases::cases))]
 fn next_number(n: u32, c: u8) -> u32
     ensures { result ≡ next_number n c }
 {
     if c == b' ' {
         return 0;
     }
-    (((n as u64) * 10 + (hex_digit(c) as u64)) % 4294967296) as u32
+    n.wrapping_mul(10).wrapping_add(u32::from(hex_digit(c)))
 }
 
 // The number of the last word without its sign, if it is below 2 to the 32nd.
 pub fn last_number(s: &[u8]) -> u32
     ensures { LastNumber s.now result }
 {
-    let mut n: u32 = 0;
-    let mut i = 0;
-    while i < s.len() {
-        n = next_number(n, s[i]);
-        i += 1;
-    }
-    n
+    s.iter().fold(0, |n, c| next_number(n, *c))
 }

@@ -7,18 +7,12 @@ use crate::hex::octet_of;
 pub fn octets_from(s: &[u8], at: usize, out: &mut [u8]) -> usize
     ensures { OctetsFrom s.now at out.old result out.new }
 {
-    let mut n = 0;
-    let mut i = at;
-    while n < out.len() {
-        if s.len() <= i {
-            return n;
-        }
-        if s.len() - i < 3 {
-            return n;
-        }
+    let words = s.len().saturating_sub(at) / 3;
+    let count = words.min(out.len());
+    // By an index: a proof knows nothing of what `out` holds after its `iter_mut` with `chunks_exact`.
+    for n in 0..count {
+        let i = at + 3 * n;
         out[n] = octet_of(s[i + 1], s[i + 2]);
-        n += 1;
-        i += 3;
     }
-    n
+    count
 }

@@ -1,31 +1,26 @@
-use mathlib.Core.Path.{refl, sym, ◌∙◌}
+use Rattle.std.proofs.Common.{rules, nat_eq, length, ◌≤◌}
 use native.Mathlib.Omega.{arith}
-use borrow.Author.Tests.{eq-eqb, ne_eqb}
-use Rattle.testtext.proofs.Lines.{found_here, found_next, found_end}
+use borrow.Author.Tests.{tests}
+use lib.ListN.{drop_of_length-le}
+use Rattle.std.proofs.lemmas.Grind.{common_steps}
+use Rattle.std.proofs.lemmas.Iterator.{YieldsList-from_slice}
+use Rattle.std.proofs.lemmas.Iterator.Search.{position_from_yields_List}
+use Rattle.testtext.proofs.Lines.{found_there, found_rest}
 use Rattle.testtext.proofs.line.find.Goals as goal
 
-pub loop-i-init : goal.loop-i-init
-loop-i-init c = (omega arith, omega arith, refl)
-
-pub returns-then-s-i : goal.returns-then-s-i
-returns-then-s-i c =
-    let s = c.args.s.now in
-    record { is = sym (c.loop-i.invariant.2 ∙ found_here s _ c.loop-i.i c.loop-i-test.true (eq-eqb _ _ c.if-s-i.true)); from = c.loop-i.invariant.0; within = c.loop-i.invariant.1 }
-
-pub loop-i-preserved : goal.loop-i-preserved
-loop-i-preserved c =
-    let s = c.args.s.now in (
-      omega arith,
-      omega arith,
-      c.loop-i.invariant.2
-          ∙ found_next s _ c.loop-i.i c.loop-i-test.true (ne_eqb _ _ c.if-s-i.false),
-    )
-
-pub returns : goal.returns
-returns c =
-    let s = c.args.s.now in
+pub returns-in-Some : goal.returns-in-Some
+returns-in-Some c =
+    let placed =
+    position_from_yields_List (λ x. nat_eq x c.args.wanted) _ _ c.position.result c.position.ensures.ran
+    (YieldsList-from_slice _ c.iter.ensures.rest) (λ x b q k. search (rules, tests))
+    in
     record {
-      is = sym (c.loop-i.invariant.2 ∙ found_end s _ c.loop-i.i c.loop-i-test.false);
-      from = c.loop-i.invariant.0;
-      within = c.loop-i.invariant.1;
+      is = rw (c.unwrap_or.ensures, placed) (found_rest _ _ _ _ c.in-Some.ensures.lookup.0.2);
+      from = omega arith;
+      within = grind (arith, common_steps);
     }
+
+pub returns-in-None : goal.returns-in-None
+returns-in-None c =
+    let past : length c.args.s.now ≤ c.args.at = omega (arith, c.in-None.ensures.lookup.0) in
+    record { is = rw (found_there, drop_of_length-le _ past) (omega arith); from = omega arith; within = omega arith }
