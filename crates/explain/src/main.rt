@@ -4,10 +4,8 @@
 mod hex;
 mod input;
 
-ghost use Rattle.std.specs.Prelude.{◌≤◌, length};
-
 use explanations::explain;
-use hex::{Hex, octets_in};
+use hex::octets_in;
 use input::read_full;
 use refusals::{Handling, Refusal, refusal_no};
 use std::io;
@@ -34,30 +32,11 @@ fn say(rt: &impl Print, text: &[u8]) -> io::Result<()> {
     rt.write_all(text)
 }
 
-// The end of the line that begins at `at`.
-fn line_end(s: &[u8], at: usize) -> usize
-    requires { at ≤ length s.now }
-    ensures { (at ≤ result) × (result ≤ length s.now) }
-{
-    let mut i = at;
-    while i < s.len() {
-        if s[i] == b'\n' {
-            return i;
-        }
-        i += 1;
-    }
-    i
-}
-
 // The first line is there even where the input is empty: the component without octets.
 fn each_line(rt: &impl Print, s: &[u8]) -> io::Result<()> {
-    let first = line_end(s, 0);
-    each(rt, &s[..first])?;
-    let mut at = first + 1;
-    while at < s.len() {
-        let end = line_end(s, at);
-        each(rt, &s[at..end])?;
-        at = end + 1;
+    let lines = s.strip_suffix(b"\n").unwrap_or(s);
+    for line in lines.split(|c| *c == b'\n') {
+        each(rt, line)?;
     }
     Ok(())
 }
@@ -65,8 +44,8 @@ fn each_line(rt: &impl Print, s: &[u8]) -> io::Result<()> {
 fn each(rt: &impl Print, line: &[u8]) -> io::Result<()> {
     let mut component = [0u8; COMPONENT];
     match octets_in(line, &mut component) {
-        Hex::Octets { count } => told(rt, &component[..count]),
-        Hex::Bad => say(rt, b"not octets in hexadecimal\n"),
+        Some(count) => told(rt, &component[..count]),
+        None => say(rt, b"not octets in hexadecimal\n"),
     }
 }
 
