@@ -1,16 +1,21 @@
 -- Laws of digits and of the types of a number, over plain values. Assumes nothing.
-use Prim.Native.Nat.{ℕ, zero, suc, ◌+◌, ◌≤◌, ◌<◌}
+use Prim.Native.Nat.{ℕ, zero, suc, ◌+◌, ◌*◌, ◌≤◌, ◌<◌}
 use mathlib.Core.Path.{◌≡◌, refl, ◌∙◌}
-use mathlib.Core.Bool.{Bool, true, false}
-use mathlib.Core.List.{List, [], ◌∷◌}
+use mathlib.Core.Bool.{Bool, true, false, ◌&&◌}
+use mathlib.Core.List.{List, [], ◌∷◌, ◌++◌}
+use native.Mathlib.Nat.{zero-mul, suc-mul, add_comm}
 use native.Mathlib.Numerals.{add-one}
 use native.Mathlib.Omega.{arith}
-use lib.ListN.{length, drop, get_or, replicate}
+use lib.ListN.{length, take, drop, get_or, replicate}
 use lib.Seq.{drop-cons, drop-length}
 use lib.Dec.{ltb, leb}
 use borrow.Author.Tests.{le-leb, lt-leb, ltb-true, ltb-false, leb-true}
 use Rattle.laws.specs.Pick.{pick}
-use Rattle.laws.proofs.Picks.{pick_ind, pick_then}
+use Rattle.std.specs.Char.{is_ascii_digit}
+use Rattle.std.proofs.lemmas.List.{take-append-drop, drop-drop}
+use Rattle.std.specs.List.{list_all}
+use Rattle.std.specs.Simd.{first_chunks}
+use Rattle.laws.proofs.Picks.{pick_ind, pick_then, pick_last}
 use Rattle.codes.specs.Digits.{digit, all_digits, type_good}
 
 -- a character that is refused on either side, or else what is left
@@ -36,6 +41,44 @@ pub digits_step :
     all_digits (drop i s)
     ≡ pick (ltb (get_or s i 0) 48) false (pick (ltb 57 (get_or s i 0)) false (all_digits (drop (i + 1) s)))
 digits_step s i h = digits_next s i h ∙ digit_step (get_or s i 0) (all_digits (drop (i + 1) s))
+
+-- a test, then a second and a third
+pick_both : (a b c : Bool) → pick a (pick b c false) false ≡ pick (pick a b false) c false
+pick_both true b c = refl
+pick_both false b c = refl
+
+-- std's `&&` and its test of a character
+and_pick : (a b : Bool) → (a && b) ≡ pick a b false
+and_pick true b = refl
+and_pick false b = refl
+
+digit_is : (c : ℕ) → is_ascii_digit c ≡ digit c
+digit_is c = rw (and_pick (leb 48 c) (leb c 57), pick_last (leb c 57))
+
+-- std's test of all the characters
+pub digits_tested : (s : List ℕ) → list_all is_ascii_digit s ≡ all_digits s
+unfolding all_digits
+digits_tested [] = refl
+digits_tested (c ∷ cs) = rw (digits_tested cs, and_pick (is_ascii_digit c) (all_digits cs), digit_is c)
+
+-- those of one list and those of another
+digits_joined : (a b : List ℕ) → all_digits (a ++ b) ≡ pick (all_digits a) (all_digits b) false
+unfolding all_digits
+digits_joined [] b = refl
+digits_joined (c ∷ a) b = rw (digits_joined a b) (pick_both (digit c) (all_digits a) (all_digits b))
+
+-- tested so many at a time, and then those that are left
+pub digits_chunked :
+    (n k : ℕ) (s : List ℕ) →
+    all_digits s ≡ pick (list_all all_digits (first_chunks n k s)) (all_digits (drop (k * n) s)) false
+digits_chunked n zero s = rw zero-mul
+digits_chunked n (suc k) s =
+    let front : Bool = all_digits (take n s) in
+    let cut = digits_joined (take n s) (drop n s) in
+    let left : drop (k * n) (drop n s) ≡ drop (suc k * n) s = drop-drop (k * n) n s ∙ rw (suc-mul, add_comm n (k * n)) in
+    rw take-append-drop at cut
+    ∙ rw (digits_chunked n k (drop n s), left, and_pick front (list_all all_digits (first_chunks n k (drop n s))))
+    (pick_both front _ _)
 
 -- nothing is left
 pub digits_end : (s : List ℕ) → all_digits (drop (length s) s) ≡ true

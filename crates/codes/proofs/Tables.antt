@@ -2,7 +2,7 @@
 -- Assumes nothing.
 use Prim.Native.Nat.{ℕ, zero, suc, ◌+◌, ◌<◌, ◌≤◌}
 use mathlib.Core.Path.{◌≡◌, refl, sym, ap}
-use mathlib.Core.Bool.{true}
+use mathlib.Core.Bool.{true, not, cond}
 use mathlib.Core.List.{List, [], ◌∷◌}
 use mathlib.Core.Logic.{⊎_elim}
 use native.Mathlib.Nat.{eq-or-lt_of_le}
@@ -11,7 +11,12 @@ use native.Mathlib.Omega.{arith}
 use lib.ListN.{length, get_or, drop}
 use lib.Seq.{drop-cons, drop-length}
 use lib.Dec.{ltb, eqb}
-use borrow.Author.Tests.{lt-ltb, ltb-true, eqb-true, eq-eqb, ne_eqb}
+use borrow.Author.Tests.{lt-ltb, ltb-true, ltb-false, eqb-true, eq-eqb, ne_eqb}
+use Rattle.std.specs.List.{position, position_or_len}
+use Rattle.std.specs.Option.{unwrap_or}
+use Rattle.std.specs.Prelude.{Option}
+use Rattle.std.proofs.lemmas.List.Recursion.{is_position_or_len}
+use Rattle.std.proofs.lemmas.List.Sums.{prefix_len-le-length}
 use Rattle.laws.proofs.Tests.{both_hold}
 use Rattle.laws.proofs.Picks.{pick_ind, pick_last}
 use Rattle.codes.specs.Codes.{services, trunk_reasons, place_of, ascends, apart, service_code, procedure_code}
@@ -88,6 +93,24 @@ pub apart_place :
 apart_place l h i k =
     let first = place_first (get_or l i 0) l i k refl in
     apart_same l h (place_of (get_or l i 0) l) i (omega arith) k (place_stands (get_or l i 0) l (omega arith))
+
+-- ---- the search for a code
+
+-- the place of a code is where std's search for it ends
+place_is : (code : ℕ) (l : List ℕ) → place_of code l ≡ position_or_len (λ x. eqb x code) l
+unfolding place_of
+place_is code =
+    is_position_or_len (place_of code) (λ x. eqb x code) refl
+    (λ x xs. pick_ind (λ n. n ≡ cond (eqb x code) 0 (1 + place_of code xs)) (eqb x code) (λ e. rw e) (λ e. rw e (omega arith)))
+
+-- what std's search for a code finds is its place, or else the length
+pub place_found :
+    (code : ℕ) (l : List ℕ) (r : Option ℕ) → r ≡ position (λ x. eqb x code) l → unwrap_or r (length l) ≡ place_of code l
+place_found code l r e =
+    let n : ℕ = position_or_len (λ x. eqb x code) l in
+    rw (e, place_is code l)
+    (pick_ind (λ t. unwrap_or t (length l) ≡ n) (ltb n (length l)) (λ _. refl)
+    (λ e. omega (arith, ltb-false n (length l) e, prefix_len-le-length (λ x. not (eqb x code)) l)))
 
 -- ---- the search for a code, turn by turn
 

@@ -26,33 +26,23 @@ pub const INTERROGATION: u8 = 11;
 pub fn service_place(code: u8) -> usize
     ensures { ServicePlace code result }
 {
-    let mut i: usize = 0;
-    while i < SERVICECOUNT {
-        if CODES[i] == code {
-            return i;
-        }
-        i += 1;
-    }
-    i
+    CODES
+        .iter()
+        .position(|c| *c == code)
+        .unwrap_or(SERVICECOUNT)
 }
 
 // Whether a request may name this service.
+#[tactic(auto, using(laws::proofs::Cases::cases, laws::proofs::Picks::pick_last), unfolding(crate::specs::Codes::service_code))]
 pub fn service_code(code: u8) -> bool
     ensures { ServiceCode code result }
 {
-    if code == 0 {
-        return true;
-    }
-    service_place(code) < SERVICECOUNT
+    code == 0 || service_place(code) < SERVICECOUNT
 }
 
 // The trunk's code for one of our reasons; unknown for any other number.
 pub fn trunkreason(reason: u8) -> u8
     ensures { TrunkReason reason result }
 {
-    let i = reason as usize;
-    if i < REASONCOUNT {
-        return TRUNKREASONS[i];
-    }
-    0
+    TRUNKREASONS.get(usize::from(reason)).copied().unwrap_or(0)
 }

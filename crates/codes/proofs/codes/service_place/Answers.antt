@@ -1,19 +1,11 @@
-use Rattle.codes.proofs.Tables.{place_here, place_next, place_none}
+use Rattle.codes.proofs.Tables.{place_found}
 use Rattle.codes.specs.Codes.{services}
-use native.Mathlib.Omega.{arith}
-use lib.ListN.{length}
-use mathlib.Core.Path.{◌≡◌}
+use Rattle.std.proofs.Common.{rules, tests, eqb, ◌∙◌}
+use Rattle.std.proofs.lemmas.Iterator.{YieldsList-from_slice}
+use Rattle.std.proofs.lemmas.Iterator.Search.{position_from_yields_List}
 use Rattle.codes.proofs.codes.service_place.Goals as goal
-
-pub returns-then-i-code : goal.returns-then-i-code
-returns-then-i-code c =
-    place_here c.args.code services c.loop-i.i (omega arith) c.if-i-code.true c.loop-i.invariant.1
-
-pub loop-i-preserved : goal.loop-i-preserved
-loop-i-preserved c =
-    (omega arith, place_next c.args.code services c.loop-i.i (omega arith) c.if-i-code.false c.loop-i.invariant.1)
 
 pub returns : goal.returns
 returns c =
-    let e : c.loop-i.i ≡ length services = omega arith in
-    rw e (place_none c.args.code services (rw e at c.loop-i.invariant.1))
+    c.unwrap_or.ensures ∙ place_found c.args.code services c.position.result
+    (position_from_yields_List (λ x. eqb x c.args.code) _ _ _ c.position.ensures.ran (YieldsList-from_slice services cc) (λ x b q k. search (rules, tests)))
