@@ -79,9 +79,13 @@ def function_from(source, whole, at):
         return ""
     if heads[-1][1]:  # the prover names a method by the module of its type, which may be another one
         trait, of, owner = [owner.groups("") for owner in OWNER.finditer(whole) if owner.start() < heads[-1].start()][-1]
-        return f"{owner[0].upper()}{owner[1:]}{trait}{of}::{heads[-1][2]}"
+        return f"{capital(owner)}{trait}{capital(of)}::{heads[-1][2]}"
     module = source.removeprefix("src/").removesuffix(".rt").removesuffix("lib").split("/")
     return "::".join(part for part in [*module, heads[-1][2]] if part)
+
+
+def capital(name):
+    return name[:1].upper() + name[1:]
 
 
 CONSTANT = re.compile(r"^(?:pub(?:\(crate\))? )?const (\w+): [^;]*?= ([^;]*);", re.M)
@@ -135,7 +139,7 @@ def read_log(log, crate):
         for fact in re.findall("`([^`]+)`", (OPEN.search(text) or [""])[0].removeprefix("`search`")):
             if site(fact) not in gone[function]:
                 told.failed.setdefault(function, line)
-        if "it calls `" not in text and not any(is_in(function, circle) for circle in circles):
+        if "it calls `" not in text and "it waits for " not in text and not any(is_in(function, circle) for circle in circles):
             told.odd[function] = line
     told.unfit = {function: line for function, line in told.unfit.items() if function not in told.failed}
     told.odd = {function: line for function, line in told.odd.items() if function not in {**told.failed, **told.unfit}}
