@@ -3,7 +3,7 @@ use Prim.Native.Nat.{ℕ, ◌+◌, ◌≤◌, ◌<◌}
 use mathlib.Core.Path.{◌≡◌, sym, ◌∙◌}
 use mathlib.Core.Bool.{Bool, true, not}
 use mathlib.Core.List.{List, [], ◌∷◌}
-use lib.ListN.{length}
+use lib.ListN.{length, get_or}
 use lib.Seq.{slice}
 use lib.Dec.{ltb, leb, eqb}
 use borrow.Author.Tests.{ltb-true, leb-true, eqb-true}
@@ -14,7 +14,9 @@ use Rattle.numbers.specs.Number.{most}
 use Rattle.codes.specs.Digits.{all_digits}
 use Rattle.profile.specs.declared.profile.Profile.{Profile}
 use Rattle.calls.specs.declared.call.Call.{Call}
-use Rattle.calls.specs.Call.{original_at, call_size, call_from, names_good, values_good, original_good, call_good}
+use Rattle.calls.specs.Onward.{event_no}
+use Rattle.calls.specs.declared.event.Event.TheVariants.{NoReply}
+use Rattle.calls.specs.Call.{event_at, original_at, call_size, call_from, names_good, values_good, original_good, call_good}
 
 -- a good record: its size, its number and its digits
 pub record GoodCall (p : Profile) (s : List ℕ) : Type 0 where
@@ -38,8 +40,10 @@ unfolding call_good
 good_call p s h =
     let c : Call = call_from s in
     let original : Bool = original_good s c.count in
-    let size = pick_then (eqb (length s) call_size) (all (names_good p c ∷ values_good c ∷ original ∷ [])) h in
-    let names = pick_then (names_good p c) (all (values_good c ∷ original ∷ [])) size.1 in
+    let is_event : Bool = leb (get_or s event_at 0) (event_no NoReply) in
+    let size = pick_then (eqb (length s) call_size) (all (is_event ∷ names_good p c ∷ values_good c ∷ original ∷ [])) h in
+    let event = pick_then is_event (all (names_good p c ∷ values_good c ∷ original ∷ [])) size.1 in
+    let names = pick_then (names_good p c) (all (values_good c ∷ original ∷ [])) event.1 in
     let values = pick_then (values_good c) (all (original ∷ [])) names.1 in
     record {
       size = eqb-true (length s) call_size size.0;

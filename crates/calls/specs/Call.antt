@@ -6,10 +6,14 @@ use Rattle.codes.specs.Codes.{service_code}
 use Rattle.numbers.specs.Number.{most}
 use Rattle.codes.specs.Digits.{all_digits}
 use Rattle.profile.specs.declared.profile.Profile.{Profile}
-use Rattle.calls.specs.Onward.{no_reply, event_no}
+use Rattle.calls.specs.Onward.{event_no, event_in}
+use Rattle.calls.specs.declared.event.Event.TheVariants as event
 use Rattle.calls.specs.declared.call.Call.{Call}
 
--- where the digits of the original number stand, and the size of the record
+-- where the event and the digits of the original number stand, and the size of the record
+abbrev pub event_at : ℕ
+event_at = 2
+
 abbrev pub original_at : ℕ
 original_at = 8
 
@@ -20,7 +24,7 @@ unfoldable pub call_from : List ℕ → Call
 call_from s = record {
   number = get_or s 0 0;
   service = get_or s 1 0;
-  event = get_or s 2 0;
+  event = event_in (get_or s event_at 0);
   counter = get_or s 3 0;
   option = get_or s 4 0;
   presentation = get_or s 5 0;
@@ -37,8 +41,7 @@ names_good p c =
 unfoldable pub values_good : Call → Bool
 values_good c =
     all
-    (leb c.event (event_no no_reply)
-    ∷ leb c.counter 5
+    (leb c.counter 5
     ∷ leb c.option 2
     ∷ leb c.presentation 1
     ∷ leb c.preference 2
@@ -48,11 +51,12 @@ values_good c =
 unfoldable pub original_good : List ℕ → ℕ → Bool
 original_good s count = all (leb count most ∷ all_digits (slice original_at (original_at + count) s) ∷ [])
 
--- "Refusal 5: a value outside these"; a record of another size too
+-- "an event (offered, busy, no reply)"; "Refusal 5: a value outside these"; a record of another size too
 unfoldable pub call_good : Profile → List ℕ → Bool
 call_good p s =
     all
     (eqb (length s) call_size
+    ∷ leb (get_or s event_at 0) (event_no event.NoReply)
     ∷ names_good p (call_from s)
     ∷ values_good (call_from s)
     ∷ original_good s (call_from s).count

@@ -18,9 +18,11 @@ use Rattle.instances.specs.Run.{instances_of, forwarded_to}
 use Rattle.instances.specs.declared.instance.Instance.{Instance}
 use Rattle.exchange.specs.Table.{table_good}
 use Rattle.exchange.specs.declared.table.Table.{Table}
-use Rattle.calls.specs.Onward.{offered, busy, event_no, reason_no, reason_of, options_for, option_after, preference_after, original_shown}
+use Rattle.calls.specs.Onward.{reason_no, reason_of, options_for, option_after, preference_after, original_shown}
 use Rattle.calls.specs.declared.call.Call.{Call}
 use Rattle.calls.specs.Call.{call_from, call_good}
+use Rattle.calls.specs.declared.event.Event.{Event}
+use Rattle.calls.specs.declared.event.Event.TheVariants as event
 use Rattle.calls.specs.declared.diverting.Notice.{Notice}
 use Rattle.calls.specs.declared.diverting.Notice.TheVariants as notice
 use Rattle.calls.specs.declared.diverting.Coming.{Coming}
@@ -50,8 +52,10 @@ coming_told (Diverts reason notice) = tells (diverts (reason_no reason) (notice_
 -- ---- which instance applies
 
 -- "Offered looks at cfu, busy at cfb, no reply at cfnr"
-unfoldable pub procedure_of : ℕ → ℕ
-procedure_of event = pick (eqb event (event_no offered)) 0 (pick (eqb event (event_no busy)) 1 2)
+unfoldable pub procedure_of : Event → ℕ
+procedure_of event.Offered = 0
+procedure_of event.Busy = 1
+procedure_of event.NoReply = 2
 
 -- "for that number and service. No instance, or the access not in use: not diverted"
 unfoldable pub applying : Profile → List Instance → Call → Option Address

@@ -3,22 +3,24 @@ use Rattle.std.specs.Prelude.{ℕ, ltb, eqb}
 use Rattle.laws.specs.Pick.{pick}
 use Rattle.profile.specs.declared.profile.Profile.{Profile}
 use Rattle.calls.specs.declared.call.Call.{Call}
+use Rattle.calls.specs.declared.event.Event.{Event}
+use Rattle.calls.specs.declared.event.Event.TheVariants as event
 use Rattle.calls.specs.declared.onward.Options.{Options}
 use Rattle.calls.specs.declared.onward.Reason.{Reason}
 use Rattle.calls.specs.declared.onward.Reason.TheVariants as reason
 
 -- ---- the reason
 
--- "an event (offered, busy, no reply)", and its number in the record
-pub data Event : Type 0 where
-  offered : Event
-  busy : Event
-  no_reply : Event
-
+-- "an event (offered, busy, no reply)": its number in the record
 abbrev pub event_no : Event → ℕ
-event_no offered = 0
-event_no busy = 1
-event_no no_reply = 2
+event_no event.Offered = 0
+event_no event.Busy = 1
+event_no event.NoReply = 2
+
+-- the event of a record's octet: every one but the first two is no reply, and a record with one above it breaks a rule
+abbrev pub event_in : ℕ → Event
+event_in octet =
+    pick (eqb octet (event_no event.Offered)) event.Offered (pick (eqb octet (event_no event.Busy)) event.Busy event.NoReply)
 
 -- "reason cfu 1, cfb 2, cfnr 3"
 abbrev pub reason_no : Reason → ℕ
@@ -27,9 +29,10 @@ reason_no reason.Cfb = 2
 reason_no reason.Cfnr = 3
 
 -- "Offered looks at cfu, busy at cfb, no reply at cfnr"
-unfoldable pub reason_of : ℕ → ℕ
-reason_of event =
-    pick (eqb event (event_no offered)) (reason_no reason.Cfu) (pick (eqb event (event_no busy)) (reason_no reason.Cfb) (reason_no reason.Cfnr))
+unfoldable pub reason_of : Event → ℕ
+reason_of event.Offered = reason_no reason.Cfu
+reason_of event.Busy = reason_no reason.Cfb
+reason_of event.NoReply = reason_no reason.Cfnr
 
 -- ---- option, preference and presentation
 

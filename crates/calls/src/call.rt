@@ -2,10 +2,13 @@
 ghost use Rattle.std.specs.Prelude.{◌≡◌, length};
 ghost use Rattle.calls.specs.Call.{call_size, call_from, names_good, values_good, original_good, call_good};
 
+use crate::event::Event;
 use codes::{all_digits, service_code};
 use profile::Profile;
 
-// Where the digits of the original number stand, and the size of the record.
+// Where the event and the digits of the original number stand, and the size of the record.
+const EVENTAT: usize = 2;
+
 pub(crate) const ORIGINALAT: usize = 8;
 
 const CALLSIZE: usize = 28;
@@ -13,19 +16,14 @@ const CALLSIZE: usize = 28;
 // The most digits of the original number.
 const DIGITSMOST: u8 = 20;
 
-// The events; what is neither of the first two is no reply.
-pub(crate) const OFFERED: u8 = 0;
-
-pub(crate) const BUSY: u8 = 1;
-
-// The last event: no reply.
-const NOREPLY: u8 = 2;
+// The highest octet that is an event: no reply.
+const EVENTMOST: u8 = 2;
 
 #[derive(Clone, Copy)]
 pub struct Call {
     pub number: u8,
     pub service: u8,
-    pub event: u8,
+    pub event: Event,
     pub counter: u8,
     pub option: u8,
     pub presentation: u8,
@@ -33,6 +31,7 @@ pub struct Call {
     pub count: u8,
 }
 
+#[tactic(auto, unfolding(crate::specs::Call::call_from))]
 pub(crate) fn call_of(s: &[u8]) -> Call
     requires { length s.now ≡ call_size }
     ensures { result ≡ call_from s.now }
@@ -40,7 +39,7 @@ pub(crate) fn call_of(s: &[u8]) -> Call
     Call {
         number: s[0],
         service: s[1],
-        event: s[2],
+        event: Event::from(s[EVENTAT]),
         counter: s[3],
         option: s[4],
         presentation: s[5],
@@ -49,59 +48,36 @@ pub(crate) fn call_of(s: &[u8]) -> Call
     }
 }
 
+#[tactic(auto, unfolding(crate::specs::Call::names_good))]
 fn names_good(p: Profile, c: Call) -> bool
     ensures { result ≡ names_good p c }
 {
-    if p.numbercount <= c.number {
-        return false;
-    }
-    if c.service == 0 {
-        return false;
-    }
-    service_code(c.service)
+    c.number < p.numbercount && c.service != 0 && service_code(c.service)
 }
 
+#[tactic(auto, unfolding(crate::specs::Call::values_good))]
 fn values_good(c: Call) -> bool
     ensures { result ≡ values_good c }
 {
-    if NOREPLY < c.event {
-        return false;
-    }
-    if 5 < c.counter {
-        return false;
-    }
-    if 2 < c.option {
-        return false;
-    }
-    if 1 < c.presentation {
-        return false;
-    }
-    c.preference <= 2
+    c.counter <= 5 && c.option <= 2 && c.presentation <= 1 && c.preference <= 2
 }
 
+#[tactic(auto, using(laws::proofs::Parts::part_slice), unfolding(crate::specs::Call::original_good))]
 fn original_good(s: &[u8], count: u8) -> bool
     requires { length s.now ≡ call_size }
     ensures { result ≡ original_good s.now count }
 {
-    if DIGITSMOST < count {
-        return false;
-    }
-    all_digits(&s[ORIGINALAT..ORIGINALAT + count as usize])
+    count <= DIGITSMOST && all_digits(&s[ORIGINALAT..ORIGINALAT + count as usize])
 }
 
 // Whether a call's record breaks no rule.
+#[tactic(auto, unfolding(crate::specs::Call::call_good))]
 pub(crate) fn call_good(p: Profile, s: &[u8]) -> bool
     ensures { result ≡ call_good p s.now }
 {
-    if s.len() != CALLSIZE {
+    if s.len() != CALLSIZE || EVENTMOST < s[EVENTAT] {
         return false;
     }
     let c = call_of(s);
-    if !names_good(p, c) {
-        return false;
-    }
-    if !values_good(c) {
-        return false;
-    }
-    original_good(s, c.count)
+    names_good(p, c) && values_good(c) && original_good(s, c.count)
 }

@@ -3,12 +3,10 @@ ghost use Rattle.std.specs.Prelude.{◌≡◌, ◌<◌, ◌≤◌};
 ghost use Rattle.profile.specs.Profile.{numbers_most};
 ghost use Rattle.instances.specs.Run.{instances_of};
 ghost use Rattle.calls.specs.Onward.{options_for};
-ghost use Rattle.calls.specs.Divert.{notice_no, coming_told, procedure_of, noticed, none_goes, call_refused, goes, applying, by_instance, Becomes, DivertsTo};
+ghost use Rattle.calls.specs.Divert.{notice_no, coming_told, noticed, none_goes, call_refused, goes, applying, by_instance, Becomes, DivertsTo};
 
-use crate::call::{BUSY, Call, OFFERED, call_good, call_of};
-use crate::onward::{
-    Reason, option_after, options_for, original_shown, preference_after, reason_of,
-};
+use crate::call::{Call, call_good, call_of};
+use crate::onward::{Reason, option_after, options_for, original_shown, preference_after};
 use exchange::Table;
 use instances::Run;
 use numbers::{Address, Number, blank_address, blank_number};
@@ -16,7 +14,7 @@ use profile::{Profile, read_access};
 use refusals::Refusal;
 
 // What the caller is told: nothing, that the call is diverting, or to which number too.
-#[derive(Clone, Copy)]
+#[derive(Clone, Copy, Debug, PartialEq, Eq)]
 pub enum Notice {
     Silent,
     Diverting,
@@ -54,6 +52,7 @@ pub struct Diversion {
 }
 
 // No call goes on.
+#[tactic(auto, unfolding(crate::specs::Divert::no_onward))]
 fn stays_here(outcome: Coming) -> Diversion
     ensures { Becomes (none_goes (coming_told outcome)) result }
 {
@@ -80,41 +79,26 @@ fn refuses(refusal: Refusal) -> Diversion
     stays_here(Coming::Refuses { refusal })
 }
 
-// The procedure that the event looks at.
-fn procedure_of(event: u8) -> u8
-    ensures { result ≡ procedure_of event }
-{
-    if event == OFFERED {
-        return 0;
-    }
-    if event == BUSY {
-        return 1;
-    }
-    2
-}
-
 fn notice_of(option: u8) -> Notice
     requires { option ≤ 2 }
     ensures { notice_no result ≡ option }
 {
-    if option == 0 {
-        return Notice::Silent;
+    match option {
+        0 => Notice::Silent,
+        1 => Notice::Diverting,
+        _ => Notice::DivertingTo,
     }
-    if option == 1 {
-        return Notice::Diverting;
-    }
-    Notice::DivertingTo
 }
 
 // The number of the caller's notice.
-fn noticed_of(option: u8, called: Address) -> Number
-    ensures { result ≡ noticed option called }
+#[tactic(auto, unfolding(crate::specs::Divert::noticed))]
+fn noticed_of(notice: Notice, called: Address) -> Number
+    ensures { result ≡ noticed (notice_no notice) called }
 {
-    if option == 2 {
-        let number = called.number;
-        return number;
+    match notice {
+        Notice::DivertingTo => called.number,
+        Notice::Silent | Notice::Diverting => blank_number(),
     }
-    blank_number()
 }
 
 // The call goes on to the address of its instance.
@@ -126,7 +110,7 @@ fn go_on(p: Profile, c: Call, called: Address) -> Diversion
     let own = options_for(p, c);
     let numbers = p.numbers;
     let redirecting = numbers[c.number as usize];
-    let reason = reason_of(c.event);
+    let reason = c.event.reason();
     let notice = notice_of(option);
     Diversion {
         outcome: Coming::Diverts { reason, notice },
@@ -138,7 +122,7 @@ fn go_on(p: Profile, c: Call, called: Address) -> Diversion
             originalshown: original_shown(p, c),
             preference: preference_after(c),
             option,
-            noticed: noticed_of(option, called),
+            noticed: noticed_of(notice, called),
         },
     }
 }
@@ -151,7 +135,7 @@ fn divert_by(p: Profile, run: Run, c: Call) -> Diversion
     if p.inuse == 0 {
         return stays_here(Coming::Passes);
     }
-    let found = run.find(procedure_of(c.event), c.number, c.service);
+    let found = run.find(c.event.procedure(), c.number, c.service);
     if !found.ok {
         return stays_here(Coming::Passes);
     }

@@ -3,10 +3,12 @@
 
 mod call;
 mod diverting;
+mod event;
 mod onward;
 mod originals;
 
 pub use call::Call;
 pub use diverting::{Coming, Diversion, Notice, Onward, divert};
+pub use event::Event;
 pub use onward::Reason;
 pub use originals::{Handed, original};

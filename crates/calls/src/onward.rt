@@ -1,11 +1,11 @@
 // What a diverted call carries on (document 01, "Calls").
-ghost use Rattle.calls.specs.inner.Onward.{ReasonOf, OptionsFor, OptionAfter, PreferenceAfter, OriginalShown};
+ghost use Rattle.calls.specs.inner.Onward.{OptionsFor, OptionAfter, PreferenceAfter, OriginalShown};
 
-use crate::call::{BUSY, Call, OFFERED};
+use crate::call::Call;
 use profile::Profile;
 
 // Why a call is diverted.
-#[derive(Clone, Copy)]
+#[derive(Clone, Copy, Debug, PartialEq, Eq)]
 pub enum Reason {
     Cfu,
     Cfb,
@@ -19,19 +19,8 @@ pub(crate) struct Options {
     pub(crate) release: u8,
 }
 
-pub(crate) fn reason_of(event: u8) -> Reason
-    ensures { ReasonOf event result }
-{
-    if event == OFFERED {
-        return Reason::Cfu;
-    }
-    if event == BUSY {
-        return Reason::Cfb;
-    }
-    Reason::Cfnr
-}
-
 // A profile has one pair for all numbers and services.
+#[tactic(auto, unfolding(crate::specs::Onward::options_of))]
 pub(crate) fn options_for(p: Profile, c: Call) -> Options
     ensures { OptionsFor p c result }
 {
@@ -41,37 +30,37 @@ pub(crate) fn options_for(p: Profile, c: Call) -> Options
     }
 }
 
+#[tactic(auto, unfolding(crate::specs::Onward::option_after))]
 pub(crate) fn option_after(p: Profile, c: Call) -> u8
     ensures { OptionAfter p c result }
 {
     let own = options_for(p, c);
-    let option = own.option;
     if c.counter == 0 {
-        return option;
+        own.option
+    } else {
+        c.option.min(own.option)
     }
-    if c.option < option {
-        return c.option;
-    }
-    option
 }
 
+#[tactic(auto, unfolding(crate::specs::Onward::preference_after))]
 pub(crate) fn preference_after(c: Call) -> u8
     ensures { PreferenceAfter c result }
 {
-    if c.counter == 0 {
-        if c.preference == 1 {
-            return 0;
-        }
+    if c.counter == 0 && c.preference == 1 {
+        0
+    } else {
+        c.preference
     }
-    c.preference
 }
 
+#[tactic(auto, unfolding(crate::specs::Onward::original_shown))]
 pub(crate) fn original_shown(p: Profile, c: Call) -> u8
     ensures { OriginalShown p c result }
 {
+    let own = options_for(p, c);
     if c.counter == 0 {
-        let own = options_for(p, c);
-        return own.release;
+        own.release
+    } else {
+        c.presentation
     }
-    c.presentation
 }

@@ -3,11 +3,12 @@ use Rattle.std.specs.Prelude.{ℕ, ◌≡◌}
 use Rattle.profile.specs.declared.profile.Profile.{Profile}
 use Rattle.calls.specs.Onward.{reason_no, reason_of, options_for, option_after, preference_after, original_shown}
 use Rattle.calls.specs.declared.call.Call.{Call}
+use Rattle.calls.specs.declared.event.Event.{Event}
 use Rattle.calls.specs.declared.onward.Options.{Options}
 use Rattle.calls.specs.declared.onward.Reason.{Reason}
 
--- what `reason_of` promises: the reason by its number
-abbrev pub ReasonOf : ℕ → Reason → Type 0
+-- what `Event::reason` promises: the reason by its number
+abbrev pub ReasonOf : Event → Reason → Type 0
 ReasonOf event r = reason_no r ≡ reason_of event
 
 -- what `options_for` promises

@@ -13,7 +13,7 @@ pub returns-then-not-found : goal.returns-then-not-found
 returns-then-not-found c =
     let a = c.args in
     let used = c.if-p-eq0.false in
-    let event = c.procedure_of.ensures in
+    let event = c.procedure.ensures in
     rw (found_none a.p (instances_of a.run) a.c used _ _ event c.find-found.ensures (not-true _ c.if-not-found.true))
     c.stays_here-then-not-found.ensures
 
@@ -21,7 +21,7 @@ pub returns-then-p-c : goal.returns-then-p-c
 returns-then-p-c c =
     let a = c.args in
     let used = c.if-p-eq0.false in
-    let event = c.procedure_of.ensures in
+    let event = c.procedure.ensures in
     let some = found_some a.p (instances_of a.run) a.c used _ _ event c.find-found.ensures
     (not-false _ c.if-not-found.false) in
     rw (some, le-ltb _ _ c.if-p-c.true) c.refuses.ensures
@@ -42,7 +42,7 @@ pub returns : goal.returns
 returns c =
     let a = c.args in
     let used = c.if-p-eq0.false in
-    let event = c.procedure_of.ensures in
+    let event = c.procedure.ensures in
     let some = found_some a.p (instances_of a.run) a.c used _ _ event c.find-found.ensures
     (not-false _ c.if-not-found.false) in
     rw (some, lt-ltb _ _ c.if-p-c.false) c.go_on.ensures

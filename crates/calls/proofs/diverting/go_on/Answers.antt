@@ -12,9 +12,9 @@ returns c =
     let a = c.args in
     goes_on_lem a.p a.c a.called _ _ _ _ _ _ _
     c.option_after-option.ensures
-    c.reason_of-reason.ensures
+    c.reason-reason.ensures
     c.notice_of-notice.ensures
     c.options_for-own.ensures
     c.original_shown.ensures
     c.preference_after.ensures
-    c.noticed_of.ensures
+    (rw c.notice_of-notice.ensures at c.noticed_of.ensures)
