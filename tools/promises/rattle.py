@@ -206,7 +206,8 @@ def type_of(words):
     if lent and rest and rest[0].startswith("'"):
         rest = rest[1:]
     changed = lent and rest[:1] == ["mut"]
-    return lent, changed, bool({"&", "<", "fn", "dyn", "impl", "*"} & set(rest))
+    held = any(word in ("&", "fn", "dyn", "impl", "*") or word.startswith("'") for word in rest)
+    return lent, changed, held
 
 
 def read_parameter(words, made):
@@ -217,7 +218,7 @@ def read_parameter(words, made):
     elif len(words) > 2 and words[1] == ":":
         name, kind = words[0], words[2:]
     else:
-        name, kind = " ".join(words), ["<"]
+        name, kind = " ".join(words), ["*"]
     lent, changed, odd = type_of(kind)
     if odd:
         made.odd.append(f"the parameter `{' '.join(words)}`")
