@@ -47,7 +47,9 @@ use Rattle.exchange.specs.Arrive.{refused, answered, done, Arrives}
 use Rattle.exchange.specs.inner.Question.{question_read}
 use Rattle.exchange.specs.inner.Arrived.{arrived_refused, arrived_answered}
 use Rattle.exchange.specs.declared.table.Table.{Table}
-use Rattle.exchange.specs.declared.question.QuestionRead.{QuestionRead}
+use Rattle.std.specs.Prelude.{Result, Ok, Err}
+use Rattle.answers.specs.declared.answer.Answer.{Answer}
+use Rattle.exchange.specs.declared.question.Asked.{Asked}
 use Rattle.exchange.specs.declared.arrive.Arrived.{Arrived}
 use Rattle.exchange.proofs.Questions.{RequestAsked, question_asks}
 use Rattle.exchange.proofs.Tables.{table_run, table_good_lem}
@@ -187,16 +189,16 @@ module _
         (done_answers access t s (length xs) room fair read.0 table ∙ ap answered steps)
         (rw is at fits) room put
 
-    module _ (q : QuestionRead) (told : q ≡ question_read (question p t.last s)) (n : ℕ) (ys : List ℕ) where
+    module _ (r : Result Asked Answer) (told : r ≡ question_read (question p t.last s)) (n : ℕ) (ys : List ℕ) where
       pub says_arrives :
-          q.asked ≡ false → PutAnswer xs q.answer n ys →
-          Arrives access t s xs (arrived_answered t q.answer n) ys
-      says_arrives h put =
-          step_arrives (stays t q.answer) n ys (step_says p t s q.answer (read_says (question p t.last s) q told h)) put
+          (says : Answer) → r ≡ Err says → PutAnswer xs says n ys →
+          Arrives access t s xs (arrived_answered t says n) ys
+      says_arrives says h put =
+          step_arrives (stays t says) n ys (step_says p t s says (read_says (question p t.last s) r says told h)) put
 
-      module _ (h : q.asked ≡ true) (last : ℕ) (moved : last ≡ last_after p q.identifier t.last) where
+      module _ (q : Asked) (h : r ≡ Ok q) (last : ℕ) (moved : last ≡ last_after p q.identifier t.last) where
         asked : step p t s ≡ handled p t q.identifier q.operation q.request
-        asked = step_asks p t s q.identifier q.operation q.request (read_asks (question p t.last s) q told h)
+        asked = step_asks p t s q.identifier q.operation q.request (read_asks (question p t.last s) r q told h)
 
         pub fails_arrives :
             (v : Verdict) → verdict_no v ≡ verdict p t q.identifier q.operation q.request → (error : ℕ) → v ≡ Fails error →

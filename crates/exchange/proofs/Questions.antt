@@ -20,13 +20,12 @@ use Rattle.codes.specs.Codes.{service_code, activation, deactivation, interrogat
 use Rattle.numbers.proofs.Goods.{ToUnless}
 use Rattle.profile.specs.declared.profile.Profile.{Profile}
 use Rattle.requests.specs.Heard.{heard}
-use Rattle.requests.specs.Request.{request_read, argument_at}
+use Rattle.requests.specs.Request.{argument_at}
 use Rattle.requests.specs.Spelt.{Known, activation_is, deactivation_is, interrogation_is}
 use Rattle.requests.specs.declared.heard.Heard.{Heard}
 use Rattle.requests.specs.declared.heard.Heard.TheVariants as heard
 use Rattle.requests.specs.declared.heard.Operation.{Operation}
 use Rattle.requests.specs.declared.request.Request.{Request}
-use Rattle.requests.specs.declared.request.RequestRead.{RequestRead}
 use Rattle.requests.proofs.Goods.{known_most}
 use Rattle.requests.proofs.Ranges.{HeardRanges, heard_range}
 use Rattle.requests.proofs.Requests.{argument_read}
@@ -39,6 +38,7 @@ use Rattle.answers.specs.declared.answer.Whose.TheVariants.{Null, Own}
 use Rattle.answers.proofs.Fits.{OwnFits, EntriesFit}
 use Rattle.exchange.specs.Question.{Question, says, asks, rejects, not_above, duplicate, known_operation, code_of, argued, invoked}
 use Rattle.exchange.specs.Question.{question_of, question}
+use Rattle.octets.proofs.Founds.{Somewhere}
 use Rattle.exchange.specs.inner.Question.{question_read}
 
 -- ---- the machine's tests
@@ -150,19 +150,15 @@ invoked_is p last s identifier operation at end = refl
 
 -- a request that was read is asked
 pub argued_found :
-    (identifier : ℤ) (operation : Operation) (g : Got Request) (r : RequestRead) → r ≡ request_read g → r.ok ≡ true →
-    question_read (asks identifier (code_of operation.value) r.request) ≡ question_read (argued identifier operation g)
-argued_found identifier operation (got request next) r e h = rw e
-argued_found identifier operation wrong r e h =
-    absurd (false≢true (sym (ap (λ (x : RequestRead). x.ok) e) ∙ h))
+    (identifier : ℤ) (operation : Operation) (g : Got Request) (request : Request) → Somewhere g request →
+    question_read (asks identifier (code_of operation.value) request) ≡ question_read (argued identifier operation g)
+argued_found identifier operation g request found = rw found.is
 
 -- an argument that is wrong is rejected
 pub argued_none :
-    (identifier : ℤ) (operation : Operation) (g : Got Request) (r : RequestRead) → r ≡ request_read g → r.ok ≡ false →
+    (identifier : ℤ) (operation : Operation) (g : Got Request) → g ≡ wrong →
     question_read (rejects (Own identifier) (Invoke 2)) ≡ question_read (argued identifier operation g)
-argued_none identifier operation (got request next) r e h =
-    absurd (false≢true (sym h ∙ ap (λ (x : RequestRead). x.ok) e))
-argued_none identifier operation wrong r e h = refl
+argued_none identifier operation g none = rw none
 
 -- ---- what is known of a question
 

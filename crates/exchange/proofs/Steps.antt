@@ -27,7 +27,8 @@ use Rattle.exchange.specs.Table.{table_of}
 use Rattle.exchange.specs.Question.{Question, says, asks, question}
 use Rattle.exchange.specs.Step.{Step, stays, last_after, result_of, verdict_of, handled, step_of, step}
 use Rattle.exchange.specs.inner.Question.{question_read}
-use Rattle.exchange.specs.declared.question.QuestionRead.{QuestionRead}
+use Rattle.std.specs.Prelude.{Result, Ok, Err}
+use Rattle.exchange.specs.declared.question.Asked.{Asked}
 use Rattle.exchange.specs.declared.table.Table.{Table}
 use Rattle.exchange.proofs.Questions.{Said, question_says}
 
@@ -145,14 +146,22 @@ module _ (p : Profile) (t : Table) (s : List ℕ) where
 
 -- ---- a question, as the code tells it
 
-pub read_says : (x : Question) (q : QuestionRead) → q ≡ question_read x → q.asked ≡ false → x ≡ says q.answer
-read_says (says a) q e h = ap (λ (y : QuestionRead). says y.answer) (sym e)
-read_says (asks identifier operation r) q e h =
-    absurd (false≢true (sym h ∙ ap (λ (y : QuestionRead). y.asked) e))
+-- the question that the code told
+told_by : Result Asked Answer → Question
+told_by (Err answer) = says answer
+told_by (Ok q) = asks q.identifier q.operation q.request
+
+told_read : (x : Question) → told_by (question_read x) ≡ x
+unfolding told_by
+told_read (says answer) = refl
+told_read (asks identifier operation r) = refl
+
+pub read_says : (x : Question) (q : Result Asked Answer) (answer : Answer) → q ≡ question_read x → q ≡ Err answer → x ≡ says answer
+unfolding told_by
+read_says x q answer e is = sym (told_read x) ∙ ap told_by (sym e ∙ is)
 
 pub read_asks :
-    (x : Question) (q : QuestionRead) → q ≡ question_read x → q.asked ≡ true →
-    x ≡ asks q.identifier q.operation q.request
-read_asks (says a) q e h = absurd (false≢true (sym (ap (λ (y : QuestionRead). y.asked) e) ∙ h))
-read_asks (asks identifier operation r) q e h =
-    ap (λ (y : QuestionRead). asks y.identifier y.operation y.request) (sym e)
+    (x : Question) (q : Result Asked Answer) (a : Asked) → q ≡ question_read x → q ≡ Ok a →
+    x ≡ asks a.identifier a.operation a.request
+unfolding told_by
+read_asks x q a e is = sym (told_read x) ∙ ap told_by (sym e ∙ is)

@@ -5,7 +5,7 @@ ghost use Rattle.exchange.specs.Step.{last_after};
 ghost use Rattle.exchange.specs.Arrive.{Arrives};
 ghost use Rattle.exchange.specs.inner.Arrived.{arrived_refused, arrived_answered};
 
-use crate::question::question_of;
+use crate::question::{Asked, question_of};
 use crate::table::{LASTMOST, Table};
 use answers::{Answer, put_answer};
 use codes::INTERROGATION;
@@ -81,15 +81,17 @@ impl Table {
         if !self.run.good(p) {
             return refuses(self.last, self.run, Refusal::BadTable);
         }
-        let q = question_of(p, self.last, component);
-        if !q.asked {
-            let answer = q.answer;
-            let count = put_answer(out, answer);
-            return answers(self.last, self.run, answer, count);
-        }
-        let r = q.request;
-        let operation = q.operation;
-        let identifier = q.identifier;
+        let Asked {
+            identifier,
+            operation,
+            request: r,
+        } = match question_of(p, self.last, component) {
+            Ok(asked) => asked,
+            Err(answer) => {
+                let count = put_answer(out, answer);
+                return answers(self.last, self.run, answer, count);
+            }
+        };
         let last = last_after(p, identifier, self.last);
         match judge_request(p, operation, r, self.run) {
             Verdict::Fails { error } => {

@@ -2,13 +2,14 @@
 ghost use Rattle.std.specs.Prelude.{◌≡◌};
 ghost use Rattle.answers.specs.declared.answer.Problem.TheVariants.{General};
 ghost use Rattle.answers.specs.declared.answer.Whose.TheVariants.{Null};
-ghost use Rattle.exchange.specs.Question.{not_above, duplicate, known_operation, says, rejects, invoked, question};
+ghost use Rattle.answers.specs.declared.answer.Answer.TheVariants.{Reject};
+ghost use Rattle.exchange.specs.Question.{not_above, duplicate, known_operation, invoked, question};
 ghost use Rattle.exchange.specs.inner.Question.{question_read};
 
 use answers::{Answer, Problem, Whose};
 use codes::{ACTIVATION, DEACTIVATION, INTERROGATION};
 use profile::Profile;
-use requests::{Heard, Operation, Request, argument_at, blank_request, hear};
+use requests::{Heard, Operation, Request, argument_at, hear};
 
 // The operations as the numbers that an identifier's reader hands on.
 const ACTIVATIONVALUE: i16 = ACTIVATION as i16;
@@ -17,28 +18,12 @@ const DEACTIVATIONVALUE: i16 = DEACTIVATION as i16;
 
 const INTERROGATIONVALUE: i16 = INTERROGATION as i16;
 
-// A request that must be judged, with its identifier and its operation's code; or, where `asked` is false, the answer.
+// A request that must be judged, with its identifier and its operation's code.
 #[derive(Clone, Copy)]
-pub(crate) struct QuestionRead {
-    pub(crate) asked: bool,
-    pub(crate) answer: Answer,
+pub(crate) struct Asked {
     pub(crate) identifier: i16,
     pub(crate) operation: u8,
     pub(crate) request: Request,
-}
-
-// An answer at once.
-fn says_at_once(answer: Answer) -> QuestionRead
-    ensures { result ≡ question_read (says answer) }
-{
-    let request = blank_request();
-    QuestionRead {
-        asked: false,
-        answer,
-        identifier: 0,
-        operation: 0,
-        request,
-    }
 }
 
 fn not_above(identifier: i16, last: u16) -> bool
@@ -71,7 +56,7 @@ fn is_known(operation: i16) -> bool
     operation == INTERROGATIONVALUE
 }
 
-// What an invoke component asks, whose argument stands at `at`, of the octets before `end`.
+// What an invoke component asks, whose argument stands at `at`, of the octets before `end`; or the answer at once.
 fn invoked_by(
     p: Profile,
     last: u16,
@@ -80,59 +65,55 @@ fn invoked_by(
     operation: Operation,
     at: usize,
     end: usize,
-) -> QuestionRead
+) -> Result<Asked, Answer>
     ensures { result ≡ question_read (invoked p last s.now identifier operation at end) }
 {
     let whose = Whose::Own(identifier);
     if is_duplicate(p, last, identifier) {
         let problem = Problem::Invoke(0);
-        return says_at_once(Answer::Reject { whose, problem });
+        return Err(Answer::Reject { whose, problem });
     }
     if !is_known(operation.value) {
         let problem = Problem::Invoke(1);
-        return says_at_once(Answer::Reject { whose, problem });
+        return Err(Answer::Reject { whose, problem });
     }
-    let read = argument_at(s, at, end, operation);
-    if !read.ok {
+    let Some(request) = argument_at(s, at, end, operation) else {
         let problem = Problem::Invoke(2);
-        return says_at_once(Answer::Reject { whose, problem });
-    }
-    let request = read.request;
-    QuestionRead {
-        asked: true,
-        answer: Answer::Silence,
+        return Err(Answer::Reject { whose, problem });
+    };
+    Ok(Asked {
         identifier,
         operation: operation.value as u8,
         request,
-    }
-}
-
-// A reject of a component without a readable identifier.
-fn rejects_null(problem: u8) -> QuestionRead
-    ensures { result ≡ question_read (rejects Null (General problem)) }
-{
-    let problem = Problem::General(problem);
-    says_at_once(Answer::Reject {
-        whose: Whose::Null,
-        problem,
     })
 }
 
-// What the component `s` asks of an exchange that has handled `last`. Not inlined, so that what it takes of the stack is free again when the
-// request is applied.
+// A reject of a component without a readable identifier.
+fn rejects_null(problem: u8) -> Answer
+    ensures { result ≡ Reject Null (General problem) }
+{
+    let problem = Problem::General(problem);
+    Answer::Reject {
+        whose: Whose::Null,
+        problem,
+    }
+}
+
+// What the component `s` asks of an exchange that has handled `last`; or the answer at once. Not inlined, so that what it takes of the stack
+// is free again when the request is applied.
 #[inline(never)]
-pub(crate) fn question_of(p: Profile, last: u16, s: &[u8]) -> QuestionRead
+pub(crate) fn question_of(p: Profile, last: u16, s: &[u8]) -> Result<Asked, Answer>
     ensures { result ≡ question_read (question p last s.now) }
 {
     match hear(s) {
-        Heard::NotOne => rejects_null(2),
-        Heard::Silent => says_at_once(Answer::Silence),
-        Heard::OtherTag => rejects_null(0),
-        Heard::NoIdentifier => rejects_null(1),
+        Heard::NotOne => Err(rejects_null(2)),
+        Heard::Silent => Err(Answer::Silence),
+        Heard::OtherTag => Err(rejects_null(0)),
+        Heard::NoIdentifier => Err(rejects_null(1)),
         Heard::NoOperation { identifier } => {
             let whose = Whose::Own(identifier);
             let problem = Problem::General(1);
-            says_at_once(Answer::Reject { whose, problem })
+            Err(Answer::Reject { whose, problem })
         }
         Heard::Asks {
             identifier,

@@ -1,23 +1,10 @@
 -- How the code tells what a component asks.
-use Rattle.std.specs.Prelude.{true, false, pos}
-use Rattle.requests.specs.Request.{no_request}
-use Rattle.answers.specs.declared.answer.Answer.TheVariants as answer
+use Rattle.std.specs.Prelude.{Result, Ok, Err}
+use Rattle.answers.specs.declared.answer.Answer.{Answer}
 use Rattle.exchange.specs.Question.{Question, says, asks}
-use Rattle.exchange.specs.declared.question.QuestionRead.{QuestionRead}
+use Rattle.exchange.specs.declared.question.Asked.{Asked}
 
--- a record for either; what is not asked is blank, and so is what is not said
-abbrev pub question_read : Question → QuestionRead
-question_read (says a) = record {
-  asked = false;
-  answer = a;
-  identifier = pos 0;
-  operation = 0;
-  request = no_request;
-}
-question_read (asks identifier operation r) = record {
-  asked = true;
-  answer = answer.Silence;
-  identifier = identifier;
-  operation = operation;
-  request = r;
-}
+-- what must be judged; or the answer at once
+abbrev pub question_read : Question → Result Asked Answer
+question_read (says answer) = Err answer
+question_read (asks identifier operation r) = Ok (record { identifier = identifier; operation = operation; request = r })

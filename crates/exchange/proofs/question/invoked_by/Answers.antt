@@ -1,12 +1,12 @@
-use Rattle.exchange.specs.Question.{invoked}
-use Rattle.exchange.proofs.Questions.{code_fits, code_cast, argued_found, argued_none}
-use Rattle.requests.specs.Request.{argument_at}
+use mathlib.Core.Path.{sym, ◌∙◌}
 use mir.Facts.{to_z-of_z}
 use mir.Val.{SFits}
 use mir.Syntax.{w16}
-use mathlib.Core.Path.{sym, ◌∙◌}
-use borrow.Author.Tests.{not-true, not-false}
 use borrow.Author.Rules.{rules}
+use Rattle.octets.proofs.Founds.{only_got, only_wrong}
+use Rattle.requests.specs.Request.{argument_at}
+use Rattle.exchange.specs.Question.{invoked}
+use Rattle.exchange.proofs.Questions.{code_fits, code_cast, argued_found, argued_none}
 use Rattle.exchange.proofs.question.invoked_by.Goals as goal
 
 pub returns-then-is_duplicate : goal.returns-then-is_duplicate
@@ -14,30 +14,27 @@ unfolding invoked
 returns-then-is_duplicate c =
     let id = to_z-of_z c.ranges.identifier in
     let twice = sym (rw id at c.is_duplicate.ensures) ∙ c.if-is_duplicate.true in
-    rw twice (rw id at c.says_at_once.ensures)
+    rw (twice, id)
 
 pub returns-then-not-is_known : goal.returns-then-not-is_known
 unfolding invoked
 returns-then-not-is_known c =
     let id = to_z-of_z c.ranges.identifier in
     let operation : SFits w16 c.args.operation.value = search rules in
-    let fresh = sym (rw id at c.is_duplicate.ensures)
-    ∙ c.if-is_duplicate.false in
+    let fresh = sym (rw id at c.is_duplicate.ensures) ∙ c.if-is_duplicate.false in
     let unknown = sym (rw (to_z-of_z operation) at c.is_known.ensures) ∙ c.if-not-is_known.true in
-    rw (fresh, unknown) (rw id at c.says_at_once-then-not-is_known.ensures)
+    rw (fresh, unknown, id)
 
-pub returns-then-not-read : goal.returns-then-not-read
+pub returns-in_default : goal.returns-in_default
 unfolding invoked
-returns-then-not-read c =
+returns-in_default c =
+    let a = c.args in
     let id = to_z-of_z c.ranges.identifier in
-    let operation : SFits w16 c.args.operation.value = search rules in
-    let fresh = sym (rw id at c.is_duplicate.ensures)
-    ∙ c.if-is_duplicate.false in
-    let is_known = sym (rw (to_z-of_z operation) at c.is_known.ensures)
-    ∙ c.if-not-is_known.false in
-    rw (fresh, is_known)
-    (rw id at c.says_at_once-then-not-read.ensures
-    ∙ argued_none _ c.args.operation (argument_at c.args.operation c.args.s.now c.args.at c.args.end) _ c.argument_at-read.ensures (not-true _ c.if-not-read.true))
+    let operation : SFits w16 a.operation.value = search rules in
+    let fresh = sym (rw id at c.is_duplicate.ensures) ∙ c.if-is_duplicate.false in
+    let is_known = sym (rw (to_z-of_z operation) at c.is_known.ensures) ∙ c.if-not-is_known.false in
+    let argument = argument_at a.operation a.s.now a.at a.end in
+    rw (id, fresh, is_known) (argued_none _ a.operation argument (only_wrong argument c.argument_at.ensures c.in_default.is))
 
 pub overflow_cast-result : goal.overflow_cast-result
 overflow_cast-result c =
@@ -49,13 +46,11 @@ overflow_cast-result c =
 pub returns : goal.returns
 unfolding invoked
 returns c =
-    let id = to_z-of_z c.ranges.identifier
-    in
-    let operation : SFits w16 c.args.operation.value = search rules in
-    let fresh = sym (rw id at c.is_duplicate.ensures)
-    ∙ c.if-is_duplicate.false in
-    let is_known = sym (rw (to_z-of_z operation) at c.is_known.ensures)
-    ∙ c.if-not-is_known.false in
+    let a = c.args in
+    let id = to_z-of_z c.ranges.identifier in
+    let operation : SFits w16 a.operation.value = search rules in
+    let fresh = sym (rw id at c.is_duplicate.ensures) ∙ c.if-is_duplicate.false in
+    let is_known = sym (rw (to_z-of_z operation) at c.is_known.ensures) ∙ c.if-not-is_known.false in
+    let argument = argument_at a.operation a.s.now a.at a.end in
     rw (id, code_cast _ operation is_known, fresh, is_known)
-    (argued_found _ c.args.operation (argument_at c.args.operation c.args.s.now c.args.at c.args.end) _ c.argument_at-read.ensures
-    (not-false _ c.if-not-read.false))
+    (argued_found _ a.operation argument _ (only_got argument c.argument_at.ensures c.in-Some.is))

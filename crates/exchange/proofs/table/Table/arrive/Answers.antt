@@ -65,8 +65,8 @@ returns-then-not-good c =
     ∙ c.if-not-good.true)))
     c.refuses-then-not-good.ensures
 
-pub returns-then-not-q : goal.returns-then-not-q
-returns-then-not-q c =
+pub returns-in-Err : goal.returns-in-Err
+returns-in-Err c =
     let a = c.args in
     rw c.answers.ensures
     (says_arrives a.access.now a.self a.component.now a.out.now c.in-Some.p
@@ -74,21 +74,21 @@ returns-then-not-q c =
     (omega (arith, c.if-out-lt-OUTPUTLEAST.false))
     (omega (arith, c.if-component-gt-COMPONENTMOST.false))
     c.if-self-gt-LASTMOST.false (sym c.good.ensures ∙ c.if-not-good.false)
-    c.question_of-q.result c.question_of-q.ensures _ _
-    (not-true _ c.if-not-q.true) c.put_answer-count.ensures)
+    c.question_of.result c.question_of.ensures _ _
+    _ c.in-Err.is c.put_answer-count.ensures)
 
 pub returns-in-Fails : goal.returns-in-Fails
 returns-in-Fails c =
     let a = c.args in
-    let id : SFits w16 c.question_of-q.result.identifier = search (rules, c.question_of-q.type_inv) in
+    let id : SFits w16 c.in-Ok.asked.identifier = search rules in
     rw (c.answers-in-Fails.ensures, to_z-of_z id)
     (fails_arrives a.access.now a.self a.component.now a.out.now c.in-Some.p
     (read_some a.access.now _ _ c.read_access.ensures c.in-Some.is)
     (omega (arith, c.if-out-lt-OUTPUTLEAST.false))
     (omega (arith, c.if-component-gt-COMPONENTMOST.false))
     c.if-self-gt-LASTMOST.false (sym c.good.ensures ∙ c.if-not-good.false)
-    c.question_of-q.result c.question_of-q.ensures _ _
-    (not-false _ c.if-not-q.false) _
+    c.question_of.result c.question_of.ensures _ _
+    c.in-Ok.asked c.in-Ok.is _
     (rw (to_z-of_z id) at c.last_after-last.ensures)
     _ c.judge_request.ensures.verdict _
     c.in-Fails.is
@@ -97,15 +97,15 @@ returns-in-Fails c =
 pub returns-then-operation-eq-INTERROGATION : goal.returns-then-operation-eq-INTERROGATION
 returns-then-operation-eq-INTERROGATION c =
     let a = c.args in
-    let id : SFits w16 c.question_of-q.result.identifier = search (rules, c.question_of-q.type_inv) in
+    let id : SFits w16 c.in-Ok.asked.identifier = search rules in
     rw (c.answers-then-operation-eq-INTERROGATION.ensures, to_z-of_z id)
     (lists_arrives a.access.now a.self a.component.now a.out.now c.in-Some.p
     (read_some a.access.now _ _ c.read_access.ensures c.in-Some.is)
     (omega (arith, c.if-out-lt-OUTPUTLEAST.false))
     (omega (arith, c.if-component-gt-COMPONENTMOST.false))
     c.if-self-gt-LASTMOST.false (sym c.good.ensures ∙ c.if-not-good.false)
-    c.question_of-q.result c.question_of-q.ensures _ _
-    (not-false _ c.if-not-q.false) _ (rw (to_z-of_z id) at c.last_after-last.ensures)
+    c.question_of.result c.question_of.ensures _ _
+    c.in-Ok.asked c.in-Ok.is _ (rw (to_z-of_z id) at c.last_after-last.ensures)
     _ c.judge_request.ensures _
     c.in-Passes.is
     c.if-operation-eq-INTERROGATION.true
@@ -115,10 +115,10 @@ returns-then-operation-eq-INTERROGATION c =
 pub returns-in-Passes : goal.returns-in-Passes
 returns-in-Passes c =
     let a = c.args in
-    let id : SFits w16 c.question_of-q.result.identifier = search (rules, c.question_of-q.type_inv) in
+    let id : SFits w16 c.in-Ok.asked.identifier = search rules in
     let good = sym c.good.ensures ∙ c.if-not-good.false in
     let read = read_some a.access.now _ _ c.read_access.ensures c.in-Some.is in
-    let applies : c.if-renews.next ≡ applied c.in-Some.p c.question_of-q.result.operation c.question_of-q.result.request a.self.run =
+    let applies : c.if-renews.next ≡ applied c.in-Some.p c.in-Ok.asked.operation c.in-Ok.asked.request a.self.run =
     elim c.if-renews.branch [
       | then-renews v ↦ v.next-is ∙ renews_applied c.in-Some.p
           (read_good a.access.now c.in-Some.p read) a.self.run good _ _ _ c.judge_request.ensures _
@@ -130,8 +130,8 @@ returns-in-Passes c =
     (omega (arith, c.if-out-lt-OUTPUTLEAST.false))
     (omega (arith, c.if-component-gt-COMPONENTMOST.false))
     c.if-self-gt-LASTMOST.false good
-    c.question_of-q.result c.question_of-q.ensures _ _
-    (not-false _ c.if-not-q.false) _ (rw (to_z-of_z id) at c.last_after-last.ensures)
+    c.question_of.result c.question_of.ensures _ _
+    c.in-Ok.asked c.in-Ok.is _ (rw (to_z-of_z id) at c.last_after-last.ensures)
     _ c.judge_request.ensures _
     c.in-Passes.is
     c.if-operation-eq-INTERROGATION.false _ applies
