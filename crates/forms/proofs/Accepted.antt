@@ -10,15 +10,14 @@ use lib.Seq.{take-length}
 use lib.Dec.{ltb, leb, eqb}
 use borrow.Author.Tests.{eqb-true}
 use Rattle.laws.specs.Tests.{all}
-use Rattle.laws.specs.Got.{got}
+use Rattle.laws.specs.Got.{Got, got, wrong}
 use Rattle.laws.specs.Stands.{Stands}
 use Rattle.laws.proofs.Gots.{found_is, FoundAt, found_at_then, found_at_is}
 use Rattle.laws.proofs.Picks.{pick_ind}
 use Rattle.laws.proofs.Tests.{both_hold}
 use Rattle.laws.proofs.Stands.{stands_first, stands_right, stands_nil, stands_cons, slice_stands}
 use Rattle.groups.specs.Groups.{groups, groups_at}
-use Rattle.groups.specs.declared.groups.Groups.{Groups}
-use Rattle.groups.specs.declared.groups.Groups.TheVariants as variants
+use Rattle.std.specs.Prelude.{Option, Some, None}
 use Rattle.groups.proofs.GroupLaws.{StandsTo, groups_at_only}
 use Rattle.numbers.specs.Number.{most, fair}
 use Rattle.numbers.specs.declared.address.Address.{Address}
@@ -74,13 +73,13 @@ module _ (s : List ℕ) (small : (i : ℕ) → get_or s i 0 < 256) where
   unfolding field_at
   field_only good at = each (groups_at s at (length s)) refl
     where
-      each : (g : Groups) → groups_at s at (length s) ≡ g → FoundAt (One at) (field_of good g)
-      each (variants.Is n next) e =
+      each : (g : Got (Option ℕ)) → groups_at s at (length s) ≡ g → FoundAt (One at) (field_of good g)
+      each (got (Some n) next) e =
           pick_ind (FoundAt (One at)) (good n)
           (λ _. groups_at_only s at (length s) n next (λ i _ _. small i) e)
           (λ _. tt)
-      each (variants.Large next) e = tt
-      each variants.Bad e = tt
+      each (got None next) e = tt
+      each wrong e = tt
 
   field_stands : (good : ℕ → Bool) (at n next : ℕ) → field_at good s at ≡ got n next → One at n next
   field_stands good at n next e = found_at_is (One at) e (field_only good at)

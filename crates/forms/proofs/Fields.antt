@@ -14,8 +14,7 @@ use Rattle.laws.proofs.Gots.{Something, found_then, found_is}
 use Rattle.laws.proofs.Picks.{pick_ind}
 use Rattle.laws.proofs.Walks.{store_next}
 use Rattle.groups.specs.Groups.{groups_at}
-use Rattle.groups.specs.declared.groups.Groups.{Groups}
-use Rattle.groups.specs.declared.groups.Groups.TheVariants as groups
+use Rattle.std.specs.Prelude.{Option, Some, None}
 use Rattle.numbers.specs.Number.{most, padded}
 use Rattle.forms.specs.Instance.{field_of, field_at, fields_at}
 use Rattle.forms.specs.inner.Reading.{any_field, field_below, fields_below, field_read, fields_read}
@@ -39,15 +38,15 @@ field_none wrong r e h = refl
 
 module _ (s : List ℕ) (at : ℕ) where
   -- a number, one that 32 bits do not hold, and none
-  pub field_is : (value next : ℕ) → groups_at s at (length s) ≡ groups.Is value next → any_field s at ≡ got value next
+  pub field_is : (value next : ℕ) → groups_at s at (length s) ≡ got (Some value) next → any_field s at ≡ got value next
   unfolding field_at
   field_is value next e = rw e
 
-  pub field_large : (next : ℕ) → groups_at s at (length s) ≡ groups.Large next → any_field s at ≡ wrong
+  pub field_large : (next : ℕ) → groups_at s at (length s) ≡ got None next → any_field s at ≡ wrong
   unfolding field_at
   field_large next e = rw e
 
-  pub field_bad : groups_at s at (length s) ≡ groups.Bad → any_field s at ≡ wrong
+  pub field_bad : groups_at s at (length s) ≡ wrong → any_field s at ≡ wrong
   unfolding field_at
   field_bad e = rw e
 
@@ -56,20 +55,20 @@ module _ (s : List ℕ) (at : ℕ) where
   unfolding field_at
   field_same good other h = each (groups_at s at (length s))
     where
-      each : (g : Groups) → field_of good g ≡ field_of other g
-      each (groups.Is n next) = rw (h n)
-      each (groups.Large next) = refl
-      each groups.Bad = refl
+      each : (g : Got (Option ℕ)) → field_of good g ≡ field_of other g
+      each (got (Some n) next) = rw (h n)
+      each (got None next) = refl
+      each wrong = refl
 
   -- a field that is found passes its test
   pub field_passes : (good : ℕ → Bool) → Something (λ n. good n ≡ true) (field_at good s at)
   unfolding field_at
   field_passes good = each (groups_at s at (length s))
     where
-      each : (g : Groups) → Something (λ n. good n ≡ true) (field_of good g)
-      each (groups.Is n next) = pick_ind (Something (λ n. good n ≡ true)) (good n) (λ e. e) (λ _. tt)
-      each (groups.Large next) = tt
-      each groups.Bad = tt
+      each : (g : Got (Option ℕ)) → Something (λ n. good n ≡ true) (field_of good g)
+      each (got (Some n) next) = pick_ind (Something (λ n. good n ≡ true)) (good n) (λ e. e) (λ _. tt)
+      each (got None next) = tt
+      each wrong = tt
 
   -- a test of a field within a wider one
   pub field_narrow :
@@ -81,12 +80,12 @@ module _ (s : List ℕ) (at : ℕ) where
       test : ℕ → ℕ → Got ℕ
       test n next = pick (good n) (got n next) wrong
 
-      each : (g : Groups) → field_of good g ≡ and_then (field_of wide g) test
-      each (groups.Is n next) =
+      each : (g : Got (Option ℕ)) → field_of good g ≡ and_then (field_of wide g) test
+      each (got (Some n) next) =
           pick_ind (λ x. test n next ≡ and_then x test) (wide n) (λ _. refl) (λ e.
           pick_ind (λ x. x ≡ wrong) (good n) (λ f. absurd (false≢true (sym e ∙ h n f))) (λ _. refl))
-      each (groups.Large next) = refl
-      each groups.Bad = refl
+      each (got None next) = refl
+      each wrong = refl
 
   -- a field of any number, below a bound or not
   pub below_is :

@@ -1,12 +1,10 @@
 -- An instance in a night sheet: "procedure, number index, service, form (0 unknown, 1 public), type (0 if unknown), digit count, digits,
 -- subaddress length (0 none), octets", each a number in groups of seven bits (document 01, "Night sheet").
-use Rattle.std.specs.Prelude.{ℕ, zero, suc, ◌+◌, ◌-◌, Bool, not, List, [], ◌∷◌, ◌++◌, map, length, take, ltb, leb, eqb}
+use Rattle.std.specs.Prelude.{ℕ, zero, suc, ◌+◌, ◌-◌, Bool, not, List, [], ◌∷◌, ◌++◌, map, length, take, ltb, leb, eqb, Option, Some, None}
 use Rattle.laws.specs.Pick.{pick}
 use Rattle.laws.specs.Tests.{all}
 use Rattle.laws.specs.Got.{Got, got, wrong, and_then}
 use Rattle.groups.specs.Groups.{groups, groups_at}
-use Rattle.groups.specs.declared.groups.Groups.{Groups}
-use Rattle.groups.specs.declared.groups.Groups.TheVariants as groups
 use Rattle.codes.specs.Codes.{service_code}
 use Rattle.numbers.specs.Number.{unknown, most, fair, number_of, digits_of}
 use Rattle.codes.specs.Digits.{type_good}
@@ -43,10 +41,13 @@ instance_octets i = all_groups (instance_fields i)
 
 -- ---- read
 
-abbrev pub field_of : (ℕ → Bool) → Groups → Got ℕ
-field_of good (groups.Is n next) = pick (good n) (got n next) wrong
-field_of good (groups.Large next) = wrong
-field_of good groups.Bad = wrong
+-- a number that 32 bits do not hold is past every bound
+abbrev pub value_of : (ℕ → Bool) → Option ℕ → ℕ → Got ℕ
+value_of good (Some n) next = pick (good n) (got n next) wrong
+value_of good None next = wrong
+
+abbrev pub field_of : (ℕ → Bool) → Got (Option ℕ) → Got ℕ
+field_of good g = and_then g (value_of good)
 
 -- the field at `at`, which a test lets in
 unfoldable pub field_at : (ℕ → Bool) → List ℕ → ℕ → Got ℕ

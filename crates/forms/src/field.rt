@@ -4,7 +4,7 @@ ghost use Rattle.laws.specs.Got.{wrong};
 ghost use Rattle.numbers.specs.Number.{most};
 ghost use Rattle.forms.specs.inner.Reading.{any_field, field_below, fields_below, field_read, fields_read};
 
-use groups::{Groups, groups_at};
+use groups::groups_at;
 use numbers::MOST;
 
 // A field, and the place after it; or `ok` is false.
@@ -37,14 +37,16 @@ pub(crate) fn no_field() -> FieldRead
 pub(crate) fn field_at(s: &[u8], at: usize) -> FieldRead
     ensures { result ≡ field_read (any_field s.now at) }
 {
-    match groups_at(s, at, s.len()) {
-        Groups::Is { value, next } => FieldRead {
-            ok: true,
-            value,
-            next,
-        },
-        Groups::Large { next: _ } => no_field(),
-        Groups::Bad => no_field(),
+    let Some(group) = groups_at(s, at, s.len()) else {
+        return no_field();
+    };
+    let Some(value) = group.value else {
+        return no_field();
+    };
+    FieldRead {
+        ok: true,
+        value,
+        next: group.next,
     }
 }
 

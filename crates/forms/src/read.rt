@@ -1,7 +1,7 @@
 // The addresses and instances of a night sheet (document 01, "Night sheet").
 ghost use Rattle.std.specs.Prelude.{◌≡◌};
 ghost use Rattle.laws.specs.Got.{wrong};
-ghost use Rattle.numbers.specs.Number.{number_read};
+ghost use Rattle.octets.specs.Found.{found};
 ghost use Rattle.forms.specs.Instance.{field_at, service_of, address_from, instance_from};
 ghost use Rattle.forms.specs.inner.Reading.{number_from_fields, field_read, forwarded_read, instance_read};
 
@@ -9,7 +9,8 @@ use crate::field::{FieldRead, field_below, fields_below, no_field};
 use crate::form::Form;
 use codes::service_code;
 use instances::{Instance, blank_instance};
-use numbers::{Address, Number, NumberRead, blank_address, blank_number, number_good};
+use numbers::{Address, Number, blank_address, number_good};
+use octets::Found;
 
 // The bounds of the fields of every form: forms of a number unknown and public, octets.
 const FORMS: u32 = 2;
@@ -40,36 +41,25 @@ pub(crate) struct InstanceRead {
     pub(crate) next: usize,
 }
 
-fn no_number() -> NumberRead
-    ensures { result ≡ number_read wrong }
-{
-    let number = blank_number();
-    NumberRead {
-        ok: false,
-        number,
-        next: 0,
-    }
-}
-
 // The number with which the address at `at` begins. Its type and its count are judged as those of a table's number.
-fn number_in(s: &[u8], at: usize) -> NumberRead
-    ensures { result ≡ number_read (number_from_fields s.now at) }
+fn number_in(s: &[u8], at: usize) -> Option<Found<Number>>
+    ensures { result ≡ found (number_from_fields s.now at) }
 {
     let form = field_below(s, at, FORMS);
     if !form.ok {
-        return no_number();
+        return None;
     }
     let kind = field_below(s, form.next, OCTETS);
     if !kind.ok {
-        return no_number();
+        return None;
     }
     let count = field_below(s, kind.next, COUNTS);
     if !count.ok {
-        return no_number();
+        return None;
     }
     let read = fields_below(s, count.next, count.value as usize, DIGITSBELOW, ZERO);
     if !read.ok {
-        return no_number();
+        return None;
     }
     let digits = read.octets;
     let number = Number {
@@ -79,13 +69,12 @@ fn number_in(s: &[u8], at: usize) -> NumberRead
         digits,
     };
     if !number_good(number) {
-        return no_number();
+        return None;
     }
-    NumberRead {
-        ok: true,
-        number,
+    Some(Found {
+        value: number,
         next: read.next,
-    }
+    })
 }
 
 fn no_forwarded() -> ForwardedRead
@@ -103,10 +92,9 @@ fn no_forwarded() -> ForwardedRead
 fn address_in(s: &[u8], at: usize) -> ForwardedRead
     ensures { result ≡ forwarded_read (address_from s.now at) }
 {
-    let read = number_in(s, at);
-    if !read.ok {
+    let Some(read) = number_in(s, at) else {
         return no_forwarded();
-    }
+    };
     let count = field_below(s, read.next, COUNTS);
     if !count.ok {
         return no_forwarded();
@@ -115,7 +103,7 @@ fn address_in(s: &[u8], at: usize) -> ForwardedRead
     if !octets.ok {
         return no_forwarded();
     }
-    let number = read.number;
+    let number = read.value;
     let sub = octets.octets;
     ForwardedRead {
         ok: true,

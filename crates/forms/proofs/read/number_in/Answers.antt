@@ -10,7 +10,7 @@ pub returns-then-not-form : goal.returns-then-not-form
 returns-then-not-form c =
     let a = c.args in
     let none = field_none (field_below _ _ _) _ c.field_below-form.ensures (not-true _ c.if-not-form.true) in
-    rw (number_no_form a.s.now a.at none) c.no_number.ensures
+    rw (number_no_form a.s.now a.at none)
 
 pub returns-then-not-kind : goal.returns-then-not-kind
 returns-then-not-kind c =
@@ -18,7 +18,7 @@ returns-then-not-kind c =
     let form = field_found (field_below _ _ _) _ c.field_below-form.ensures
     (not-false _ c.if-not-form.false) in
     let none = field_none (field_below _ _ _) _ c.field_below-kind.ensures (not-true _ c.if-not-kind.true) in
-    rw (number_no_kind a.s.now a.at _ _ form none) c.no_number-then-not-kind.ensures
+    rw (number_no_kind a.s.now a.at _ _ form none)
 
 pub returns-then-not-count : goal.returns-then-not-count
 returns-then-not-count c =
@@ -29,7 +29,7 @@ returns-then-not-count c =
     let kind = field_found (field_below _ _ _) _ c.field_below-kind.ensures
     (not-false _ c.if-not-kind.false) in
     let none = field_none (field_below _ _ _) _ c.field_below-count.ensures (not-true _ c.if-not-count.true) in
-    rw (number_no_count a.s.now a.at _ _ form _ _ kind none) c.no_number-then-not-count.ensures
+    rw (number_no_count a.s.now a.at _ _ form _ _ kind none)
 
 pub fields_below-read-requires : goal.fields_below-read-requires
 fields_below-read-requires c =
@@ -51,7 +51,7 @@ returns-then-not-read c =
     (not-false _ c.if-not-count.false) in
     let none = fields_none 48 (fields_below _ _ _ _) _ c.fields_below-read.ensures
     (not-true _ c.if-not-read.true) in
-    rw (number_no_digits a.s.now a.at _ _ form _ _ kind _ _ count none) c.no_number-then-not-read.ensures
+    rw (number_no_digits a.s.now a.at _ _ form _ _ kind _ _ count none)
 
 pub overflow_cast-number : goal.overflow_cast-number
 overflow_cast-number c =
@@ -93,7 +93,7 @@ returns-then-not-number_good c =
     c.fields_below-read.ensures
     (not-false _ c.if-not-read.false) in
     rw (number_refused a.s.now a.at _ _ form _ _ kind _ _ count _ digits
-    (sym c.number_good.ensures ∙ c.if-not-number_good.true)) c.no_number-then-not-number_good.ensures
+    (sym c.number_good.ensures ∙ c.if-not-number_good.true))
 
 pub returns : goal.returns
 returns c =
