@@ -1,18 +1,21 @@
 -- What `write_sheet` and `read_sheet` promise together: what one wrote the other reads back, and the other way round. Assumes nothing.
 use Prim.Native.Nat.{ℕ, ◌≤◌, ◌<◌}
-use mathlib.Core.Path.{◌≡◌, sym, ap, ◌∙◌}
+use mathlib.Core.Path.{◌≡◌, refl, sym, ap, ◌∙◌}
 use mathlib.Core.Bool.{true}
 use mathlib.Core.List.{List}
 use native.Mathlib.Omega.{arith}
 use lib.ListN.{length, take, get_or}
 use lib.Dec.{ltb}
 use borrow.Author.Tests.{ltb-true, ltb-false}
+use Rattle.std.specs.Prelude.{Result, Ok, Err}
 use Rattle.laws.specs.Over.{over}
 use Rattle.laws.proofs.Over.{take_over}
 use Rattle.laws.proofs.Picks.{by_bool}
 use Rattle.laws.proofs.Eaches.{Each}
 use Rattle.refusals.specs.Refusal.{tells}
 use Rattle.refusals.proofs.Refusals.{refuses_not}
+use Rattle.refusals.proofs.Handlings.{written_same}
+use Rattle.refusals.specs.declared.refusal.Refusal.{Refusal}
 use Rattle.profile.specs.Access.{access_read}
 use Rattle.lists.specs.Entries.{instances_most}
 use Rattle.exchange.specs.Table.{table_good}
@@ -20,13 +23,9 @@ use Rattle.exchange.specs.declared.table.Table.{Table}
 use Rattle.forms.specs.Form.{form1}
 use Rattle.forms.specs.Size.{sheet_most}
 use Rattle.forms.specs.Sheet.{sheet_octets}
-use Rattle.refusals.specs.Handling.{Made, made, handling_told}
-use Rattle.refusals.specs.declared.handling.Handling.TheVariants.{Done}
-use Rattle.refusals.specs.declared.handling.Written.{Written}
-use Rattle.refusals.proofs.Handlings.{handling_same}
+use Rattle.refusals.specs.Handling.{Made, made}
 use Rattle.instances.specs.Run.{instances_of}
-use Rattle.sheets.specs.Sheets.{wrote_sheet, WritesSheet, read_sheet, ReadsSheet}
-use Rattle.sheets.specs.declared.read.SheetRead.{SheetRead}
+use Rattle.sheets.specs.Sheets.{wrote_sheet, WritesSheet, read_sheet, table_read, ReadsSheet}
 use Rattle.sheets.proofs.WrittenTables.{Arrays}
 use Rattle.sheets.proofs.WrittenSheets.{writes_short, writes_profile, writes_table, writes_sheet, sheet_written_most}
 use Rattle.sheets.proofs.ReadTables.{read_ok, accepted_table, accepted_size, read_good}
@@ -65,24 +64,27 @@ module _ (access : List ℕ) (t : Table) (size : ℕ) (done : (wrote_sheet acces
     octets_back = rw written_octets (table_back access t written_ok written_good arrays)
 
 -- what `write_sheet` wrote, `read_sheet` reads back as a table that holds the same
-module _ (access : List ℕ) (t : Table) (arrays : Each Arrays (instances_of t.run)) (xs : List ℕ) (w : Written) (ys : List ℕ)
-    (wrote : WritesSheet access t xs w ys) (done : w.outcome ≡ Done) where
+module _ (access : List ℕ) (t : Table) (arrays : Each Arrays (instances_of t.run)) (xs : List ℕ) (n : ℕ) (ys : List ℕ)
+    (wrote : WritesSheet access t xs (Ok n) ys) where
   abbrev s : List ℕ
   s = (wrote_sheet access t (length xs)).octets
 
   told : (wrote_sheet access t (length xs)).told ≡ tells tt
-  told = sym wrote.told ∙ ap handling_told done
+  told = sym wrote.told
 
-  sheet_is : take w.count ys ≡ s
+  sheet_is : take n ys ≡ s
   sheet_is = rw (wrote.count, wrote.lent) (take_over xs s (written_fits access t (length xs) told arrays))
 
-  pub written_back : (r : SheetRead) → ReadsSheet access (take w.count ys) r → (r.outcome ≡ Done) × SameInstances t r.table
-  written_back r read =
-      let back = octets_back access t (length xs) told arrays in
-      let same : read_sheet access (take w.count ys) ≡ read_sheet access s = ap (read_sheet access) sheet_is in (
-        handling_same r.outcome Done (read.told ∙ ap (λ q. q.told) same ∙ back.accepted),
-        rw (read.table, same) back.alike,
-      )
+  same : read_sheet access (take n ys) ≡ read_sheet access s
+  same = ap (read_sheet access) sheet_is
+
+  back : ReadsAs access s t
+  back = octets_back access t (length xs) told arrays
+
+  pub written_back :
+      (r : Result Table Refusal) → ReadsSheet access (take n ys) r → (r ≡ Ok (table_read r)) × SameInstances t (table_read r)
+  written_back (Err refusal) read = absurd (refuses_not _ tt (read.told ∙ ap (λ q. q.told) same ∙ back.accepted))
+  written_back (Ok u) read = (refl, rw (read.table, same) back.alike)
 
 -- what is written of the table that an accepted sheet gives is that sheet
 pub accepted_written :
@@ -94,19 +96,19 @@ accepted_written access s small told size room =
 
 -- what `read_sheet` accepts has at most 1,613 octets
 pub sheet_accepted :
-    (access s : List ℕ) → ((i : ℕ) → get_or s i 0 < 256) → (r : SheetRead) → ReadsSheet access s r → r.outcome ≡ Done → length s ≤ 1613
-sheet_accepted access s small r read done = accepted_size access s (sym read.told ∙ ap handling_told done) small
+    (access s : List ℕ) → ((i : ℕ) → get_or s i 0 < 256) → (t : Table) → ReadsSheet access s (Ok t) → length s ≤ 1613
+sheet_accepted access s small t read = accepted_size access s (sym read.told) small
 
 -- what `read_sheet` accepted, `write_sheet` writes again, octet for octet
 pub accepted_again :
-    (access s : List ℕ) → ((i : ℕ) → get_or s i 0 < 256) → (r : SheetRead) → ReadsSheet access s r → r.outcome ≡ Done →
-    (xs : List ℕ) → sheet_most form1 ≤ length xs → (w : Written) (ys : List ℕ) → WritesSheet access r.table xs w ys →
-    (w.outcome ≡ Done) × (w.count ≡ length s) × (ys ≡ over xs 0 s)
-accepted_again access s small r read done xs room w ys wrote =
-    let told : (read_sheet access s).told ≡ tells tt = sym read.told ∙ ap handling_told done in
-    let is : wrote_sheet access r.table (length xs) ≡ made s =
-    ap (λ (t : Table). wrote_sheet access t (length xs)) read.table ∙ accepted_written access s small told (length xs) room in (
-      handling_same w.outcome Done (wrote.told ∙ ap (λ (x : Made). x.told) is),
-      wrote.count ∙ ap (λ (x : Made). length x.octets) is,
+    (access s : List ℕ) → ((i : ℕ) → get_or s i 0 < 256) → (t : Table) → ReadsSheet access s (Ok t) →
+    (xs : List ℕ) → sheet_most form1 ≤ length xs → (w : Result ℕ Refusal) (ys : List ℕ) → WritesSheet access t xs w ys →
+    (w ≡ Ok (length s)) × (ys ≡ over xs 0 s)
+accepted_again access s small t read xs room w ys wrote =
+    let is : wrote_sheet access t (length xs) ≡ made s =
+    ap (λ (u : Table). wrote_sheet access u (length xs)) read.table
+    ∙ accepted_written access s small (sym read.told) (length xs) room in (
+      written_same w (Ok (length s)) (wrote.told ∙ ap (λ (x : Made). x.told) is)
+          (wrote.count ∙ ap (λ (x : Made). length x.octets) is),
       wrote.lent ∙ ap (λ (x : Made). over xs 0 x.octets) is,
     )

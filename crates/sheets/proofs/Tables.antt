@@ -3,6 +3,7 @@ use Prim.Native.Nat.{ℕ}
 use mathlib.Core.Path.{◌≡◌, sym, ap, ◌∙◌}
 use mathlib.Core.Bool.{Bool, true, false, not, false≢true}
 use mathlib.Core.List.{List}
+use Rattle.std.specs.Prelude.{Ok, Err}
 use Rattle.laws.specs.Pick.{pick}
 use Rattle.laws.specs.Got.{Got, got, wrong}
 use Rattle.laws.proofs.Picks.{by_bool}
@@ -10,7 +11,7 @@ use Rattle.refusals.specs.Refusal.{tells}
 use Rattle.refusals.specs.declared.refusal.Refusal.TheVariants.{BadProfile, BadSheet}
 use Rattle.profile.specs.Access.{access_read}
 use Rattle.profile.specs.declared.profile.Profile.{Profile}
-use Rattle.profile.specs.declared.access.AccessRead.{AccessRead}
+use Rattle.profile.proofs.Records.{read_some, read_none}
 use Rattle.lists.specs.Entries.{instances_most}
 use Rattle.instances.specs.Run.{instances_of, packed, instances_good, run_good}
 use Rattle.instances.specs.declared.instance.Instance.{Instance}
@@ -19,13 +20,10 @@ use Rattle.exchange.specs.Table.{table_of}
 use Rattle.forms.specs.Form.{form1}
 use Rattle.forms.specs.Sheet.{Sheet, sheet_in}
 use Rattle.forms.specs.Formed.{ReadForm}
-use Rattle.refusals.specs.declared.handling.Handling.TheVariants.{Done}
 use Rattle.forms.specs.declared.sheet.FormRead.{FormRead}
 use Rattle.forms.proofs.Fits.{form1_short}
 use Rattle.forms.proofs.Sheets.{allowed_packed, FormFound, form_found, form_none}
 use Rattle.sheets.specs.Sheets.{sheet_allowed, table_in, TableRead, not_read, read_sheet, ReadsSheet}
-use Rattle.sheets.specs.inner.Refused.{sheet_refused}
-use Rattle.sheets.specs.declared.read.SheetRead.{SheetRead}
 
 -- ---- the run of a sheet
 
@@ -48,23 +46,20 @@ run_same p is all =
 abbrev pub table_from : Profile → Got Sheet → TableRead
 table_from p g = pick (not (sheet_allowed p g)) (not_read BadSheet) (record { told = tells tt; table = table_in g })
 
-module _ (access s : List ℕ) (a : AccessRead) (read : a ≡ access_read access) where
-  is_ok : (t : Bool) → a.ok ≡ t → (access_read access).ok ≡ t
-  is_ok t h = sym (ap (λ (x : AccessRead). x.ok) read) ∙ h
-
-  pub reads_profile : a.ok ≡ false → (r : SheetRead) → r ≡ sheet_refused BadProfile → ReadsSheet access s r
+module _ (access s : List ℕ) where
+  pub reads_profile : (access_read access).ok ≡ false → ReadsSheet access s (Err BadProfile)
   unfolding read_sheet
-  reads_profile h r e = record { told = rw (e, is_ok false h); table = rw (e, is_ok false h) }
+  reads_profile bad = record { told = rw bad; table = rw bad }
 
-  module _ (ok : a.ok ≡ true) (f : FormRead) (told : ReadForm s f) where
-    reads_from : (g : Got Sheet) → sheet_in form1 s ≡ g → read_sheet access s ≡ table_from a.profile g
+  module _ (p : Profile) (read : ((access_read access).ok ≡ true) × ((access_read access).profile ≡ p))
+      (f : FormRead) (told : ReadForm s f) where
+    reads_from : (g : Got Sheet) → sheet_in form1 s ≡ g → read_sheet access s ≡ table_from p g
     unfolding read_sheet
-    reads_from g e = rw (is_ok true ok, e, ← read)
+    reads_from g e = rw (read.0, e, read.1)
 
     -- no sheet
-    pub reads_form : f.ok ≡ false → (r : SheetRead) → r ≡ sheet_refused BadSheet → ReadsSheet access s r
-    reads_form h r e =
-        let none = reads_from wrong (form_none s f told h) in record { told = rw (e, none); table = rw (e, none) }
+    pub reads_form : f.ok ≡ false → ReadsSheet access s (Err BadSheet)
+    reads_form h = let none = reads_from wrong (form_none s f told h) in record { told = rw none; table = rw none }
 
     module _ (whole : f.ok ≡ true) where
       was : FormFound s f
@@ -73,26 +68,26 @@ module _ (access s : List ℕ) (a : AccessRead) (read : a ≡ access_read access
       abbrev is : List Instance
       is = was.sheet.instances
 
-      run_is : (t : Bool) → run_good instances_most a.profile f.run ≡ t → instances_good instances_most a.profile is ≡ t
+      run_is : (t : Bool) → run_good instances_most p f.run ≡ t → instances_good instances_most p is ≡ t
       run_is t h =
-          sym (run_same a.profile is (allowed_packed form1 form1_short was.sheet was.allowed))
-          ∙ ap (run_good instances_most a.profile) (sym was.run)
+          sym (run_same p is (allowed_packed form1 form1_short was.sheet was.allowed))
+          ∙ ap (run_good instances_most p) (sym was.run)
           ∙ h
 
-      read_is : read_sheet access s ≡ table_from a.profile (got was.sheet was.next)
+      read_is : read_sheet access s ≡ table_from p (got was.sheet was.next)
       read_is = reads_from (got was.sheet was.next) was.is
 
       -- one that breaks a rule of the profile
-      pub reads_outside :
-          run_good instances_most a.profile f.run ≡ false → (r : SheetRead) → r ≡ sheet_refused BadSheet → ReadsSheet access s r
-      reads_outside h r e = record { told = rw (e, read_is, run_is false h); table = rw (e, read_is, run_is false h) }
+      pub reads_outside : run_good instances_most p f.run ≡ false → ReadsSheet access s (Err BadSheet)
+      reads_outside h = record { told = rw (read_is, run_is false h); table = rw (read_is, run_is false h) }
 
       -- one that breaks none
-      pub reads_table :
-          run_good instances_most a.profile f.run ≡ true →
-          ReadsSheet access s (record { outcome = Done; table = table_of f.last f.run })
+      pub reads_table : run_good instances_most p f.run ≡ true → ReadsSheet access s (Ok (table_of f.last f.run))
       reads_table h = record {
         told = rw (read_is, run_is true h);
         table = rw (read_is, run_is true h)
             (ap (λ (last : ℕ). table_of last f.run) was.last ∙ ap (table_of was.sheet.last) was.run);
       }
+
+-- what finds each way out of `read_sheet`
+pub ruleset reads = (reads_profile, reads_form, reads_outside, reads_table, read_none, read_some)

@@ -8,14 +8,16 @@ use native.Mathlib.Omega.{arith}
 use lib.ListN.{length}
 use lib.Dec.{ltb}
 use borrow.Author.Tests.{lt-ltb, le-ltb, not-false}
+use Rattle.std.specs.Prelude.{Ok, Err}
 use Rattle.laws.specs.Over.{Wrote}
 use Rattle.laws.proofs.Over.{over_nil}
+use Rattle.laws.proofs.Cases.{cases}
 use Rattle.laws.proofs.Picks.{pick_ind}
 use Rattle.laws.proofs.Eaches.{Each}
 use Rattle.refusals.specs.declared.refusal.Refusal.{Refusal}
 use Rattle.refusals.specs.declared.refusal.Refusal.TheVariants.{ShortOutput, BadProfile, BadTable}
 use Rattle.profile.specs.Access.{access_read}
-use Rattle.profile.proofs.Records.{access_good}
+use Rattle.profile.proofs.Records.{access_good, read_some, read_none}
 use Rattle.lists.specs.Entries.{instances_most}
 use Rattle.instances.specs.Places.{run_most}
 use Rattle.instances.specs.Run.{instances_of}
@@ -25,9 +27,7 @@ use Rattle.exchange.proofs.Tables.{table_good_lem}
 use Rattle.forms.specs.Form.{form1}
 use Rattle.forms.specs.Size.{sheet_most}
 use Rattle.forms.specs.Sheet.{sheet_octets}
-use Rattle.refusals.specs.Handling.{Made, not_made, made, not_written}
-use Rattle.refusals.specs.declared.handling.Handling.TheVariants.{Done}
-use Rattle.refusals.specs.declared.handling.Written.{Written}
+use Rattle.refusals.specs.Handling.{Made, not_made, made}
 use Rattle.sheets.specs.Sheets.{wrote_sheet, WritesSheet}
 use Rattle.sheets.specs.inner.Write.{Space, AllWritable}
 use Rattle.sheets.proofs.WrittenTables.{Arrays, instances_few, instances_count, table_writable, sheet_fits}
@@ -69,21 +69,17 @@ sheet_written_most access t size arrays =
 
 -- what is refused writes nothing
 pub refused_writes :
-    (access : List ℕ) (t : Table) (xs : List ℕ) (refusal : Refusal) (r : Written) →
-    wrote_sheet access t (length xs) ≡ not_made refusal → r ≡ not_written refusal →
-    WritesSheet access t xs r xs
-refused_writes access t xs refusal r is e = record {
-  told = rw (is, e);
-  count = rw (is, e);
-  lent = rw is (sym (over_nil xs 0));
-}
+    (access : List ℕ) (t : Table) (xs : List ℕ) (refusal : Refusal) →
+    wrote_sheet access t (length xs) ≡ not_made refusal →
+    WritesSheet access t xs (Err refusal) xs
+refused_writes access t xs refusal is = record { told = rw is; count = rw is; lent = rw is (sym (over_nil xs 0)) }
 
 -- what is not refused is written whole
 pub sheet_writes :
     (access : List ℕ) (t : Table) (xs : List ℕ) (n : ℕ) (ys : List ℕ) →
     wrote_sheet access t (length xs) ≡ made (sheet_octets form1 t.last (instances_of t.run)) →
     Wrote xs 0 (sheet_octets form1 t.last (instances_of t.run)) n ys →
-    WritesSheet access t xs (record { outcome = Done; count = n }) ys
+    WritesSheet access t xs (Ok n) ys
 sheet_writes access t xs n ys is w = record {
   told = rw is;
   count = rw is (w.moved ∙ zero-add _);
@@ -116,3 +112,6 @@ ready access t xs enough ok good long =
       space = omega (arith, few, enough);
       writable = table_writable p t good (access_good access ok);
     }
+
+-- what finds that a refusal is promised
+pub ruleset writes = (cases, over_nil, read_some, read_none)

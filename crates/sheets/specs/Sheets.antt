@@ -1,5 +1,5 @@
 -- Night sheets against a profile: a table is written as one, and one is read as a table (document 01, "Night sheet", "Local refusals").
-use Rattle.std.specs.Prelude.{ℕ, ◌≡◌, Bool, false, not, List, [], ◌∷◌, length, ltb}
+use Rattle.std.specs.Prelude.{ℕ, ◌≡◌, Bool, false, not, List, [], ◌∷◌, length, ltb, Result, Ok, Err}
 use Rattle.laws.specs.Tests.{test, first}
 use Rattle.laws.specs.Got.{Got, got, wrong}
 use Rattle.laws.specs.Over.{over}
@@ -15,9 +15,7 @@ use Rattle.exchange.specs.declared.table.Table.{Table}
 use Rattle.forms.specs.Form.{form1}
 use Rattle.forms.specs.Size.{sheet_most}
 use Rattle.forms.specs.Sheet.{Sheet, sheet_octets, sheet_in}
-use Rattle.refusals.specs.Handling.{handling_told, Made, not_made, made}
-use Rattle.refusals.specs.declared.handling.Written.{Written}
-use Rattle.sheets.specs.declared.read.SheetRead.{SheetRead}
+use Rattle.refusals.specs.Handling.{handling_told, written_count, Made, not_made, made}
 
 -- ---- a table is written
 
@@ -33,9 +31,9 @@ wrote_sheet access t size =
     (made (sheet_octets form1 t.last (instances_of t.run)))
 
 -- what `write_sheet` promises: the refusal, how many octets the sheet has, and every octet of the output
-pub record WritesSheet (access : List ℕ) (t : Table) (xs : List ℕ) (r : Written) (ys : List ℕ) : Type 0 where
-  pub told : handling_told r.outcome ≡ (wrote_sheet access t (length xs)).told
-  pub count : r.count ≡ length (wrote_sheet access t (length xs)).octets
+pub record WritesSheet (access : List ℕ) (t : Table) (xs : List ℕ) (r : Result ℕ Refusal) (ys : List ℕ) : Type 0 where
+  pub told : handling_told r ≡ (wrote_sheet access t (length xs)).told
+  pub count : written_count r ≡ length (wrote_sheet access t (length xs)).octets
   pub lent : ys ≡ over xs 0 (wrote_sheet access t (length xs)).octets
 
 -- ---- a sheet is read
@@ -68,7 +66,12 @@ read_sheet access s =
     not_read
     (record { told = tells tt; table = table_in (sheet_in form1 s) })
 
--- what `read_sheet` promises: the refusal and the table; where the sheet is refused, that of a new access, which says nothing of the sheet
-pub record ReadsSheet (access s : List ℕ) (r : SheetRead) : Type 0 where
-  pub told : handling_told r.outcome ≡ (read_sheet access s).told
-  pub table : r.table ≡ (read_sheet access s).table
+-- the table that was read; where the sheet is refused, that of a new access, which says nothing of the sheet
+abbrev pub table_read : Result Table Refusal → Table
+table_read (Ok t) = t
+table_read (Err _) = fresh_table
+
+-- what `read_sheet` promises: the refusal and the table
+pub record ReadsSheet (access s : List ℕ) (r : Result Table Refusal) : Type 0 where
+  pub told : handling_told r ≡ (read_sheet access s).told
+  pub table : table_read r ≡ (read_sheet access s).table

@@ -1,3 +1,2 @@
 -- What only private functions promise.
-pub mod Refused
 pub mod Write

@@ -4,5 +4,5 @@
 mod read;
 mod write;
 
-pub use read::{SheetRead, read_sheet};
+pub use read::read_sheet;
 pub use write::write_sheet;

@@ -1,52 +1,29 @@
 // A night sheet is read against a profile, as a table (document 01, "Night sheet").
-ghost use Rattle.std.specs.Prelude.{◌≡◌};
 ghost use Rattle.sheets.specs.Sheets.{ReadsSheet};
-ghost use Rattle.sheets.specs.inner.Refused.{sheet_refused};
 
-use exchange::{Table, fresh_table};
+use exchange::Table;
 use forms::read_form;
 use profile::read_access;
-use refusals::{Handling, Refusal};
-
-// The table that was read; where the sheet is refused, that of a new access, which says nothing of the sheet.
-#[derive(Clone, Copy)]
-pub struct SheetRead {
-    pub outcome: Handling,
-    pub table: Table,
-}
-
-fn refuses(refusal: Refusal) -> SheetRead
-    ensures { result ≡ sheet_refused refusal }
-{
-    let table = fresh_table();
-    SheetRead {
-        outcome: Handling::Refuses { refusal },
-        table,
-    }
-}
+use refusals::Refusal;
 
 // The table that a sheet holds, by the profile of an access.
-pub fn read_sheet(access: &[u8], sheet: &[u8]) -> SheetRead
+#[tactic(auto, using(crate::proofs::Tables::reads))]
+pub fn read_sheet(access: &[u8], sheet: &[u8]) -> Result<Table, Refusal>
     ensures { ReadsSheet access.now sheet.now result }
 {
-    let read = read_access(access);
-    if !read.ok {
-        return refuses(Refusal::BadProfile);
-    }
-    let p = read.profile;
+    let Some(p) = read_access(access) else {
+        return Err(Refusal::BadProfile);
+    };
     let form = read_form(sheet);
     if !form.ok {
-        return refuses(Refusal::BadSheet);
+        return Err(Refusal::BadSheet);
     }
     let run = form.run;
     if !run.good(p) {
-        return refuses(Refusal::BadSheet);
+        return Err(Refusal::BadSheet);
     }
-    SheetRead {
-        outcome: Handling::Done,
-        table: Table {
-            last: form.last,
-            run,
-        },
-    }
+    Ok(Table {
+        last: form.last,
+        run,
+    })
 }

@@ -14,7 +14,7 @@ use groups::put_groups;
 use instances::{Instance, ROOM, Run};
 use numbers::{Address, MOST};
 use profile::read_access;
-use refusals::{Handling, Refusal, Written, not_written};
+use refusals::Refusal;
 
 // The most octets of an instance, and of a sheet: form, last handled and count are five.
 const INSTANCEMOST: usize = 67;
@@ -87,19 +87,18 @@ fn write_run(out: &mut [u8], at: usize, run: Run) -> usize
 }
 
 // The table as a sheet at the start of the output, and how many octets that has.
-pub fn write_sheet(table: Table, access: &[u8], out: &mut [u8]) -> Written
+#[tactic(auto, using(crate::proofs::WrittenSheets::writes), unfolding(crate::specs::Sheets::wrote_sheet))]
+pub fn write_sheet(table: Table, access: &[u8], out: &mut [u8]) -> Result<usize, Refusal>
     ensures { WritesSheet access.now table out.old result out.new }
 {
     if out.len() < SHEETMOST {
-        return not_written(Refusal::ShortOutput);
+        return Err(Refusal::ShortOutput);
     }
-    let read = read_access(access);
-    if !read.ok {
-        return not_written(Refusal::BadProfile);
-    }
-    let profile = read.profile;
+    let Some(profile) = read_access(access) else {
+        return Err(Refusal::BadProfile);
+    };
     if !table.good(profile) {
-        return not_written(Refusal::BadTable);
+        return Err(Refusal::BadTable);
     }
     let run = table.run;
     let f = form_one();
@@ -107,8 +106,5 @@ pub fn write_sheet(table: Table, access: &[u8], out: &mut [u8]) -> Written
     let q = put_groups(out, p, table.last as u32);
     let k = put_groups(out, q, run.count as u32);
     let count = write_run(out, k, run);
-    Written {
-        outcome: Handling::Done,
-        count,
-    }
+    Ok(count)
 }
