@@ -7,13 +7,12 @@ use native.Mathlib.Omega.{arith}
 use lib.ListN.{length, get_or}
 use lib.Dec.{ltb}
 use borrow.Author.Tests.{le-ltb, not-false}
+use Rattle.std.specs.Prelude.{Ok}
 use Rattle.laws.specs.Got.{Got, got, wrong}
 use Rattle.laws.specs.Over.{over}
 use Rattle.laws.proofs.Picks.{pick_ind}
 use Rattle.refusals.specs.Refusal.{tells}
-use Rattle.refusals.specs.Handling.{Made, handling_told}
-use Rattle.refusals.specs.declared.handling.Handling.TheVariants.{Done}
-use Rattle.refusals.specs.declared.handling.Written.{Written}
+use Rattle.refusals.specs.Handling.{Made}
 use Rattle.refusals.proofs.Refusals.{refuses_not}
 use Rattle.forms.specs.Form.{form1}
 use Rattle.forms.specs.Sheet.{Sheet, sheet_in}
@@ -36,9 +35,8 @@ module _ (s : List ℕ) (small : (i : ℕ) → get_or s i 0 < 256) where
       pick_ind P (not (is_sheet (sheet_in form1 s))) (λ _ h. absurd (refuses_not _ tt h)) (λ is _. is_most (not-false _ is)))
 
   -- what `list_sheet` lists has at most 1,613 octets
-  pub listed_accepted :
-      (xs : List ℕ) (r : Written) (ys : List ℕ) → ListsSheet s xs r ys → r.outcome ≡ Done → length s ≤ 1613
-  listed_accepted xs r ys lists done = listed_size (length xs) (sym lists.told ∙ ap handling_told done)
+  pub listed_accepted : (xs : List ℕ) (n : ℕ) (ys : List ℕ) → ListsSheet s xs (Ok n) ys → length s ≤ 1613
+  listed_accepted xs n ys lists = listed_size (length xs) (sym lists.told)
 
   printed_long : (size : ℕ) → listing_most form1 ≤ size → 1613 < length s → printed_sheet s size ≡ refused_line
   unfolding printed_sheet

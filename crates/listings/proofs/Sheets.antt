@@ -9,6 +9,7 @@ use lib.ListN.{length, length-append, length-take}
 use lib.Seq.{length-take-le}
 use lib.Dec.{ltb}
 use borrow.Author.Tests.{lt-ltb, le-ltb, ltb-false}
+use Rattle.std.specs.Prelude.{Ok, Err}
 use Rattle.laws.specs.Got.{Got, got, wrong}
 use Rattle.laws.specs.Over.{Wrote, Puts}
 use Rattle.laws.proofs.Over.{wrote, length_over, over_nil, then, room_then}
@@ -24,9 +25,6 @@ use Rattle.instances.proofs.Goods.{Few, few_of}
 use Rattle.forms.specs.Form.{form1}
 use Rattle.forms.specs.Sheet.{Sheet, sheet_in}
 use Rattle.forms.specs.Formed.{ReadForm}
-use Rattle.refusals.specs.Handling.{not_written}
-use Rattle.refusals.specs.declared.handling.Handling.TheVariants.{Done}
-use Rattle.refusals.specs.declared.handling.Written.{Written}
 use Rattle.forms.specs.declared.sheet.FormRead.{FormRead}
 use Rattle.forms.proofs.Fits.{FieldsFit, held_small, order_of, form1_short}
 use Rattle.forms.proofs.Sheets.{Allowed, sheet_allowed_lem, allowed_room, FormFound, form_found, form_none}
@@ -151,12 +149,11 @@ unfolding refused_line line_of
 refused_text = rw (decimal_one 9 (omega arith))
 
 module _ (s xs : List ℕ) where
-  pub lists_short :
-      length xs < listing_most form1 → (r : Written) → r ≡ not_written ShortOutput → ListsSheet s xs r xs
+  pub lists_short : length xs < listing_most form1 → ListsSheet s xs (Err ShortOutput) xs
   unfolding listed_sheet
-  lists_short short r e =
+  lists_short short =
       let is = lt-ltb (length xs) (listing_most form1) short in
-      record { told = rw (is, e); count = rw (is, e); lent = rw is (sym (over_nil xs 0)) }
+      record { told = rw is; count = rw is; lent = rw is (sym (over_nil xs 0)) }
 
   pub prints_short : length xs < listing_most form1 → PrintsSheet s xs 0 xs
   unfolding printed_sheet
@@ -172,11 +169,11 @@ module _ (s xs : List ℕ) where
       none : sheet_in form1 s ≡ wrong
       none = form_none s r told bad
 
-      pub lists_none : (w : Written) → w ≡ not_written BadSheet → ListsSheet s xs w xs
+      pub lists_none : ListsSheet s xs (Err BadSheet) xs
       unfolding listed_sheet
-      lists_none w e = record {
-        told = rw (wide, none, e);
-        count = rw (wide, none, e);
+      lists_none = record {
+        told = rw (wide, none);
+        count = rw (wide, none);
         lent = rw (wide, none) (sym (over_nil xs 0));
       }
 
@@ -197,7 +194,7 @@ module _ (s xs : List ℕ) where
       whole : Wrote xs 0 (listing form1 (found s r told ok).sheet) n ys
       whole = rw (same_sheet s r told ok) at w
 
-      pub lists_sheet : ListsSheet s xs (record { outcome = Done; count = n }) ys
+      pub lists_sheet : ListsSheet s xs (Ok n) ys
       unfolding listed_sheet
       lists_sheet = record {
         told = rw (wide, is_sheet_lem);

@@ -1,11 +1,12 @@
 -- The listing of a night sheet: "prints `form 1 last 2 count 1` then `cfb 0 1 u 24680 -`: procedure, number index, service, u or p with
 -- type (p1), digits, subaddress in lowercase hex or -. Otherwise `refused 9`." (document 01, "Samples")
-use Rattle.std.specs.Prelude.{ℕ, zero, suc, ◌+◌, ◌*◌, ◌/◌, ◌%◌, ◌≡◌, Bool, true, false, not, List, [], ◌∷◌, ◌++◌, length, take, ltb, eqb}
+use Rattle.std.specs.Prelude.{ℕ, zero, suc, ◌+◌, ◌*◌, ◌/◌, ◌%◌, ◌≡◌, Bool, true, false, not, List, [], ◌∷◌, ◌++◌, length, take, ltb, eqb, Result}
 use Rattle.laws.specs.Pick.{pick}
 use Rattle.laws.specs.Tests.{test, first}
 use Rattle.laws.specs.Got.{Got, got, wrong}
 use Rattle.laws.specs.Over.{over}
 use Rattle.refusals.specs.Refusal.{refusal_no}
+use Rattle.refusals.specs.declared.refusal.Refusal.{Refusal}
 use Rattle.refusals.specs.declared.refusal.Refusal.TheVariants.{ShortOutput, BadSheet}
 use Rattle.numbers.specs.Number.{unknown, digits_of}
 use Rattle.numbers.specs.declared.address.Address.{Address}
@@ -13,8 +14,7 @@ use Rattle.forms.specs.Form.{form1}
 use Rattle.forms.specs.declared.form.Form.{Form}
 use Rattle.instances.specs.declared.instance.Instance.{Instance}
 use Rattle.forms.specs.Sheet.{Sheet, sheet_in}
-use Rattle.refusals.specs.Handling.{handling_told, Made, not_made, made}
-use Rattle.refusals.specs.declared.handling.Written.{Written}
+use Rattle.refusals.specs.Handling.{handling_told, written_count, Made, not_made, made}
 
 -- ---- words
 
@@ -134,9 +134,9 @@ listed_sheet s size =
     (made (listing_in (sheet_in form1 s)))
 
 -- what `list_sheet` promises: the refusal, how many octets the listing has, and every octet of the output
-pub record ListsSheet (s xs : List ℕ) (r : Written) (ys : List ℕ) : Type 0 where
-  pub told : handling_told r.outcome ≡ (listed_sheet s (length xs)).told
-  pub count : r.count ≡ length (listed_sheet s (length xs)).octets
+pub record ListsSheet (s xs : List ℕ) (r : Result ℕ Refusal) (ys : List ℕ) : Type 0 where
+  pub told : handling_told r ≡ (listed_sheet s (length xs)).told
+  pub count : written_count r ≡ length (listed_sheet s (length xs)).octets
   pub lent : ys ≡ over xs 0 (listed_sheet s (length xs)).octets
 
 -- ---- what the listing program prints

@@ -11,7 +11,7 @@ use crate::line::{write_header, write_lines};
 use forms::read_form;
 use instances::Run;
 use octets::put_all;
-use refusals::{Handling, Refusal, Written, not_written};
+use refusals::Refusal;
 
 // The most octets of a listing: 27 of its header, and at most 8 lines of each procedure, which have 74 for cfu, 74 for cfb and 75 for cfnr.
 const LISTINGMOST: usize = 27 + 8 * (74 + 74 + 75);
@@ -26,22 +26,19 @@ fn write_listing(out: &mut [u8], last: u16, run: Run) -> usize
 }
 
 // The listing of a sheet at the start of the output, and how many octets that has.
-pub fn list_sheet(s: &[u8], out: &mut [u8]) -> Written
+pub fn list_sheet(s: &[u8], out: &mut [u8]) -> Result<usize, Refusal>
     ensures { ListsSheet s.now out.old result out.new }
 {
     if out.len() < LISTINGMOST {
-        return not_written(Refusal::ShortOutput);
+        return Err(Refusal::ShortOutput);
     }
     let form = read_form(s);
     if !form.ok {
-        return not_written(Refusal::BadSheet);
+        return Err(Refusal::BadSheet);
     }
     let run = form.run;
     let count = write_listing(out, form.last, run);
-    Written {
-        outcome: Handling::Done,
-        count,
-    }
+    Ok(count)
 }
 
 // What the listing program prints, and how many octets that has; nothing where there is no room for the longest listing.

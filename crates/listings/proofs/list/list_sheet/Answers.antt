@@ -7,13 +7,13 @@ use Rattle.listings.proofs.list.list_sheet.Goals as goal
 pub returns-then-out-lt-LISTINGMOST : goal.returns-then-out-lt-LISTINGMOST
 returns-then-out-lt-LISTINGMOST c =
     let a = c.args in
-    lists_short a.s.now a.out.now (omega (arith, listing_octets_lem, c.if-out-lt-LISTINGMOST.true)) _ c.not_written.ensures
+    lists_short a.s.now a.out.now (omega (arith, listing_octets_lem, c.if-out-lt-LISTINGMOST.true))
 
 pub returns-then-not-form : goal.returns-then-not-form
 returns-then-not-form c =
     let a = c.args in
     lists_none a.s.now a.out.now (omega (arith, listing_octets_lem, c.if-out-lt-LISTINGMOST.false)) _
-    c.read_form-form.ensures (not-true _ c.if-not-form.true) _ c.not_written-then-not-form.ensures
+    c.read_form-form.ensures (not-true _ c.if-not-form.true)
 
 pub write_listing-count-requires : goal.write_listing-count-requires
 write_listing-count-requires c =
