@@ -7,7 +7,7 @@ mod input;
 use explanations::explain;
 use hex::octets_in;
 use input::read_full;
-use refusals::{Handling, Refusal, refusal_no};
+use refusals::Refusal;
 use std::io;
 
 // Room for the input; more is said to be too much.
@@ -51,19 +51,14 @@ fn each(rt: &impl Print, line: &[u8]) -> io::Result<()> {
 
 fn told(rt: &impl Print, component: &[u8]) -> io::Result<()> {
     let mut out = [0u8; LONGEST];
-    let written = explain(component, &mut out);
-    let outcome = written.outcome;
-    match outcome {
-        Handling::Refuses { refusal } => refused(rt, refusal),
-        Handling::Done => {
-            let count = written.count;
-            say(rt, &out[..count])
-        }
+    match explain(component, &mut out) {
+        Ok(count) => say(rt, &out[..count]),
+        Err(refusal) => refused(rt, refusal),
     }
 }
 
 fn refused(rt: &impl Print, refusal: Refusal) -> io::Result<()> {
     say(rt, b"refused ")?;
-    rt.print(refusal_no(refusal))?;
+    rt.print(u8::from(refusal))?;
     say(rt, b"\n")
 }

@@ -6,13 +6,13 @@ use native.Mathlib.Omega.{arith}
 use lib.ListN.{length}
 use lib.Dec.{ltb}
 use borrow.Author.Tests.{lt-ltb, le-ltb, ltb-false}
+use Rattle.std.specs.Prelude.{Result, Ok, Err}
 use Rattle.laws.proofs.Picks.{pick_ind}
 use Rattle.laws.proofs.Over.{over_nil, length_over}
 use Rattle.refusals.specs.Refusal.{component_most}
-use Rattle.refusals.specs.Handling.{Made, not_made, made, not_written}
+use Rattle.refusals.specs.Handling.{written_count, Made, not_made, made}
+use Rattle.refusals.specs.declared.refusal.Refusal.{Refusal}
 use Rattle.refusals.specs.declared.refusal.Refusal.TheVariants.{ShortOutput, LongComponent}
-use Rattle.refusals.specs.declared.handling.Handling.TheVariants.{Done}
-use Rattle.refusals.specs.declared.handling.Written.{Written}
 use Rattle.skip.specs.Depth.{component_depth}
 use Rattle.explanations.specs.Elements.{lines_in}
 use Rattle.explanations.specs.Explained.{said, explained, explanation_most, explained_in, Explains}
@@ -21,19 +21,19 @@ use Rattle.explanations.proofs.Pens.{pen_then}
 use Rattle.explanations.proofs.Longest.{explained_most}
 
 module _ (s xs : List ℕ) where
-  pub explains_short : length xs < explanation_most → (r : Written) → r ≡ not_written ShortOutput → Explains s xs r xs
+  pub explains_short : length xs < explanation_most → Explains s xs (Err ShortOutput) xs
   unfolding explained_in
-  explains_short short r e =
+  explains_short short =
       let is = lt-ltb (length xs) explanation_most short in
-      record { told = rw (is, e); count = rw (is, e); lent = rw is (sym (over_nil xs 0)) }
+      record { told = rw is; count = rw is; lent = rw is (sym (over_nil xs 0)) }
 
   module _ (wide : explanation_most ≤ length xs) where
-    pub explains_long : component_most < length s → (r : Written) → r ≡ not_written LongComponent → Explains s xs r xs
+    pub explains_long : component_most < length s → Explains s xs (Err LongComponent) xs
     unfolding explained_in
-    explains_long long r e =
+    explains_long long =
         let room = le-ltb (length xs) explanation_most wide in
         let is = lt-ltb component_most (length s) long in
-        record { told = rw (room, is, e); count = rw (room, is, e); lent = rw (room, is) (sym (over_nil xs 0)) }
+        record { told = rw (room, is); count = rw (room, is); lent = rw (room, is) (sym (over_nil xs 0)) }
 
     -- the elements, and then what the component is
     module _ (few : length s ≤ component_most) {p : ℕ} {ys : List ℕ}
@@ -45,7 +45,7 @@ module _ (s xs : List ℕ) where
       counted : n ≡ length (explained s)
       counted = omega (arith, whole.moved, explained_most s few)
 
-      pub explains_all : Explains s xs (record { outcome = Done; count = n }) zs
+      pub explains_all : Explains s xs (Ok n) zs
       unfolding explained_in
       explains_all =
           let room = le-ltb (length xs) explanation_most wide in
@@ -66,7 +66,7 @@ octets_fit s size =
       ltb-false size explanation_most e,
     )))
 
-pub explains_within : {s xs : List ℕ} {r : Written} {ys : List ℕ} → Explains s xs r ys → r.count ≤ length ys
+pub explains_within : {s xs : List ℕ} {r : Result ℕ Refusal} {ys : List ℕ} → Explains s xs r ys → written_count r ≤ length ys
 explains_within {s} {xs} w =
     omega (
       arith,

@@ -1,6 +1,6 @@
 -- A component told in words: its elements, and then the request or reply that it is, or the row of document 01's table at which reading
 -- stops and what is answered (document 01, "Replies, in the order checked").
-use Rattle.std.specs.Prelude.{ℕ, ◌+◌, ◌*◌, ◌≡◌, Bool, List, [], ◌∷◌, ◌++◌, ℤ, pos, negsuc, length, ltb, eqb}
+use Rattle.std.specs.Prelude.{ℕ, ◌+◌, ◌*◌, ◌≡◌, Bool, List, [], ◌∷◌, ◌++◌, ℤ, pos, negsuc, length, ltb, eqb, Result}
 use Rattle.laws.specs.Pick.{pick}
 use Rattle.laws.specs.Tests.{any, test, first}
 use Rattle.laws.specs.Got.{Got, got, wrong}
@@ -20,9 +20,9 @@ use Rattle.requests.specs.declared.heard.Heard.TheVariants.{NotOne, Silent, Othe
 use Rattle.requests.specs.declared.heard.Operation.{Operation}
 use Rattle.requests.specs.declared.request.Request.{Request}
 use Rattle.refusals.specs.Refusal.{component_most}
-use Rattle.refusals.specs.Handling.{handling_told, Made, not_made, made}
+use Rattle.refusals.specs.Handling.{handling_told, written_count, Made, not_made, made}
+use Rattle.refusals.specs.declared.refusal.Refusal.{Refusal}
 use Rattle.refusals.specs.declared.refusal.Refusal.TheVariants.{ShortOutput, LongComponent}
-use Rattle.refusals.specs.declared.handling.Written.{Written}
 use Rattle.explanations.specs.Text.{chars, signed_text, request_line}
 use Rattle.explanations.specs.Elements.{lines_in}
 
@@ -132,7 +132,7 @@ explained_in s size =
     (made (explained s))
 
 -- what `explain` promises: the refusal, how many octets the explanation has, and every octet of the output
-pub record Explains (s xs : List ℕ) (r : Written) (ys : List ℕ) : Type 0 where
-  pub told : handling_told r.outcome ≡ (explained_in s (length xs)).told
-  pub count : r.count ≡ length (explained_in s (length xs)).octets
+pub record Explains (s xs : List ℕ) (r : Result ℕ Refusal) (ys : List ℕ) : Type 0 where
+  pub told : handling_told r ≡ (explained_in s (length xs)).told
+  pub count : written_count r ≡ length (explained_in s (length xs)).octets
   pub lent : ys ≡ over xs 0 (explained_in s (length xs)).octets
