@@ -9,7 +9,7 @@ use borrow.Author.Tests.{le-leb, lt-leb, leb-true, leb-false}
 use Rattle.laws.proofs.Picks.{by_bool}
 use Rattle.octets.specs.Head.{head_at}
 use Rattle.octets.specs.declared.head.Head.{Head}
-use Rattle.octets.specs.declared.head.Head.TheVariants as head
+use Rattle.std.specs.Prelude.{Option, Some, None}
 use Rattle.octets.proofs.Within.{Within, within, head_none}
 use Rattle.skip.specs.Depth.{component_depth}
 use Rattle.explanations.specs.Text.{chars}
@@ -33,10 +33,10 @@ abbrev pub FurtherLines : ℕ → ℕ → ℕ → Type 0
 FurtherLines at end next = (at < next) × (next ≤ end)
 
 lines_further :
-    (inner : ℕ → ℕ → List ℕ) (depth size : ℕ) (s : List ℕ) (at end : ℕ) (x : Head) → at < end → Within depth size at end x →
+    (inner : ℕ → ℕ → List ℕ) (depth size : ℕ) (s : List ℕ) (at end : ℕ) (x : Option Head) → at < end → Within depth size at end x →
     FurtherLines at end (lines_of inner depth s at end x).next
-lines_further inner depth size s at end (head.Is tag start stop next) h w = (omega (arith, w.starts, w.stops, w.nexts), w.ends)
-lines_further inner depth size s at end head.Bad h w = (h, omega arith)
+lines_further inner depth size s at end (Some x) h w = (omega (arith, w.starts, w.stops, w.nexts), w.ends)
+lines_further inner depth size s at end None h w = (h, omega arith)
 
 pub further : (depth : ℕ) (s : List ℕ) (at end : ℕ) → at < end → FurtherLines at end (element_lines depth s at end).next
 unfolding element_lines

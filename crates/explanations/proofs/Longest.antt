@@ -12,7 +12,7 @@ use Rattle.laws.specs.Pick.{pick}
 use Rattle.laws.proofs.Picks.{by_bool, pick_ind}
 use Rattle.octets.specs.Head.{head_at}
 use Rattle.octets.specs.declared.head.Head.{Head}
-use Rattle.octets.specs.declared.head.Head.TheVariants as head
+use Rattle.std.specs.Prelude.{Option, Some, None}
 use Rattle.octets.proofs.Within.{Within, within}
 use Rattle.refusals.specs.Refusal.{component_most}
 use Rattle.skip.specs.Depth.{component_depth}
@@ -96,21 +96,21 @@ module _ (s : List ℕ) where
 module _ (s : List ℕ) (inner : ℕ → ℕ → List ℕ)
     (few : (start stop : ℕ) → stop ≤ length s → length (inner start stop) ≤ octet_most * (stop - start)) where
   head_most :
-      (depth at end : ℕ) (x : Head) → at < end → end ≤ length s → Within depth (length s) at end x →
+      (depth at end : ℕ) (x : Option Head) → at < end → end ≤ length s → Within depth (length s) at end x →
       length (lines_of inner depth s at end x).text ≤ octet_most * ((lines_of inner depth s at end x).next - at)
-  head_most depth at end (head.Is tag start stop next) some h w =
-      let line : List ℕ = element_line depth tag s at start stop in
-      let long = line_length s depth tag at start stop (omega (arith, w.stops, w.nexts, w.ends)) w.starts in
+  head_most depth at end (Some x) some h w =
+      let line : List ℕ = element_line depth x.tag s at x.start x.stop in
+      let long = line_length s depth x.tag at x.start x.stop (omega (arith, w.stops, w.nexts, w.ends)) w.starts in
       by_bool
-      (length (line ++ pick (eqb (tag / 32 % 2) 0) [] (inner start stop)) ≤ octet_most * (next - at))
-      (eqb (tag / 32 % 2) 0)
+      (length (line ++ pick (eqb (x.tag / 32 % 2) 0) [] (inner x.start x.stop)) ≤ octet_most * (x.next - at))
+      (eqb (x.tag / 32 % 2) 0)
       (λ e.
       rw e
       (omega (
         arith,
         length-append line [],
         long,
-        contents_most s tag start stop (omega (arith, w.nexts, w.ends)),
+        contents_most s x.tag x.start x.stop (omega (arith, w.nexts, w.ends)),
         w.starts,
         w.stops,
         w.nexts,
@@ -119,15 +119,15 @@ module _ (s : List ℕ) (inner : ℕ → ℕ → List ℕ)
       rw e
       (omega (
         arith,
-        length-append line (inner start stop),
+        length-append line (inner x.start x.stop),
         long,
-        contents_none s tag start stop e,
-        few start stop (omega (arith, w.nexts, w.ends)),
+        contents_none s x.tag x.start x.stop e,
+        few x.start x.stop (omega (arith, w.nexts, w.ends)),
         w.starts,
         w.stops,
         w.nexts,
       )))
-  head_most depth at end head.Bad some h w = unread_most s depth at end some h
+  head_most depth at end None some h w = unread_most s depth at end some h
 
 -- ---- siblings
 

@@ -16,10 +16,10 @@ use Rattle.laws.specs.Tests.{any}
 use Rattle.laws.specs.Got.{Got, got, wrong}
 use Rattle.codes.specs.Codes.{activation, deactivation, interrogation}
 use Rattle.requests.specs.Heard.{heard}
-use Rattle.requests.specs.Request.{request_read, argument_at}
+use Rattle.requests.specs.Request.{argument_at}
 use Rattle.requests.specs.declared.heard.Operation.{Operation}
 use Rattle.requests.specs.declared.request.Request.{Request}
-use Rattle.requests.specs.declared.request.RequestRead.{RequestRead}
+use Rattle.octets.proofs.Founds.{Somewhere}
 use Rattle.explanations.specs.Text.{request_line}
 use Rattle.explanations.specs.Explained.{row_seven, row_line, operation_no, is_operation, argued_text, asked_text, said_text, said}
 
@@ -75,15 +75,9 @@ asked_is s identifier operation at end = refl
 
 -- ---- an argument that was read, or not
 
-module _ (identifier : ℤ) (operation : ℕ) where
-  pub argument_told :
-      (g : Got Request) (r : RequestRead) → r ≡ request_read g → r.ok ≡ true →
-      argued_text identifier operation g ≡ request_line identifier operation r.request
-  argument_told (got request next) r e h = rw e
-  argument_told wrong r e h = absurd (false≢true (sym (ap (λ (x : RequestRead). x.ok) e) ∙ h))
+module _ (identifier : ℤ) (operation : ℕ) (g : Got Request) where
+  pub argument_told : (request : Request) → Somewhere g request → argued_text identifier operation g ≡ request_line identifier operation request
+  argument_told request found = rw found.is
 
-  pub argument_untold :
-      (g : Got Request) (r : RequestRead) → r ≡ request_read g → r.ok ≡ false →
-      argued_text identifier operation g ≡ argued_text identifier operation wrong
-  argument_untold (got request next) r e h = absurd (false≢true (sym h ∙ ap (λ (x : RequestRead). x.ok) e))
-  argument_untold wrong r e h = refl
+  pub argument_untold : g ≡ wrong → argued_text identifier operation g ≡ argued_text identifier operation wrong
+  argument_untold none = rw none

@@ -11,10 +11,8 @@ use Rattle.laws.specs.Got.{Got, got, wrong}
 use Rattle.laws.proofs.Picks.{by_bool, pick_ind}
 use Rattle.octets.specs.Head.{head_at}
 use Rattle.octets.specs.declared.head.Head.{Head}
-use Rattle.octets.specs.declared.head.Head.TheVariants as head
+use Rattle.std.specs.Prelude.{Option, Some, None}
 use Rattle.values.specs.Ident.{ident_at}
-use Rattle.values.specs.declared.ident.Ident.{Ident}
-use Rattle.values.specs.declared.ident.Ident.TheVariants as ident
 use Rattle.skip.specs.Depth.{component_depth, inside_depth}
 use Rattle.codes.specs.Codes.{activation, deactivation}
 use Rattle.numbers.specs.Number.{most, other}
@@ -171,9 +169,9 @@ word_most_lem tag =
     pick_ind (λ ws. length ws ≤ 6) (eqb tag 0xA2) {x = chars "result"} (λ _. omega arith) (λ _.
     pick_ind (λ ws. length ws ≤ 6) (eqb tag 0xA3) {x = chars "error"} {y = chars "reject"} (λ _. omega arith) (λ _. omega arith))
 
-value_word_most : (x : Ident) → length (value_word x) ≤ 19
-value_word_most (ident.Is value next) = omega (arith, length-append (chars ", value ") (signed_text value), signed_most value)
-value_word_most ident.Unreadable = omega arith
+value_word_most : (x : Got ℤ) → length (value_word x) ≤ 19
+value_word_most (got value next) = omega (arith, length-append (chars ", value ") (signed_text value), signed_most value)
+value_word_most wrong = omega arith
 
 value_most : (tag : ℕ) (s : List ℕ) (at end : ℕ) → length (value_text tag s at end) ≤ 19
 unfolding value_text
@@ -181,8 +179,8 @@ value_most tag s at end =
     pick_ind (λ ws. length ws ≤ 19) (eqb tag 0xA3) {x = value_word (ident_at inside_depth s at end)} {y = []}
     (λ _. value_word_most (ident_at inside_depth s at end)) (λ _. omega arith)
 
-own_most : (tag : ℕ) (s : List ℕ) (end : ℕ) (x : Ident) → length (own_text tag s end x) ≤ 43
-own_most tag s end (ident.Is value next) =
+own_most : (tag : ℕ) (s : List ℕ) (end : ℕ) (x : Got ℤ) → length (own_text tag s end x) ≤ 43
+own_most tag s end (got value next) =
     omega (
       arith,
       length-append (chars ", identifier " ++ signed_text value) (value_text tag s next end),
@@ -190,7 +188,7 @@ own_most tag s end (ident.Is value next) =
       signed_most value,
       value_most tag s next end,
     )
-own_most tag s end ident.Unreadable = omega arith
+own_most tag s end wrong = omega arith
 
 reply_most : (tag : ℕ) (s : List ℕ) (at end : ℕ) → length (reply_text tag s at end) ≤ 49
 unfolding reply_text
@@ -198,9 +196,9 @@ reply_most tag s at end =
     let own : List ℕ = own_text tag s end (ident_at inside_depth s at end) in
     omega (arith, length-append (reply_word tag) own, word_most_lem tag, own_most tag s end (ident_at inside_depth s at end))
 
-reply_in_most : (s : List ℕ) (x : Head) → length (reply_found s x) ≤ 49
-reply_in_most s (head.Is tag start stop next) = reply_most tag s start stop
-reply_in_most s head.Bad = omega arith
+reply_in_most : (s : List ℕ) (x : Option Head) → length (reply_found s x) ≤ 49
+reply_in_most s (Some h) = reply_most h.tag s h.start h.stop
+reply_in_most s None = omega arith
 
 reply_of_most : (s : List ℕ) → length (reply_of s) ≤ 49
 unfolding reply_of

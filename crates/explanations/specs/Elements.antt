@@ -5,7 +5,7 @@ use Rattle.std.proofs.Math.Seq.{slice}
 use Rattle.laws.specs.Pick.{pick}
 use Rattle.octets.specs.Head.{head_at}
 use Rattle.octets.specs.declared.head.Head.{Head}
-use Rattle.octets.specs.declared.head.Head.TheVariants as head
+use Rattle.std.specs.Prelude.{Option, Some, None}
 use Rattle.skip.specs.Depth.{component_depth}
 use Rattle.listings.specs.Listing.{hex_text}
 use Rattle.explanations.specs.Text.{chars}
@@ -39,12 +39,12 @@ pub record Lines : Type 0 where
   pub text : List ℕ
   pub next : ℕ
 
-abbrev pub lines_of : (ℕ → ℕ → List ℕ) → ℕ → List ℕ → ℕ → ℕ → Head → Lines
-lines_of inner depth s at end (head.Is tag start stop next) = record {
-  text = element_line depth tag s at start stop ++ pick (eqb (tag / 32 % 2) 0) [] (inner start stop);
-  next = next;
+abbrev pub lines_of : (ℕ → ℕ → List ℕ) → ℕ → List ℕ → ℕ → ℕ → Option Head → Lines
+lines_of inner depth s at end (Some h) = record {
+  text = element_line depth h.tag s at h.start h.stop ++ pick (eqb (h.tag / 32 % 2) 0) [] (inner h.start h.stop);
+  next = h.next;
 }
-lines_of inner depth s at end head.Bad = record { text = unread_line depth s at end; next = end }
+lines_of inner depth s at end None = record { text = unread_line depth s at end; next = end }
 
 -- lines one after the other, from `at` up to `end`; `step` has those of one element, and there are at most n
 unfoldable pub siblings : (ℕ → Lines) → ℕ → ℕ → ℕ → List ℕ
@@ -53,7 +53,7 @@ siblings step (suc n) at end = pick (leb end at) [] ((step at).text ++ siblings 
 
 -- the element at `at` with those in it, to the depth that is left. Contents are at most as many elements as octets.
 unfoldable pub element_lines : ℕ → List ℕ → ℕ → ℕ → Lines
-element_lines zero s at end = lines_of (λ _ _. []) zero s at end head.Bad
+element_lines zero s at end = lines_of (λ _ _. []) zero s at end None
 element_lines (suc depth) s at end =
     lines_of (λ start stop. siblings (λ a. element_lines depth s a stop) (stop - start) start stop)
     (suc depth) s at end (head_at (suc depth) s at end)

@@ -7,10 +7,8 @@ use Rattle.laws.specs.Got.{Got, got, wrong}
 use Rattle.laws.specs.Over.{over}
 use Rattle.octets.specs.Head.{head_at}
 use Rattle.octets.specs.declared.head.Head.{Head}
-use Rattle.octets.specs.declared.head.Head.TheVariants as head
+use Rattle.std.specs.Prelude.{Option, Some, None}
 use Rattle.values.specs.Ident.{ident_at}
-use Rattle.values.specs.declared.ident.Ident.{Ident}
-use Rattle.values.specs.declared.ident.Ident.TheVariants as ident
 use Rattle.skip.specs.Depth.{component_depth, inside_depth}
 use Rattle.codes.specs.Codes.{activation, deactivation, interrogation}
 use Rattle.requests.specs.Heard.{heard}
@@ -31,17 +29,17 @@ use Rattle.explanations.specs.Elements.{lines_in}
 unfoldable pub reply_word : ℕ → List ℕ
 reply_word tag = pick (eqb tag 0xA2) (chars "result") (pick (eqb tag 0xA3) (chars "error") (chars "reject"))
 
-abbrev pub value_word : Ident → List ℕ
-value_word (ident.Is value next) = chars ", value " ++ signed_text value
-value_word ident.Unreadable = chars ", no value"
+abbrev pub value_word : Got ℤ → List ℕ
+value_word (got value next) = chars ", value " ++ signed_text value
+value_word wrong = chars ", no value"
 
 -- an error has a value after its identifier
 unfoldable pub value_text : ℕ → List ℕ → ℕ → ℕ → List ℕ
 value_text tag s at end = pick (eqb tag 0xA3) (value_word (ident_at inside_depth s at end)) []
 
-abbrev pub own_text : ℕ → List ℕ → ℕ → Ident → List ℕ
-own_text tag s end (ident.Is value next) = chars ", identifier " ++ signed_text value ++ value_text tag s next end
-own_text tag s end ident.Unreadable = chars ", no identifier"
+abbrev pub own_text : ℕ → List ℕ → ℕ → Got ℤ → List ℕ
+own_text tag s end (got value next) = chars ", identifier " ++ signed_text value ++ value_text tag s next end
+own_text tag s end wrong = chars ", no identifier"
 
 abbrev pub own_identifier : ℕ → List ℕ → ℕ → ℕ → List ℕ
 own_identifier tag s at end = own_text tag s end (ident_at inside_depth s at end)
@@ -49,9 +47,9 @@ own_identifier tag s at end = own_text tag s end (ident_at inside_depth s at end
 unfoldable pub reply_text : ℕ → List ℕ → ℕ → ℕ → List ℕ
 reply_text tag s at end = reply_word tag ++ own_identifier tag s at end
 
-abbrev pub reply_found : List ℕ → Head → List ℕ
-reply_found s (head.Is tag start stop next) = reply_text tag s start stop
-reply_found s head.Bad = []
+abbrev pub reply_found : List ℕ → Option Head → List ℕ
+reply_found s (Some h) = reply_text h.tag s h.start h.stop
+reply_found s None = []
 
 unfoldable pub reply_of : List ℕ → List ℕ
 reply_of s = reply_found s (head_at component_depth s 0 (length s))

@@ -82,25 +82,24 @@ fn write_element(depth: u8, out: &mut [u8], p: usize, s: &[u8], at: usize, end: 
     ensures { (result.next ≡ (element_lines depth s.now at end).next)
         × Penned out.old p (element_lines depth s.now at end).text result.place out.new }
 {
-    match head_at(s, at, end, depth) {
-        Head::Is {
+    let Some(
+        Head {
             tag,
             start,
             stop,
             next,
-        } => {
-            let q = write_line(out, p, depth, tag, s, at, start, stop);
-            if tag / 32 % 2 == 0 {
-                return Line { place: q, next };
-            }
-            let place = write_elements(depth - 1, out, q, s, start, stop);
-            Line { place, next }
-        }
-        Head::Bad => {
-            let place = write_unread(out, p, depth, s, at, end);
-            Line { place, next: end }
-        }
+        },
+    ) = head_at(s, at, end, depth)
+    else {
+        let place = write_unread(out, p, depth, s, at, end);
+        return Line { place, next: end };
+    };
+    let q = write_line(out, p, depth, tag, s, at, start, stop);
+    if tag / 32 % 2 == 0 {
+        return Line { place: q, next };
     }
+    let place = write_elements(depth - 1, out, q, s, start, stop);
+    Line { place, next }
 }
 
 // The lines of the elements from `at` up to `end`. Siblings are a loop, so that the stack is bounded by the depth.

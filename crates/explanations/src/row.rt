@@ -7,10 +7,10 @@ use crate::pen::write_text;
 use crate::request::{ACTIVATIONNO, DEACTIVATIONNO, write_request};
 use crate::word::write_signed;
 use codes::INTERROGATION;
-use octets::{Head, head_at};
+use octets::head_at;
 use requests::{Heard, Operation, argument_at, hear};
 use skip::{COMPONENTDEPTH, INSIDEDEPTH};
-use values::{Ident, ident_at};
+use values::ident_at;
 
 const INTERROGATIONNO: usize = INTERROGATION as usize;
 
@@ -33,45 +33,34 @@ fn write_value(out: &mut [u8], p: usize, tag: u8, s: &[u8], at: usize, end: usiz
     if tag != 0xA3 {
         return p;
     }
-    match ident_at(s, at, end, INSIDEDEPTH) {
-        Ident::Is { value, next } => {
-            let q = write_text(out, p, b", value ");
-            write_signed(value, out, q)
-        }
-        Ident::Unreadable => write_text(out, p, b", no value"),
-    }
+    let Some(value) = ident_at(s, at, end, INSIDEDEPTH) else {
+        return write_text(out, p, b", no value");
+    };
+    let q = write_text(out, p, b", value ");
+    write_signed(value.value, out, q)
 }
 
 // A reply's identifier, and its value.
 fn write_own(out: &mut [u8], p: usize, tag: u8, s: &[u8], at: usize, end: usize) -> usize
     ensures { Penned out.old p (own_identifier tag s.now at end) result out.new }
 {
-    match ident_at(s, at, end, INSIDEDEPTH) {
-        Ident::Is { value, next } => {
-            let q = write_text(out, p, b", identifier ");
-            let k = write_signed(value, out, q);
-            write_value(out, k, tag, s, next, end)
-        }
-        Ident::Unreadable => write_text(out, p, b", no identifier"),
-    }
+    let Some(identifier) = ident_at(s, at, end, INSIDEDEPTH) else {
+        return write_text(out, p, b", no identifier");
+    };
+    let q = write_text(out, p, b", identifier ");
+    let k = write_signed(identifier.value, out, q);
+    write_value(out, k, tag, s, identifier.next, end)
 }
 
 // The reply that a component is.
 fn write_reply(out: &mut [u8], p: usize, s: &[u8]) -> usize
     ensures { Penned out.old p (reply_of s.now) result out.new }
 {
-    match head_at(s, 0, s.len(), COMPONENTDEPTH) {
-        Head::Is {
-            tag,
-            start,
-            stop,
-            next,
-        } => {
-            let q = write_reply_word(out, p, tag);
-            write_own(out, q, tag, s, start, stop)
-        }
-        Head::Bad => p,
-    }
+    let Some(component) = head_at(s, 0, s.len(), COMPONENTDEPTH) else {
+        return p;
+    };
+    let q = write_reply_word(out, p, component.tag);
+    write_own(out, q, component.tag, s, component.start, component.stop)
 }
 
 fn write_silent(out: &mut [u8], p: usize, s: &[u8]) -> usize
@@ -133,16 +122,14 @@ fn write_asked(
             identifier,
         );
     }
-    let read = argument_at(s, at, end, operation);
-    if !read.ok {
+    let Some(request) = argument_at(s, at, end, operation) else {
         return write_row(
             out,
             p,
             b"row 8: argument not as in clause 7.1: answered, unless row 6 holds, by reject, invoke problem 2, identifier ",
             identifier,
         );
-    }
-    let request = read.request;
+    };
     write_request(out, p, identifier, number, request)
 }
 

@@ -8,42 +8,42 @@ use Rattle.explanations.proofs.element.+write_element_write_elements.Goals as go
 pub write_element-write_line-q-requires : goal.write_element-write_line-q-requires
 write_element-write_line-q-requires t c =
     let a = c.args in
-    let found = sym c.head_at.ensures ∙ c.in-Is.is in
+    let found = sym c.head_at.ensures ∙ c.in-Some.is in
     let lies = rw found at (within a.depth a.s.now a.at a.end) in
     (lies.starts, lies.stops, omega (arith, lies))
 
 pub write_element-returns-then-tag-eq0 : goal.write_element-returns-then-tag-eq0
 write_element-returns-then-tag-eq0 t c =
     let a = c.args in
-    let found = sym c.head_at.ensures ∙ c.in-Is.is in
+    let found = sym c.head_at.ensures ∙ c.in-Some.is in
     rw (element_lines_lem a.depth a.s.now a.at a.end, found, eq-eqb _ _ c.if-tag-eq0.true)
     (refl, pen_then c.write_line-q.ensures pen_none)
 
 pub write_element-overflow_sub-depth : goal.write_element-overflow_sub-depth
 write_element-overflow_sub-depth t c =
     let a = c.args in
-    let found = sym c.head_at.ensures ∙ c.in-Is.is in
+    let found = sym c.head_at.ensures ∙ c.in-Some.is in
     let lies = rw found at (within a.depth a.s.now a.at a.end) in
     omega (arith, lies)
 
 pub write_element-write_elements-place-requires : goal.write_element-write_elements-place-requires
 write_element-write_elements-place-requires t c =
     let a = c.args in
-    let found = sym c.head_at.ensures ∙ c.in-Is.is in
+    let found = sym c.head_at.ensures ∙ c.in-Some.is in
     let lies = rw found at (within a.depth a.s.now a.at a.end) in
     (omega (arith, lies, c.decreases), omega (arith, lies))
 
-pub write_element-returns-else-tag-eq0 : goal.write_element-returns-else-tag-eq0
-write_element-returns-else-tag-eq0 t c =
+pub write_element-returns : goal.write_element-returns
+write_element-returns t c =
     let a = c.args in
-    let found = sym c.head_at.ensures ∙ c.in-Is.is in
+    let found = sym c.head_at.ensures ∙ c.in-Some.is in
     rw (element_lines_lem a.depth a.s.now a.at a.end, found, ne_eqb _ _ c.if-tag-eq0.false)
     (refl, pen_then c.write_line-q.ensures c.write_elements-place.ensures)
 
-pub write_element-returns-in-Bad : goal.write_element-returns-in-Bad
-write_element-returns-in-Bad t c =
+pub write_element-returns-in_default : goal.write_element-returns-in_default
+write_element-returns-in_default t c =
     let a = c.args in
-    let found = sym c.head_at.ensures ∙ c.in-Bad.is in
+    let found = sym c.head_at.ensures ∙ c.in_default.is in
     rw (element_lines_lem a.depth a.s.now a.at a.end, found) (refl, c.write_unread-place.ensures)
 
 pub write_elements-loop-here-smaller : goal.write_elements-loop-here-smaller

@@ -1,8 +1,8 @@
+use Rattle.octets.proofs.Founds.{only_got, only_wrong}
 use mathlib.Core.Path.{sym, ◌∙◌}
 use mir.Facts.{to_z-of_z}
 use mir.Val.{SFits}
 use mir.Syntax.{w16}
-use borrow.Author.Tests.{not-true, not-false}
 use Rattle.requests.specs.Request.{argument_at}
 use Rattle.explanations.specs.Explained.{operation_no, asked_text}
 use Rattle.explanations.proofs.Rows.{argument_untold, argument_told}
@@ -19,9 +19,9 @@ returns-then-not-is_operation c =
     let unknown = rw number at (sym c.is_operation.ensures ∙ c.if-not-is_operation.true) in
     rw unknown (rw id at c.write_row.ensures)
 
-pub returns-then-not-read : goal.returns-then-not-read
+pub returns-in_default : goal.returns-in_default
 unfolding asked_text
-returns-then-not-read c =
+returns-in_default c =
     let a = c.args in
     let id = to_z-of_z c.ranges.identifier in
     let operation : SFits w16 a.operation.value = search rules in
@@ -29,11 +29,9 @@ returns-then-not-read c =
     c.operation_no-number.ensures in
     let known = rw number at (sym c.is_operation.ensures
     ∙ c.if-not-is_operation.false) in
-    let none = argument_untold a.identifier (operation_no a.operation.value)
-    (argument_at a.operation a.s.now a.at a.end) _
-    c.argument_at-read.ensures (not-true _
-    c.if-not-read.true) in
-    rw (known, none) (rw id at c.write_row-then-not-read.ensures)
+    let none = argument_untold a.identifier (operation_no a.operation.value) (argument_at a.operation a.s.now a.at a.end)
+    (only_wrong (argument_at a.operation a.s.now a.at a.end) c.argument_at.ensures c.in_default.is) in
+    rw (known, none) (rw id at c.write_row-in_default.ensures)
 
 pub returns : goal.returns
 unfolding asked_text
@@ -46,6 +44,5 @@ returns c =
     let known = rw number at (sym c.is_operation.ensures
     ∙ c.if-not-is_operation.false) in
     let found = argument_told a.identifier (operation_no a.operation.value) (argument_at a.operation a.s.now a.at a.end) _
-    c.argument_at-read.ensures (not-false _
-    c.if-not-read.false) in
+    (only_got (argument_at a.operation a.s.now a.at a.end) c.argument_at.ensures c.in-Some.is) in
     rw (known, found) (rw (id, number) at c.write_request.ensures)
