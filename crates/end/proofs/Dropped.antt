@@ -10,7 +10,7 @@ use borrow.Author.Tests.{ne_eqb}
 use Rattle.laws.specs.Got.{got, wrong}
 use Rattle.laws.proofs.Picks.{by_bool}
 use Rattle.octets.specs.Part.{Part, part_at}
-use Rattle.values.specs.Ident.{signed_at}
+use Rattle.values.specs.Ident.{ident_at}
 use Rattle.skip.specs.Depth.{inside_depth, component_depth}
 use Rattle.lists.specs.declared.entry.Entry.{Entry}
 use Rattle.answers.specs.Answer.{answer_octets}
@@ -49,7 +49,7 @@ pub data Stray (e : End) (s : List ℕ) : Type 0 where
   -- it has another identifier: a reply to an earlier request, or to none
   other :
       (c : Part) (next : ℕ) → part_at component_depth s 0 (length s) ≡ got c next →
-      (identifier : ℤ) (place : ℕ) → signed_at inside_depth s c.start c.stop ≡ got identifier place →
+      (identifier : ℤ) (place : ℕ) → ident_at inside_depth s c.start c.stop ≡ got identifier place →
       (identifier ≡ pos e.used → ⊥) → Stray e s
 
 -- such a component changes nothing

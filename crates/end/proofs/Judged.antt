@@ -1,21 +1,22 @@
 -- A list judged instance by instance: each is of the procedure and obeys the rules of a table, and they ascend. Assumes nothing.
-use Prim.Native.Nat.{ℕ, min, ◌+◌, ◌<◌, ◌≤◌}
+use Prim.Native.Nat.{ℕ, zero, suc, ◌+◌, ◌<◌, ◌≤◌}
 use mathlib.Core.Path.{◌≡◌, refl, sym, ◌∙◌}
 use mathlib.Core.Bool.{Bool, true, false}
 use mathlib.Core.List.{List, [], ◌∷◌}
+use native.Mathlib.Numerals.{add-one}
 use native.Mathlib.Omega.{arith}
-use lib.ListN.{length, drop, get_or, length-take}
+use lib.ListN.{length, drop, get_or, drop_of_length-le, length-take}
+use lib.Seq.{drop-cons}
 use borrow.Author.Tests.{eq-eqb, eqb-true}
 use Rattle.laws.specs.Tests.{all}
 use Rattle.laws.proofs.Picks.{by_bool}
 use Rattle.laws.proofs.Tests.{both_hold}
 use Rattle.laws.proofs.Thoses.{those_most}
-use Rattle.laws.proofs.Eaches.{each_so}
+use Rattle.laws.proofs.Eaches.{Each, each_so}
 use Rattle.profile.specs.Profile.{subscribed_services}
 use Rattle.profile.specs.declared.profile.Profile.{Profile}
 use Rattle.lists.specs.Entries.{instances_most}
 use Rattle.instances.specs.Instance.{key_of, instance_good}
-use Rattle.instances.specs.Places.{run_most}
 use Rattle.instances.specs.Run.{instances_of, is_of, count_of, ascending, each_good}
 use Rattle.instances.specs.declared.instance.Instance.{Instance}
 use Rattle.instances.specs.declared.run.Run.{Run}
@@ -26,7 +27,6 @@ use Rattle.instances.proofs.Fits.{Fits, fits_of, fits_is, goods_of, goods_all}
 use Rattle.end.specs.Listed.{list_good}
 use Rattle.end.proofs.GoodLists.{is_list, list_is}
 use Rattle.end.proofs.Pictures.{each_both}
-use Rattle.end.proofs.Replaced.{Met, met_is, met_none}
 
 -- ---- one instance
 
@@ -51,6 +51,21 @@ not_fair p procedure x h =
     let b = both_hold (is_of procedure x) (instance_good p x) t in
     absurd (h (eqb-true x.procedure procedure b.0) (fits_of p.subscribed p.numbercount (subscribed_services p) x b.1)))
     (λ t. t)
+
+-- what a place of an array holds, where it is not what is read past the end
+pub within : (l : List ℕ) (i : ℕ) → get_or l i 0 ≡ 1 → i < length l
+within [] i h = absurd (omega (arith, h))
+within (x ∷ l) zero h = omega arith
+within (x ∷ l) (suc i) h = omega (arith, within l i h)
+
+-- what holds of each holds of that at a place
+each_at : (P : Instance → Type 0) (l : List Instance) (i : ℕ) (d : Instance) → Each P l → i < length l → P (get_or l i d)
+each_at P [] i d h k = absurd (omega (arith, k))
+each_at P (x ∷ l) zero d h k = h.0
+each_at P (x ∷ l) (suc i) d h k = each_at P l i d h.1 (omega (arith, k))
+
+pub good_at : (good : Instance → Bool) (l : List Instance) (i : ℕ) → each_good good l ≡ true → i < length l → good (get_or l i outside) ≡ true
+good_at good l i each h = each_at (λ x. good x ≡ true) l i outside (goods_of good l each) h
 
 -- ---- the list
 
@@ -84,38 +99,40 @@ judged_by p procedure l few =
       few = (most 0, most 1, most 2);
     })
 
--- i of its instances were met, the last of them with the key `below`, and the others decide
-abbrev pub Judged : Profile → ℕ → Run → ℕ → ℕ → Type 0
-Judged p procedure run below i =
-    sound (fair p procedure) 0 (instances_of run) ≡ sound (fair p procedure) below (drop i (instances_of run))
+-- a run that counts no more than the limit holds no more
+pub few_held : (run : Run) (l : List Instance) → l ≡ instances_of run → run.count ≤ instances_most → length l ≤ instances_most
+few_held run l is few = rw is (omega (arith, few, length-take run.count run.run))
 
--- none was met, of no more than the limit
-pub met_first : (run : Run) (n : ℕ) → n ≡ min run.count instances_most → run.count ≤ instances_most → length run.run ≡ run_most → Met run n 0
-met_first run n is few long = record { fits = omega arith; few = omega arith; long = long }
+-- i of its instances were met, the last of them with the key `below`, and the others decide
+abbrev pub Judged : Profile → ℕ → List Instance → ℕ → ℕ → Type 0
+Judged p procedure l below i = sound (fair p procedure) 0 l ≡ sound (fair p procedure) below (drop i l)
 
 module _
-    (p : Profile) (procedure : ℕ) (run : Run) (n i below : ℕ)
-    (met : Met run n i) (few : run.count ≤ instances_most) (so : Judged p procedure run below i)
+    (p : Profile) (procedure : ℕ) (l : List Instance) (i below : ℕ)
+    (few : length l ≤ instances_most) (so : Judged p procedure l below i)
   where
     abbrev x : Instance
-    x = get_or run.run i outside
+    x = get_or l i outside
 
     -- what is left decides whether the list is good
-    judged : list_good instances_most p procedure (instances_of run) ≡ sound (fair p procedure) below (drop i (instances_of run))
-    judged = judged_by p procedure (instances_of run) (omega (arith, few, length-take run.count run.run)) ∙ so
+    judged : list_good instances_most p procedure l ≡ sound (fair p procedure) below (drop i l)
+    judged = judged_by p procedure l few ∙ so
 
     -- the next is not fair, has no higher key than the one before it, or neither
-    module _ (h : i < n) where
-      pub judged_unfair : (x.procedure ≡ procedure → Obeys p x → ⊥) → list_good instances_most p procedure (instances_of run) ≡ false
-      judged_unfair bad = judged ∙ sound_bad (fair p procedure) _ _ x (met_is run n i met h) below (not_fair p procedure x bad)
+    module _ (h : i < length l) where
+      on : drop i l ≡ x ∷ drop (i + 1) l
+      on = rw add-one (drop-cons l i outside h)
 
-      pub judged_low : key_of x ≤ below → list_good instances_most p procedure (instances_of run) ≡ false
-      judged_low low = judged ∙ sound_low (fair p procedure) _ _ x (met_is run n i met h) below low
+      pub judged_unfair : (x.procedure ≡ procedure → Obeys p x → ⊥) → list_good instances_most p procedure l ≡ false
+      judged_unfair bad = judged ∙ sound_bad (fair p procedure) _ _ x on below (not_fair p procedure x bad)
 
-      pub judged_on : below < key_of x → x.procedure ≡ procedure → Obeys p x → Judged p procedure run (key_of x) (i + 1)
+      pub judged_low : key_of x ≤ below → list_good instances_most p procedure l ≡ false
+      judged_low low = judged ∙ sound_low (fair p procedure) _ _ x on below low
+
+      pub judged_on : below < key_of x → x.procedure ≡ procedure → Obeys p x → Judged p procedure l (key_of x) (i + 1)
       judged_on above own good =
-          so ∙ sound_on (fair p procedure) _ _ x (met_is run n i met h) below above (is_fair p procedure x own good)
+          so ∙ sound_on (fair p procedure) _ _ x on below above (is_fair p procedure x own good)
 
     -- all were met
-    pub judged_all : n ≤ i → list_good instances_most p procedure (instances_of run) ≡ true
-    judged_all h = judged ∙ sound_none (fair p procedure) below _ (met_none run n i met h)
+    pub judged_all : length l ≤ i → list_good instances_most p procedure l ≡ true
+    judged_all h = judged ∙ sound_none (fair p procedure) below _ (drop_of_length-le l h)

@@ -1,5 +1,5 @@
 -- What a list does to the end: it is read or not, good or not. Assumes nothing.
-use Prim.Native.Nat.{◌-◌, ◌≤◌}
+use Prim.Native.Nat.{ℕ, ◌-◌, ◌≤◌}
 use mathlib.Core.Path.{◌≡◌, refl, sym, ap, ◌∙◌}
 use mathlib.Core.Bool.{true, false, false≢true}
 use mathlib.Core.List.{List, [], ◌∷◌, map}
@@ -14,7 +14,7 @@ use Rattle.lists.specs.Entry.{no_entry}
 use Rattle.lists.specs.Entries.{instances_most, entries_in, entries_of, entries_read}
 use Rattle.lists.specs.declared.entry.Entry.{Entry}
 use Rattle.lists.specs.declared.entries.Entries.{Entries}
-use Rattle.lists.specs.declared.entries.EntriesRead.{EntriesRead}
+use Rattle.std.specs.Prelude.{Option, Some, None, unwrap_or}
 use Rattle.lists.proofs.Held.{HoldsAddress}
 use Rattle.instances.specs.Places.{run_most}
 use Rattle.instances.specs.Run.{instances_of, packed, each_good}
@@ -72,11 +72,15 @@ module _
 
 -- ---- the list
 
+-- a list is not none
+some_none : {A : Type 0} {a : A} → Some a ≡ None → ⊥
+some_none {A} {a} h = let z : ◌≡◌ {A = ℕ} 0 1 = cc in omega arith
+
 module _ (p : Profile) (e : End) where
   -- no list
   pub learned_wrong :
-      (g : Got (List Entry)) (read : EntriesRead) → read ≡ entries_read g → read.ok ≡ false → doubted e ≡ learned_by p e g
-  learned_wrong (got es next) read is bad = absurd (false≢true (sym bad ∙ ap (λ (r : EntriesRead). r.ok) is))
+      (g : Got (List Entry)) (read : Option Entries) → read ≡ entries_read g → read ≡ None → doubted e ≡ learned_by p e g
+  learned_wrong (got es next) read is bad = absurd (some_none (sym is ∙ bad))
   learned_wrong wrong read is bad = refl
 
   -- a list, with its entries
@@ -86,9 +90,9 @@ module _ (p : Profile) (e : End) where
     pub is : list ≡ entries_of es
 
   pub entered :
-      (g : Got (List Entry)) (read : EntriesRead) → read ≡ entries_read g → read.ok ≡ true → Entered g read.list
-  entered (got es next) read is ok = record { es = es; by = refl; is = ap (λ (r : EntriesRead). r.list) is }
-  entered wrong read is ok = absurd (false≢true (sym (ap (λ (r : EntriesRead). r.ok) is) ∙ ok))
+      (g : Got (List Entry)) (read : Option Entries) (list : Entries) → read ≡ entries_read g → read ≡ Some list → Entered g list
+  entered (got es next) read list is ok = record { es = es; by = refl; is = ap (λ (o : Option Entries). unwrap_or o list) (sym ok ∙ is) }
+  entered wrong read list is ok = absurd (some_none (sym ok ∙ is))
 
   module _
       (es : List Entry) (list : Entries) (is : list ≡ entries_of es) (long : length list.entries ≡ instances_most)

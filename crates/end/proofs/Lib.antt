@@ -17,3 +17,5 @@ pub mod Waitings
 pub mod Closings
 pub mod GoodLists
 pub mod Standing
+mod Packings
+mod Searches

@@ -9,7 +9,7 @@ use borrow.Author.Tests.{lt-ltb, le-ltb, eq-eqb, ne_eqb}
 use Rattle.refusals.specs.Refusal.{component_most}
 use Rattle.refusals.specs.declared.refusal.Refusal.{Refusal}
 use Rattle.refusals.specs.declared.refusal.Refusal.TheVariants.{LongComponent, BadProfile, BadTable}
-use Rattle.refusals.specs.declared.handling.Handling.TheVariants.{Done}
+use Rattle.std.specs.Prelude.{Ok}
 use Rattle.profile.specs.Access.{access_read}
 use Rattle.profile.specs.declared.profile.Profile.{Profile}
 use Rattle.lists.specs.Entries.{instances_most}
@@ -76,7 +76,7 @@ pub refused_moves :
 refused_moves d e refusal q is made = record { end = rw (is, made); told = rw (is, made) }
 
 pub all_moves :
-    (d : Moves) (e next : End) → d ≡ moved e → next ≡ e → MovesBy d (record { end = next; outcome = Done })
+    (d : Moves) (e next : End) → d ≡ moved e → next ≡ e → MovesBy d (record { end = next; outcome = Ok tt })
 all_moves d e next is made = record { end = rw (is, made); told = rw is }
 
 -- ---- a result of an activation or a deactivation

@@ -13,8 +13,7 @@ use Rattle.laws.proofs.Picks.{by_bool}
 use Rattle.refusals.specs.Refusal.{tells, output_least}
 use Rattle.refusals.specs.declared.refusal.Refusal.{Refusal}
 use Rattle.refusals.specs.declared.refusal.Refusal.TheVariants.{ShortOutput, BadProfile, BadTable, Outstanding, Exhausted, BadRequest}
-use Rattle.refusals.specs.declared.handling.Handling.TheVariants.{Done}
-use Rattle.refusals.specs.declared.handling.Written.{Written}
+use Rattle.std.specs.Prelude.{Ok, Err}
 use Rattle.profile.specs.Access.{access_read}
 use Rattle.requests.specs.Sent.{sendable, request_octets}
 use Rattle.requests.specs.Sending.{PutRequest}
@@ -24,7 +23,6 @@ use Rattle.requests.proofs.Senders.{sent_whole, sent_not}
 use Rattle.lists.specs.Entries.{instances_most}
 use Rattle.end.specs.End.{used_most, end_good}
 use Rattle.end.specs.Sending.{sent, Sends, not_sent, sends}
-use Rattle.refusals.specs.Handling.{not_written}
 use Rattle.end.specs.inner.Sending.{WrittenBy}
 use Rattle.end.specs.declared.end.End.{End}
 
@@ -75,11 +73,11 @@ module _ (access : List ℕ) (operation : ℕ) (r : Request) (e : End) (size : �
 
 -- what is refused writes nothing
 pub refused_sends :
-    (d : Sends) (e : End) (xs : List ℕ) (refusal : Refusal) (w : Written) →
-    d ≡ not_sent e refusal → w ≡ not_written refusal → WrittenBy d xs w xs
-refused_sends d e xs refusal w is made = record {
-  told = rw (is, made);
-  count = rw (is, made);
+    (d : Sends) (e : End) (xs : List ℕ) (refusal : Refusal) →
+    d ≡ not_sent e refusal → WrittenBy d xs (Err refusal) xs
+refused_sends d e xs refusal is = record {
+  told = rw is;
+  count = rw is;
   lent = rw is (sym (over_nil xs 0));
 }
 
@@ -87,7 +85,7 @@ refused_sends d e xs refusal w is made = record {
 pub all_sends :
     (d : Sends) (operation : ℕ) (r : Request) (e : End) (xs : List ℕ) (n : ℕ) (ys : List ℕ) →
     d ≡ sends_of operation r e → e.used < used_most → output_least ≤ length xs → sendable operation r ≡ true →
-    PutRequest xs (pos (suc e.used)) operation r n ys → WrittenBy d xs (record { outcome = Done; count = n }) ys
+    PutRequest xs (pos (suc e.used)) operation r n ys → WrittenBy d xs (Ok n) ys
 all_sends d operation r e xs n ys is below room fit put =
     let identifier = pos (suc e.used) in
     let few = request_most identifier operation r (omega arith) fit in

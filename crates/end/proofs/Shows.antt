@@ -28,6 +28,8 @@ use Rattle.end.specs.End.{mark_at, end_good}
 use Rattle.end.specs.Listed.{every_of}
 use Rattle.end.specs.Shown.{Seen, seen_known, seen_doubt, shown_no, entries_shown, shown, handed_out, entries_out, ShowsEntry}
 use Rattle.end.specs.declared.end.End.{End}
+use Rattle.std.specs.Prelude.{Result, Ok}
+use Rattle.refusals.specs.declared.refusal.Refusal.{Refusal}
 use Rattle.end.specs.declared.show.Shown.{Shown}
 use Rattle.end.specs.declared.show.Shown.TheVariants.{Known}
 use Rattle.end.proofs.Ends.{picture_good}
@@ -116,7 +118,7 @@ module _ (access : List ℕ) (e : End) (procedure : ℕ) where
 
 -- where the first `i` are not enough there is none, and of what is not known there is none at all
 pub entry_none :
-    (access : List ℕ) (e : End) (procedure i : ℕ) (told : Shown) → shown_no told ≡ shown access e procedure →
+    (access : List ℕ) (e : End) (procedure i : ℕ) (told : Result Shown Refusal) → shown_no told ≡ shown access e procedure →
     length (entries_out access e procedure) ≤ i →
     ShowsEntry access e procedure i (record { shown = told; entry = no_entry })
 entry_none access e procedure i told is past = record {
@@ -136,6 +138,10 @@ pub out_doubt :
 out_doubt access e procedure i is = rw (sym is) (omega arith)
 
 module _ (access : List ℕ) (e : End) (procedure count : ℕ) (is : tells (seen_known count) ≡ shown access e procedure) where
+  -- its profile was read
+  pub known_read : (access_read access).ok ≡ true
+  known_read = (known_by access e procedure count (sym is)).ok
+
   all_out : entries_out access e procedure ≡ entries_shown (access_read access).profile e procedure
   all_out = ap (λ (t : Told Seen). handed_out t (entries_shown (access_read access).profile e procedure)) (sym is)
 
@@ -160,7 +166,7 @@ module _ (access : List ℕ) (e : End) (procedure count : ℕ) (is : tells (seen
   module _ (i : ℕ) (there : i < count) (list : Entries) (d : Entry) where
     pub entry_there :
         list ≡ entries_of (take instances_most (entries_shown (access_read access).profile e procedure)) →
-        ShowsEntry access e procedure i (record { shown = Known count; entry = get_or list.entries i d })
+        ShowsEntry access e procedure i (record { shown = Ok (Known count); entry = get_or list.entries i d })
     entry_there made =
         let es = entries_shown (access_read access).profile e procedure in
         let few : length es ≤ instances_most = omega (arith, count_most, facts.entries) in

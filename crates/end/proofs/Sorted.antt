@@ -1,26 +1,30 @@
 -- The instances of a list put in order, one after the other. Assumes nothing.
-use Prim.Native.Nat.{ℕ, suc, min, ◌+◌, ◌-◌, ◌<◌, ◌≤◌}
+use Prim.Native.Nat.{ℕ, suc, ◌+◌, ◌-◌, ◌<◌, ◌≤◌}
 use mathlib.Core.Path.{◌≡◌, refl, sym, ap, ◌∙◌}
-use mathlib.Core.List.{List, [], ◌∷◌, ◌++◌, map}
-use mathlib.Core.Logic.{◌⊎◌, ⊎_elim}
-use native.Mathlib.Numerals.{add-one}
+use mathlib.Core.Bool.{Bool, not}
+use mathlib.Core.List.{List, [], ◌∷◌, ◌++◌, map, append_assoc, append-nil}
 use native.Mathlib.Omega.{arith}
-use lib.ListN.{length, drop, get_or, set, replicate, length-append, length-map, length-drop, length-take, length-replicate, replicate-append-replicate}
-use lib.Seq.{set_at, get_or_at, append_snoc}
-use Rattle.laws.proofs.Lefts.{left_none}
+use lib.Dec.{leb}
+use lib.ListN.{length, take, drop, set, replicate, length-append, length-map, length-take, length-drop, take-append-drop}
+use lib.Seq.{set_at, take_at, drop_at, append_snoc, length-take-le}
+use borrow.Author.Tests.{leb-true, leb-false}
+use borrow.Rule.Slice.PartMut.{mid_of, put_mid}
+use Rattle.std.specs.List.{position_or_len}
+use Rattle.std.proofs.lemmas.List.Sums.{prefix_len-le-length}
+use Rattle.laws.proofs.Picks.{by_bool}
 use Rattle.profile.specs.declared.profile.Profile.{Profile}
-use Rattle.lists.specs.Entry.{entry_of}
-use Rattle.lists.specs.Entries.{instances_most, entries_in}
+use Rattle.lists.specs.Entries.{instances_most}
 use Rattle.lists.specs.declared.entry.Entry.{Entry}
-use Rattle.lists.specs.declared.entries.Entries.{Entries}
 use Rattle.instances.specs.Instance.{blank_instance, key_of}
 use Rattle.instances.specs.Places.{run_most}
-use Rattle.instances.specs.Run.{packed, merged}
+use Rattle.instances.specs.Run.{instances_of, packed, merged}
 use Rattle.instances.specs.declared.instance.Instance.{Instance}
 use Rattle.instances.specs.declared.run.Run.{Run}
-use Rattle.instances.proofs.Runs.{step, packed_done}
+use Rattle.instances.proofs.Runs.{packed_done, packed_all}
 use Rattle.instances.proofs.Merged.{nil_merged, merged_nil, merge_lower, merge_higher, merged_length}
 use Rattle.end.specs.Listed.{instance_for, sorted, instances_listed}
+use Rattle.end.specs.inner.Listed.{Packed}
+use Rattle.end.proofs.Packings.{packed_packed, roomy}
 
 -- ---- none is lost
 
@@ -29,130 +33,112 @@ unfolding sorted
 sorted_length [] = refl
 sorted_length (x ∷ l) = omega (arith, merged_length (x ∷ []) (sorted l), sorted_length l)
 
--- ---- x on its way to its place
+-- ---- one is put in its place
 
--- An array with a gap at j: with x merged into what stands past the gap, up to n, it is `whole`. What stands in the gap carries no
--- meaning, and `rest` stands from n on.
-pub record Gap (x : Instance) (rest whole : List Instance) (n j : ℕ) (array : List Instance) : Type 0 where
-  pub front : List Instance
-  pub idle : Instance
-  pub back : List Instance
-  pub holds : array ≡ front ++ (idle ∷ (back ++ rest))
-  pub at : length front ≡ j
-  pub end : suc (j + length back) ≡ n
-  pub makes : front ++ (merged (x ∷ []) back ++ rest) ≡ whole
+-- not below x
+abbrev pub not_below : Instance → Instance → Bool
+not_below x y = leb (key_of x) (key_of y)
 
-module _ (x : Instance) (rest whole : List Instance) (n : ℕ) where
-  module _ (front : List Instance) (idle : Instance) (j : ℕ) (e : length front ≡ j) where
-    abbrev gapped : List Instance → List Instance
-    gapped back = front ++ (idle ∷ (back ++ rest))
+-- the place of the first that is not below x, or after the last
+abbrev pub place_for : Instance → List Instance → ℕ
+place_for x l = position_or_len (not_below x) l
 
-    -- what stands right after the gap
-    after_gap : (y : Instance) (back : List Instance) (d : Instance) → get_or (gapped (y ∷ back)) (suc j) d ≡ y
-    after_gap y back d =
-        rw (← append_snoc front idle (y ∷ (back ++ rest)))
-        (get_or_at (front ++ (idle ∷ [])) y (back ++ rest) d (suc j) (omega (arith, e, length-append front (idle ∷ []))))
+pub put_in :
+    (x : Instance) (l : List Instance) → merged (x ∷ []) l ≡ take (place_for x l) l ++ x ∷ drop (place_for x l) l
+put_in x [] = merged_nil (x ∷ [])
+put_in x (y ∷ l) =
+    by_bool (merged (x ∷ []) (y ∷ l) ≡ take (place_for x (y ∷ l)) (y ∷ l) ++ x ∷ drop (place_for x (y ∷ l)) (y ∷ l)) (not_below x y)
+    (λ h.
+    rw h
+    (merge_higher (x ∷ []) (y ∷ l) x [] refl y l refl (leb-true (key_of x) (key_of y) h)
+    ∙ ap (λ (m : List Instance). x ∷ m) (nil_merged (y ∷ l))))
+    (λ h.
+    let next : 1 + place_for x l ≡ suc (place_for x l) = omega arith in
+    rw (h, next)
+    (merge_lower (x ∷ []) (y ∷ l) y l refl x [] refl (leb-false (key_of x) (key_of y) h)
+    ∙ ap (λ (m : List Instance). y ∷ m) (put_in x l)))
 
-    next_of :
-        (back : List Instance) (d : Instance) → suc (j + length back) ≡ n → suc j < n →
-        key_of (get_or (gapped back) (suc j) d) < key_of x →
-        front ++ (merged (x ∷ []) back ++ rest) ≡ whole →
-        Gap x rest whole n (suc j) (set (gapped back) j (get_or (gapped back) (suc j) d))
-    next_of [] d many h low so = absurd (omega arith)
-    next_of (y ∷ back) d many h low so =
-        let is = after_gap y back d in
-        record {
-          front = front ++ (y ∷ []);
-          idle = y;
-          back = back;
-          holds = rw (is, set_at front idle (y ∷ (back ++ rest)) y j e) (sym (append_snoc front y (y ∷ (back ++ rest))));
-          at = omega (arith, e, length-append front (y ∷ []));
-          end = omega (arith, many);
-          makes =
-              append_snoc front y (merged (x ∷ []) back ++ rest)
-              ∙ rw (merge_lower (x ∷ []) (y ∷ back) y back refl x [] refl (rw is at low)) at so;
-        }
+-- what stands after the last is turned to that place
+pub turned :
+    {A : Type 0} (front back rest : List A) (x : A) (a k : ℕ) (xs ys : List A) →
+    length front ≡ a → length back + 1 ≡ k → xs ≡ (front ++ back) ++ x ∷ rest →
+    ys ≡ drop (length (mid_of a k xs) - 1) (mid_of a k xs) ++ take (length (mid_of a k xs) - 1) (mid_of a k xs) →
+    put_mid a k xs ys ≡ (front ++ x ∷ back) ++ rest
+turned front back rest x a k xs ys at many is turns =
+    let whole : xs ≡ front ++ ((back ++ x ∷ []) ++ rest) = is ∙ append_assoc front back (x ∷ rest) ∙ ap (λ l. front ++ l) (sym (append_snoc back x rest)) in
+    let start : drop a xs ≡ (back ++ x ∷ []) ++ rest = rw whole (drop_at front ((back ++ x ∷ []) ++ rest) a at) in
+    let before : take a xs ≡ front = rw whole (take_at front ((back ++ x ∷ []) ++ rest) a at) in
+    let count : length (back ++ x ∷ []) ≡ k = omega (arith, many, length-append back (x ∷ [])) in
+    let mid : mid_of a k xs ≡ back ++ x ∷ [] = rw start (take_at (back ++ x ∷ []) rest k count) in
+    let after : drop k (drop a xs) ≡ rest = rw start (drop_at (back ++ x ∷ []) rest k count) in
+    let less : length back ≡ length (back ++ x ∷ []) - 1 = omega (arith, length-append back (x ∷ [])) in
+    let turn : ys ≡ x ∷ back = rw mid at turns ∙ rw (drop_at back (x ∷ []) _ less, take_at back (x ∷ []) _ less) in
+    rw (turn, before, after) (sym (append_assoc front (x ∷ back) rest))
 
-    -- x goes before what is not below it, or after all of them
-    stops_of :
-        (back : List Instance) (d : Instance) → suc (j + length back) ≡ n →
-        (n ≤ suc j) ⊎ (key_of x ≤ key_of (get_or (gapped back) (suc j) d)) → merged (x ∷ []) back ≡ x ∷ back
-    stops_of [] d many h = merged_nil (x ∷ [])
-    stops_of (y ∷ back) d many h =
-        ⊎_elim (λ w. absurd (omega (arith, w, many)))
-        (λ w.
-        merge_higher (x ∷ []) (y ∷ back) x [] refl y back refl (rw (after_gap y back d) at w)
-        ∙ ap (λ (l : List Instance). x ∷ l) (nil_merged (y ∷ back))) h
+-- so a run that has room gets it in its place
+pub inserted :
+    (l : List Instance) (run : Run) (x : Instance) (a k : ℕ) (ys : List Instance) → run ≡ packed l → run.count < run_most →
+    a ≡ place_for x l → k ≡ run.count + 1 - a →
+    ys
+    ≡ drop (length (mid_of a k (set run.run run.count x)) - 1) (mid_of a k (set run.run run.count x))
+    ++ take (length (mid_of a k (set run.run run.count x)) - 1) (mid_of a k (set run.run run.count x)) →
+    ◌≡◌ {A = Run} record { count = run.count + 1; run = put_mid a k (set run.run run.count x) ys } (packed (merged (x ∷ []) l))
+inserted l run x a k ys is room at many turns =
+    let so = roomy l run is room in
+    let rest : List Instance = replicate (run_most - suc (length l)) blank_instance in
+    let low : a ≤ length l = omega (arith, at, prefix_len-le-length (λ y. not (not_below x y)) l) in
+    let stored : set run.run run.count x ≡ (take a l ++ drop a l) ++ x ∷ rest =
+    rw (so.array, take-append-drop a l) (set_at l blank_instance rest x run.count (sym so.count)) in
+    let turn =
+    turned (take a l) (drop a l) rest x a k (set run.run run.count x) ys (length-take-le a l low)
+    (omega (arith, many, so.count, low, length-drop a l)) stored turns in
+    let whole : merged (x ∷ []) l ≡ take a l ++ x ∷ drop a l = rw (← at) at (put_in x l) in
+    let long : length (merged (x ∷ []) l) ≡ length l + 1 = omega (arith, merged_length (x ∷ []) l) in
+    let left : run_most - suc (length l) ≡ run_most - length (merged (x ∷ []) l) = omega (arith, long) in
+    packed_done (merged (x ∷ []) l) _ _
+    (omega (arith, so.count, long), turn ∙ rw (← whole, left), omega (arith, so.count, room, long))
 
-  module _ (j : ℕ) (array : List Instance) (d : Instance) (gap : Gap x rest whole n j array) where
-    -- what is below x goes into the gap, and leaves one
-    pub gap_next :
-        j + 1 < n → key_of (get_or array (j + 1) d) < key_of x → Gap x rest whole n (j + 1) (set array j (get_or array (j + 1) d))
-    gap_next h low =
-        let below = rw (add-one j, gap.holds) at low in
-        rw (add-one j, gap.holds)
-        (next_of gap.front gap.idle j gap.at gap.back d gap.end (omega arith) below gap.makes)
+-- ---- a list's entries, from the last to the first
 
-    -- x goes into the gap
-    pub gap_closed : (n ≤ j + 1) ⊎ (key_of x ≤ key_of (get_or array (j + 1) d)) → set array j x ≡ whole
-    gap_closed h =
-        let stops = stops_of gap.front gap.idle j gap.at gap.back d gap.end (rw (add-one j, gap.holds) at h) in
-        rw (gap.holds, set_at gap.front gap.idle (gap.back ++ rest) x j gap.at) (rw stops at gap.makes)
+pub record Listing (p : Profile) (es rest : List Entry) (next : Run) : Type 0 where
+  pub done : List Entry
+  pub whole : rest ++ done ≡ es
+  pub made : next ≡ packed (instances_listed p done)
 
--- ---- the array of a list's instances from the place i on
+pub listing_none : (p : Profile) (es : List Entry) (next : Run) → next ≡ packed [] → Listing p es es next
+unfolding instances_listed sorted
+listing_none p es next fresh = record { done = []; whole = append-nil es; made = fresh }
 
--- what the machine reads past an array of entries
-abbrev pub outside_entry : Entry
-outside_entry =
-    entry_of (record { form = 0; kind = 0; count = 0; digits = [] }) 0 0
-    (record { number = record { form = 0; kind = 0; count = 0; digits = [] }; subcount = 0; sub = [] })
-
-abbrev pub sorted_from : Profile → Entries → ℕ → List Instance
-sorted_from p list i = sorted (map (instance_for p) (drop i (entries_in list)))
-
--- blanks stand before them, and after the n of the whole list
-abbrev pub array_from : Profile → Entries → ℕ → ℕ → List Instance
-array_from p list n i = replicate i blank_instance ++ (sorted_from p list i ++ replicate (run_most - n) blank_instance)
-
-module _ (p : Profile) (list : Entries) (n : ℕ)
-    (few : n ≡ min list.count instances_most) (long : length list.entries ≡ instances_most) where
-  length_from : (i : ℕ) → length (sorted_from p list i) ≡ n - i
-  length_from i =
-      let es = drop i (entries_in list) in
-      sorted_length (map (instance_for p) es) ∙
-      omega (arith, few, long, length-map es (instance_for p), length-drop i (entries_in list), length-take list.count list.entries)
-
-  -- at first there are none
-  pub array_none : replicate run_most blank_instance ≡ array_from p list n n
-  unfolding sorted
-  array_none =
-      let none : drop n (entries_in list) ≡ [] = left_none list.count list.entries n (omega (arith, few, long)) in
-      let all : n + (run_most - n) ≡ run_most = omega (arith, few) in
-      rw none (rw all at (sym (replicate-append-replicate n (run_most - n) blank_instance)))
-
-  -- the entry before them is on its way: the blank before them is its gap
-  pub array_gap :
-      (i k : ℕ) (array : List Instance) → k ≡ i + 1 → k ≤ n → array ≡ array_from p list n k →
-      Gap (instance_for p (get_or list.entries i outside_entry)) (replicate (run_most - n) blank_instance) (array_from p list n i) n i array
-  unfolding sorted
-  array_gap i k array e h so =
-      let next = step list.count list.entries i outside_entry (omega arith) (omega arith) in
-      let rest : List Instance = sorted_from p list (i + 1) ++ replicate (run_most - n) blank_instance in
-      record {
-        front = replicate i blank_instance;
-        idle = blank_instance;
-        back = sorted_from p list (i + 1);
-        holds = so ∙ rw (e, ← replicate-append-replicate i 1 blank_instance) (append_snoc (replicate i blank_instance) blank_instance rest);
-        at = length-replicate i blank_instance;
-        end = omega (arith, length_from (i + 1));
-        makes = rw next;
-      }
-
-  -- and at last they are all there
-  pub array_done :
-      (array : List Instance) → array ≡ array_from p list n 0 →
-      ◌≡◌ {A = Run} record { count = n; run = array } (packed (instances_listed p (entries_in list)))
+module _ (p : Profile) (es rest : List Entry) (few : length es ≤ instances_most) (next : Run) (so : Listing p es rest next) where
+  listed_few : length (instances_listed p so.done) ≤ instances_most
   unfolding instances_listed
-  array_done array so =
-      let many : n ≡ length (sorted_from p list 0) = omega (arith, length_from 0) in
-      packed_done (sorted_from p list 0) n array (many, rw (← many) so, omega (arith, many, few))
+  listed_few =
+      omega (
+        arith,
+        few,
+        sorted_length (map (instance_for p) so.done),
+        length-map so.done (instance_for p),
+        length-append rest so.done,
+        ap length so.whole,
+      )
+
+  held_all : instances_of next ≡ instances_listed p so.done
+  held_all = ap instances_of so.made ∙ packed_all (instances_listed p so.done) (omega (arith, listed_few))
+
+  -- there is room for one more
+  pub listing_room : Packed next × (next.count < run_most)
+  listing_room =
+      (rw so.made (packed_packed (instances_listed p so.done)), rw so.made (omega (arith, listed_few, length-take run_most (instances_listed p so.done))))
+
+  pub listing_next :
+      (x : Entry) (left : List Entry) (more : Run) → rest ≡ left ++ x ∷ [] →
+      more ≡ packed (merged (instance_for p x ∷ []) (instances_of next)) → Listing p es left more
+  unfolding instances_listed sorted
+  listing_next x left more on is = record {
+    done = x ∷ so.done;
+    whole = sym (append_snoc left x so.done) ∙ rw on at so.whole;
+    made = rw held_all at is;
+  }
+
+  pub listing_done : rest ≡ [] → next ≡ packed (instances_listed p es)
+  listing_done none = so.made ∙ ap (λ (l : List Entry). packed (instances_listed p l)) (rw none at so.whole)

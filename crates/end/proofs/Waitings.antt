@@ -1,26 +1,23 @@
 -- An end that has sent waits for the answer to what it wrote. Assumes nothing.
 use Prim.Native.Nat.{ℕ, ◌<◌, ◌≤◌}
-use mathlib.Core.Path.{◌≡◌, refl, sym, ap, ◌∙◌}
-use mathlib.Core.Bool.{Bool, true}
+use mathlib.Core.Path.{◌≡◌, refl, sym, ◌∙◌}
+use mathlib.Core.Bool.{true}
 use mathlib.Core.List.{List}
 use native.Mathlib.Omega.{arith}
 use lib.IntN.{pos}
 use lib.ListN.{length}
 use Rattle.refusals.specs.Refusal.{refusal_no, refuses, tells}
 use Rattle.refusals.specs.Handling.{handling_told}
-use Rattle.refusals.specs.declared.handling.Handling.{Handling}
-use Rattle.refusals.specs.declared.handling.Handling.TheVariants.{Refuses, Done}
-use Rattle.refusals.specs.declared.handling.Written.{Written}
+use Rattle.std.specs.Prelude.{Result, Ok, Err}
+use Rattle.refusals.specs.declared.refusal.Refusal.{Refusal}
 use Rattle.refusals.proofs.Refusals.{refuses_not}
 use Rattle.profile.specs.Access.{access_read}
-use Rattle.profile.specs.declared.access.AccessRead.{AccessRead}
 use Rattle.requests.specs.Sent.{sendable, request_octets}
 use Rattle.requests.specs.declared.request.Request.{Request}
 use Rattle.lists.specs.Entries.{instances_most}
-use Rattle.instances.specs.Run.{run_good}
 use Rattle.end.specs.End.{used_most}
 use Rattle.end.specs.Sending.{sent, Sends, sends, SendsBy}
-use Rattle.end.specs.inner.Sending.{WrittenBy, WrittenWhere, end_after, IdentifierLeft}
+use Rattle.end.specs.inner.Sending.{WrittenBy, end_after, IdentifierLeft}
 use Rattle.end.specs.declared.end.End.{End}
 use Rattle.end.proofs.Ends.{used_most_lem}
 use Rattle.end.proofs.Steps.{ours, sends_ind}
@@ -53,46 +50,38 @@ sends_waits access operation r e size =
 
 module _ (access : List ℕ) (operation : ℕ) (r : Request) (e : End) (size : ℕ) where
   told_left :
-      (outcome : Handling) → handling_told outcome ≡ (sends access operation r e size).told → IdentifierLeft e outcome
-  told_left (Refuses refusal) is = tt
-  told_left Done is =
+      (outcome : Result ℕ Refusal) → handling_told outcome ≡ (sends access operation r e size).told → IdentifierLeft e outcome
+  told_left (Err refusal) is = tt
+  told_left (Ok count) is =
       sends_ind access e operation r size (λ d. tells tt ≡ d.told → e.used < used_most)
       (λ _ h. absurd (refuses_not _ _ (sym h)))
       (λ _ good more _ _. omega (arith, used_most_lem instances_most (ours access) e good, more))
       is
 
   told_end :
-      (outcome : Handling) → handling_told outcome ≡ (sends access operation r e size).told →
+      (outcome : Result ℕ Refusal) → handling_told outcome ≡ (sends access operation r e size).told →
       end_after operation r e outcome ≡ (sends access operation r e size).end
-  told_end (Refuses refusal) =
+  told_end (Err refusal) =
       sends_ind access e operation r size (λ d. refuses (refusal_no refusal) ≡ d.told → e ≡ d.end)
       (λ _ _. refl)
       (λ _ _ _ _ h. absurd (refuses_not _ _ h))
-  told_end Done =
+  told_end (Ok count) =
       sends_ind access e operation r size (λ d. tells tt ≡ d.told → sent operation r e ≡ d.end)
       (λ _ h. absurd (refuses_not _ _ (sym h)))
       (λ _ _ _ _ _. refl)
 
--- what was written is right of an access whose profile was read and by whose profile the picture was judged
-pub written_for :
-    (access : List ℕ) (read : AccessRead) (good : Bool) (operation : ℕ) (r : Request) (e : End) (xs : List ℕ) (w : Written) (ys : List ℕ) →
-    read ≡ access_read access → good ≡ run_good instances_most read.profile e.picture →
-    WrittenWhere read.ok good operation r e xs w ys → WrittenBy (sends access operation r e (length xs)) xs w ys
-written_for access read good operation r e xs w ys is judged by =
-    by access (ap (λ (q : AccessRead). q.ok) (sym is)) (rw is at (sym judged))
-
-module _ (access : List ℕ) (operation : ℕ) (r : Request) (e : End) (xs : List ℕ) (w : Written) (ys : List ℕ)
+module _ (access : List ℕ) (operation : ℕ) (r : Request) (e : End) (xs : List ℕ) (w : Result ℕ Refusal) (ys : List ℕ)
     (by : WrittenBy (sends access operation r e (length xs)) xs w ys) where
   -- where it was not refused there is an identifier for the end that waits
-  pub written_left : IdentifierLeft e w.outcome
-  written_left = told_left access operation r e (length xs) w.outcome by.told
+  pub written_left : IdentifierLeft e w
+  written_left = told_left access operation r e (length xs) w by.told
 
   -- what was written, with the end after it, is what is sent
   pub written_sends :
-      (next : End) → next ≡ end_after operation r e w.outcome →
-      SendsBy (sends access operation r e (length xs)) xs (record { end = next; outcome = w.outcome; count = w.count }) ys
+      (next : End) → next ≡ end_after operation r e w →
+      SendsBy (sends access operation r e (length xs)) xs (record { end = next; outcome = w }) ys
   written_sends next is = record {
-    end = is ∙ told_end access operation r e (length xs) w.outcome by.told;
+    end = is ∙ told_end access operation r e (length xs) w by.told;
     told = by.told;
     count = by.count;
     lent = by.lent;

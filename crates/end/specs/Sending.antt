@@ -6,7 +6,7 @@ use Rattle.laws.specs.Tests.{test, first}
 use Rattle.laws.specs.Over.{over}
 use Rattle.laws.specs.Mark.{doubt, mark_no}
 use Rattle.refusals.specs.Refusal.{refusal_no, Told, refuses, tells, output_least}
-use Rattle.refusals.specs.Handling.{handling_told}
+use Rattle.refusals.specs.Handling.{handling_told, written_count}
 use Rattle.refusals.specs.declared.refusal.Refusal.{Refusal}
 use Rattle.refusals.specs.declared.refusal.Refusal.TheVariants.{ShortOutput, BadProfile, BadTable, Outstanding, Exhausted, BadRequest}
 use Rattle.codes.specs.Codes.{activation, deactivation, interrogation}
@@ -71,7 +71,7 @@ sends access operation r e size =
 pub record SendsBy (done : Sends) (xs : List ℕ) (r : Sent) (ys : List ℕ) : Type 0 where
   pub end : r.end ≡ done.end
   pub told : handling_told r.outcome ≡ done.told
-  pub count : r.count ≡ length done.octets
+  pub count : written_count r.outcome ≡ length done.octets
   pub lent : ys ≡ over xs 0 done.octets
 
 -- what `activate`, `deactivate` and `interrogate` promise

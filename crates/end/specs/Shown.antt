@@ -1,5 +1,5 @@
 -- What the subscriber's page reads (document 01, "The customer end", "Local refusals").
-use Rattle.std.specs.Prelude.{ℕ, ◌≡◌, Bool, not, List, [], ◌∷◌, map, length, get_or, eqb}
+use Rattle.std.specs.Prelude.{ℕ, ◌≡◌, Bool, not, List, [], ◌∷◌, map, length, get_or, eqb, Result, Ok, Err}
 use Rattle.laws.specs.Pick.{pick}
 use Rattle.laws.specs.Tests.{test, first}
 use Rattle.laws.specs.Mark.{known, doubt, mark_no}
@@ -17,7 +17,7 @@ use Rattle.end.specs.End.{mark_at, end_good}
 use Rattle.end.specs.Listed.{every_of}
 use Rattle.end.specs.declared.end.End.{End}
 use Rattle.end.specs.declared.show.Shown.{Shown}
-use Rattle.end.specs.declared.show.Shown.TheVariants.{Refuses, Known, Doubt}
+use Rattle.end.specs.declared.show.Shown.TheVariants.{Known, Doubt}
 use Rattle.end.specs.declared.show.EntryShown.{EntryShown}
 
 -- a procedure on the page, by numbers: its mark and, where it is known, how many instances it has
@@ -31,10 +31,10 @@ seen_known count = record { mark = mark_no known; values = count ∷ [] }
 abbrev pub seen_doubt : Seen
 seen_doubt = record { mark = mark_no doubt; values = [] }
 
-abbrev pub shown_no : Shown → Told Seen
-shown_no (Refuses refusal) = refuses (refusal_no refusal)
-shown_no (Known count) = tells (seen_known count)
-shown_no Doubt = tells seen_doubt
+abbrev pub shown_no : Result Shown Refusal → Told Seen
+shown_no (Err refusal) = refuses (refusal_no refusal)
+shown_no (Ok (Known count)) = tells (seen_known count)
+shown_no (Ok Doubt) = tells seen_doubt
 
 -- the entries of a procedure in the picture, as an interrogation's result would have them
 abbrev pub entries_shown : Profile → End → ℕ → List Entry
@@ -67,7 +67,7 @@ entries_out access e procedure =
     handed_out (shown access e procedure) (entries_shown (access_read access).profile e procedure)
 
 -- what `shown` promises
-abbrev pub Shows : List ℕ → End → ℕ → Shown → Type 0
+abbrev pub Shows : List ℕ → End → ℕ → Result Shown Refusal → Type 0
 Shows access e procedure r = shown_no r ≡ shown access e procedure
 
 -- what `entry` promises: the same, and the entry

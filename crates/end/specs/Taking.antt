@@ -1,5 +1,5 @@
 -- What arrives at the end, and giving up (document 01, "The customer end", "Local refusals").
-use Rattle.std.specs.Prelude.{ℕ, ◌≡◌, not, List, [], ◌∷◌, pos, length, ltb, eqb}
+use Rattle.std.specs.Prelude.{ℕ, ◌≡◌, not, List, [], ◌∷◌, pos, length, ltb, eqb, Result}
 use Rattle.std.proofs.Math.Option.{Option, none, some}
 use Rattle.laws.specs.Pick.{pick}
 use Rattle.laws.specs.Got.{Got, got, wrong}
@@ -8,7 +8,6 @@ use Rattle.laws.specs.Mark.{known, doubt, mark_no}
 use Rattle.refusals.specs.Refusal.{refusal_no, Told, refuses, tells, component_most}
 use Rattle.refusals.specs.Handling.{handling_told}
 use Rattle.refusals.specs.declared.refusal.Refusal.{Refusal}
-use Rattle.refusals.specs.declared.handling.Handling.{Handling}
 use Rattle.refusals.specs.declared.refusal.Refusal.TheVariants.{LongComponent, BadProfile, BadTable}
 use Rattle.profile.specs.Access.{access_read}
 use Rattle.profile.specs.declared.profile.Profile.{Profile}
@@ -104,7 +103,7 @@ pub record MovesBy (done : Moves) (r : Moved) : Type 0 where
   pub told : handling_told r.outcome ≡ done.told
 
 -- what `arrived` promises: what is told, and that the next end, no more and no less, stands where the end stood
-abbrev pub Takes : List ℕ → End → List ℕ → Handling → End → Type 0
+abbrev pub Takes : List ℕ → End → List ℕ → Result (Unit {0}) Refusal → End → Type 0
 Takes access e s r next = MovesBy (takes access e s) (record { end = next; outcome = r })
 
 -- what `give_up` promises

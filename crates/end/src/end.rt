@@ -45,22 +45,17 @@ pub fn fresh_end() -> End
     }
 }
 
+#[tactic(auto, unfolding(crate::specs::End::marks_good))]
 fn marks_good(marks: [u8; PROCEDURES]) -> bool
     ensures { result ≡ marks_good marks }
 {
-    if 1 < marks[0] {
-        return false;
-    }
-    if 1 < marks[1] {
-        return false;
-    }
-    marks[2] <= 1
+    marks.iter().all(|mark| *mark <= KNOWN)
 }
 
-// Whether all but the picture breaks no rule. The request stands beside its end: taken out of it here, it would cost callers a copy of the end.
-pub(crate) fn rules_hold(e: End, request: Request) -> bool
-    requires { request ≡ e.request }
-    ensures { result ≡ all (end_rules e) }
+// Whether all but the picture breaks no rule. The end is looked at where it stands: taken by value, it would be copied.
+#[tactic(auto, unfolding(crate::specs::End::waiting_good))]
+pub(crate) fn rules_hold(e: &End) -> bool
+    ensures { result ≡ all (end_rules e.now) }
 {
     if USEDMOST < e.used {
         return false;
@@ -68,8 +63,7 @@ pub(crate) fn rules_hold(e: End, request: Request) -> bool
     if 1 < e.outstanding {
         return false;
     }
-    let marks = e.marks;
-    if !marks_good(marks) {
+    if !marks_good(e.marks) {
         return false;
     }
     if e.outstanding == 0 {
@@ -81,7 +75,7 @@ pub(crate) fn rules_hold(e: End, request: Request) -> bool
     if 1 < e.before {
         return false;
     }
-    is_sendable(e.operation, request)
+    is_sendable(e.operation, e.request)
 }
 
 impl End {
@@ -89,11 +83,9 @@ impl End {
     pub fn good(self, p: Profile) -> bool
         ensures { EndGood p self result }
     {
-        let request = self.request;
-        if !rules_hold(self, request) {
+        if !rules_hold(&self) {
             return false;
         }
-        let picture = self.picture;
-        picture.good(p)
+        self.picture.good(p)
     }
 }

@@ -1,9 +1,10 @@
 // What the end makes of a list's entries (document 01, "The customer end").
-ghost use Rattle.std.specs.Prelude.{◌≡◌, true, ◌≤◌};
+ghost use Rattle.std.specs.Prelude.{◌≡◌, true, ◌≤◌, ◌<◌, [], ◌∷◌, get_or, eqb};
 ghost use Rattle.lists.specs.Entries.{instances_most, entries_in};
-ghost use Rattle.instances.specs.Run.{instances_of, packed, each_good};
+ghost use Rattle.instances.specs.Places.{run_most};
+ghost use Rattle.instances.specs.Run.{instances_of, packed, merged, each_good};
 ghost use Rattle.end.specs.Listed.{instance_for, instances_listed, list_good, every_of};
-ghost use Rattle.end.specs.inner.Listed.{address_held};
+ghost use Rattle.end.specs.inner.Listed.{address_held, Packed};
 
 use instances::{
     EVERYNUMBER, EVERYSERVICE, Instance, PROCEDURES, Run, Selection, fresh_run, key_of, stored,
@@ -22,70 +23,76 @@ pub(crate) fn every_of(procedure: u8) -> Selection
     }
 }
 
+// The instances that a run counts.
+pub(crate) fn held(run: &Run) -> &[Instance]
+    ensures { result.now ≡ instances_of run.now }
+{
+    let all: &[Instance] = &run.run;
+    &all[..all.len().min(run.count as usize)]
+}
+
 // An entry's instance; a number that the profile has not has the place after its last.
 fn instance_for(p: Profile, x: Entry) -> Instance
     ensures { result ≡ instance_for p x }
 {
-    let served = x.served;
-    let address = x.address;
     Instance {
         procedure: x.procedure,
-        number: number_place(p, served) as u8,
+        number: number_place(p, x.served) as u8,
         service: x.service,
-        address,
+        address: x.address,
     }
 }
 
-// The instances of a list, ascending. They are put in their places from the last entry to the first: a list that ascends already is
-// only copied.
+// An instance is put before the first that does not come before it.
+fn insert(next: &mut Run, x: Instance)
+    requires { Packed next.old × (next.old.count < run_most) }
+    ensures { next.new ≡ packed (merged (x ∷ []) (instances_of next.old)) }
+{
+    let n = next.count as usize;
+    let key = key_of(x.procedure, x.number, x.service);
+    let at = next.run[..n]
+        .iter()
+        .position(|y| key <= key_of(y.procedure, y.number, y.service))
+        .unwrap_or(n);
+    next.run[n] = x;
+    next.run[at..=n].rotate_right(1);
+    next.count += 1;
+}
+
+// The instances of a list, ascending. They are put in from the last entry to the first, so that of two with one key the first stays first.
 pub(crate) fn run_from(p: Profile, list: Entries) -> Run
     ensures { result ≡ packed (instances_listed p (entries_in list)) }
 {
     let mut next = fresh_run();
-    let n = stored(list.count, INSTANCESMOST);
-    let mut i = n;
-    while 0 < i {
-        i -= 1;
-        let entry = list.entries[i];
-        let x = instance_for(p, entry);
-        let key = key_of(x.procedure, x.number, x.service);
-        let mut j = i;
-        while j + 1 < n {
-            let y = next.run[j + 1];
-            if key <= key_of(y.procedure, y.number, y.service) {
-                break;
-            }
-            next.run[j] = y;
-            j += 1;
-        }
-        next.run[j] = x;
+    for entry in list.entries[..stored(list.count, INSTANCESMOST)]
+        .iter()
+        .rev()
+    {
+        insert(&mut next, instance_for(p, *entry));
     }
-    next.count = n as u8;
     next
 }
 
-// Whether a list's instances are all of the procedure, and obey the rules of a table; the addresses do, since entries with others are not read.
-pub(crate) fn list_good(p: Profile, procedure: u8, run: Run) -> bool
-    requires { (run.count ≤ instances_most) × (each_good address_held (instances_of run) ≡ true) }
-    ensures { result ≡ list_good instances_most p procedure (instances_of run) }
+// Whether a procedure is one of the three, and subscribed.
+fn is_subscribed(subscribed: [u8; PROCEDURES], procedure: u8) -> bool
+    ensures { result ≡ eqb (get_or subscribed procedure 0) 1 }
 {
-    let n = stored(run.count, INSTANCESMOST);
-    if n == 0 {
-        return true;
-    }
-    let subscribed = p.subscribed;
-    if PROCEDURES <= procedure as usize {
-        return false;
-    }
-    if subscribed[procedure as usize] != 1 {
-        return false;
-    }
+    matches!(subscribed.get(procedure as usize), Some(1))
+}
+
+// Whether a list's instances are all of the procedure, and obey the rules of a table; the addresses do, since entries with others are not read.
+pub(crate) fn list_good(p: Profile, procedure: u8, run: &Run) -> bool
+    requires { (run.now.count ≤ instances_most) × (each_good address_held (instances_of run.now) ≡ true) }
+    ensures { result ≡ list_good instances_most p procedure (instances_of run.now) }
+{
+    let subscribed = is_subscribed(p.subscribed, procedure);
     let services = stored(p.servicecount, SERVICES);
     let mut below: usize = 0;
-    let mut i: usize = 0;
-    while i < n {
-        let x = run.run[i];
+    for x in held(run) {
         if x.procedure != procedure {
+            return false;
+        }
+        if !subscribed {
             return false;
         }
         let key = key_of(x.procedure, x.number, x.service);
@@ -99,7 +106,6 @@ pub(crate) fn list_good(p: Profile, procedure: u8, run: Run) -> bool
             return false;
         }
         below = key;
-        i += 1;
     }
     true
 }

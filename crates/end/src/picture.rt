@@ -1,49 +1,52 @@
 // The picture with what a good list says of a procedure (document 01, "The customer end").
-ghost use Rattle.std.specs.Prelude.{◌≡◌, true};
-ghost use Rattle.instances.specs.Run.{instances_of, packed, is_of, each_good};
-ghost use Rattle.end.specs.Listed.{replaced};
+ghost use Rattle.std.specs.Prelude.{◌≡◌, true, [], ◌∷◌, ◌++◌};
+ghost use Rattle.instances.specs.Run.{instances_of, packed, deactivated, is_of, each_good};
+ghost use Rattle.end.specs.Listed.{every_of, replaced};
+ghost use Rattle.end.specs.inner.Listed.{Packed};
 
-use instances::{ROOM, Run, fresh_run, stored};
+use crate::list::held;
+use instances::{Instance, ROOM, Run, fresh_run};
 
-// The procedure's instances make way for those of the list, which are of that procedure: two ascending runs as one.
+// One instance more, where there is room.
+fn add(next: &mut Run, x: Instance)
+    requires { Packed next.old }
+    ensures { next.new ≡ packed (instances_of next.old ++ x ∷ []) }
+{
+    let n = next.count as usize;
+    if n < ROOM {
+        next.run[n] = x;
+        next.count += 1;
+    }
+}
+
+// Those that are not of the procedure.
+fn add_others(next: &mut Run, procedure: u8, instances: &[Instance])
+    requires { Packed next.old }
+    ensures { next.new ≡ packed (instances_of next.old ++ deactivated (every_of procedure) instances.now) }
+{
+    for x in instances {
+        if x.procedure != procedure {
+            add(next, *x);
+        }
+    }
+}
+
+// The procedure's instances make way for those of the list, which are of that procedure.
 pub(crate) fn replaced_by(picture: Run, procedure: u8, list: Run) -> Run
     requires { each_good (is_of procedure) (instances_of list) ≡ true }
     ensures { result ≡ packed (replaced procedure (instances_of list) (instances_of picture)) }
 {
-    let n = stored(picture.count, ROOM);
-    let many = stored(list.count, ROOM);
+    let old = held(&picture);
+    let new = held(&list);
+    let at = old
+        .iter()
+        .position(|x| procedure < x.procedure)
+        .unwrap_or(old.len());
     let mut next = fresh_run();
-    let mut k: usize = 0;
-    let mut m: usize = 0;
-    let mut i: usize = 0;
-    while k < ROOM {
-        if i < n {
-            let x = picture.run[i];
-            if x.procedure == procedure {
-                i += 1;
-            } else if m < many {
-                if x.procedure < procedure {
-                    next.run[k] = x;
-                    i += 1;
-                } else {
-                    next.run[k] = list.run[m];
-                    m += 1;
-                }
-                k += 1;
-            } else {
-                next.run[k] = x;
-                k += 1;
-                i += 1;
-            }
-        } else if m < many {
-            next.run[k] = list.run[m];
-            k += 1;
-            m += 1;
-        } else {
-            next.count = k as u8;
-            return next;
-        }
+    add_others(&mut next, procedure, &old[..at]);
+    for x in new {
+        add(&mut next, *x);
     }
-    next.count = k as u8;
+    add_others(&mut next, procedure, &old[at..]);
     next
 }

@@ -12,7 +12,6 @@ use refusals::Refusal;
 // A known procedure has so many instances; of one in doubt nothing is said.
 #[derive(Clone, Copy)]
 pub enum Shown {
-    Refuses { refusal: Refusal },
     Known { count: usize },
     Doubt,
 }
@@ -21,41 +20,33 @@ pub enum Shown {
 // end of a list, since of a procedure in doubt there is no list.
 #[derive(Clone, Copy)]
 pub struct EntryShown {
-    pub shown: Shown,
+    pub shown: Result<Shown, Refusal>,
     pub entry: Entry,
 }
 
 impl End {
     // The mark of a procedure and, where it is known, how many instances it has.
-    pub fn shown(self, access: &[u8], procedure: u8) -> Shown
+    pub fn shown(self, access: &[u8], procedure: u8) -> Result<Shown, Refusal>
         ensures { Shows access.now self procedure result }
     {
-        let read = read_access(access);
-        if !read.ok {
-            return Shown::Refuses {
-                refusal: Refusal::BadProfile,
-            };
-        }
-        let p = read.profile;
+        let Some(p) = read_access(access) else {
+            return Err(Refusal::BadProfile);
+        };
         if !self.good(p) {
-            return Shown::Refuses {
-                refusal: Refusal::BadTable,
-            };
+            return Err(Refusal::BadTable);
         }
         if PROCEDURES <= procedure as usize {
-            return Shown::Refuses {
-                refusal: Refusal::BadRequest,
-            };
+            return Err(Refusal::BadRequest);
         }
         let marks = self.marks;
         if mark_at(marks, procedure) != KNOWN {
-            return Shown::Doubt;
+            return Ok(Shown::Doubt);
         }
         let picture = self.picture;
         let sel = every_of(procedure);
-        Shown::Known {
+        Ok(Shown::Known {
             count: picture.chosen_count(sel),
-        }
+        })
     }
 
     // The entry at the place `i` of a procedure that is known.
@@ -65,33 +56,35 @@ impl End {
         let shown = self.shown(access, procedure);
         let none = no_entries();
         let blank = none.entries[0];
-        match shown {
-            Shown::Known { count } => {
-                if count <= i {
-                    return EntryShown {
-                        shown: Shown::Known { count },
-                        entry: blank,
-                    };
-                }
-                let read = read_access(access);
-                let p = read.profile;
-                let picture = self.picture;
-                let sel = every_of(procedure);
-                let list = picture.entries(p, sel);
-                let entry = list.entries[i];
-                EntryShown {
-                    shown: Shown::Known { count },
-                    entry,
-                }
+        let told = match shown {
+            Ok(told) => told,
+            Err(_) => {
+                return EntryShown {
+                    shown,
+                    entry: blank,
+                };
             }
-            Shown::Refuses { refusal } => EntryShown {
-                shown: Shown::Refuses { refusal },
+        };
+        let Shown::Known { count } = told else {
+            return EntryShown {
+                shown,
                 entry: blank,
-            },
-            Shown::Doubt => EntryShown {
-                shown: Shown::Doubt,
+            };
+        };
+        if count <= i {
+            return EntryShown {
+                shown,
                 entry: blank,
-            },
+            };
         }
+        let Some(p) = read_access(access) else {
+            // What is shown as known was read by this profile.
+            unreachable!()
+        };
+        let picture = self.picture;
+        let sel = every_of(procedure);
+        let list = picture.entries(p, sel);
+        let entry = list.entries[i];
+        EntryShown { shown, entry }
     }
 }

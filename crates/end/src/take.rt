@@ -12,85 +12,72 @@ use crate::list::{list_good, run_from};
 use crate::picture::replaced_by;
 use crate::send::marked;
 use answers::{Reply, reply_to};
-use instances::Run;
 use lists::entries_at;
 use profile::{Profile, read_access};
-use refusals::{Handling, Refusal};
-use requests::{Request, blank_request};
+use refusals::Refusal;
+use requests::blank_request;
 use rules::{Verdict, apply_request, judge_request};
 
-// The next end, and a refusal or none.
+// The next end, and the refusal where it is refused.
 #[derive(Clone, Copy)]
 pub struct Moved {
     pub end: End,
-    pub outcome: Handling,
+    pub outcome: Result<(), Refusal>,
 }
 
-// Every way to close a request.
-fn closed(e: End, mark: u8, picture: Run) -> End
-    ensures { result ≡ closed mark picture e }
+// Every way to close a request: its procedure gets this mark.
+#[tactic(auto, unfolding(crate::specs::End::closed))]
+fn closed(e: &mut End, mark: u8)
+    ensures { e.new ≡ closed mark e.old.picture e.old }
 {
-    let marks = e.marks;
-    let request = blank_request();
-    End {
-        used: e.used,
-        outstanding: 0,
-        operation: 0,
-        before: DOUBT,
-        request,
-        marks: marked(marks, e.request.procedure, mark),
-        picture,
-    }
+    e.marks = marked(e.marks, e.request.procedure, mark);
+    e.outstanding = 0;
+    e.operation = 0;
+    e.before = DOUBT;
+    e.request = blank_request();
 }
 
 // In doubt, and the instances stay as they were.
-fn doubted(e: End) -> End
-    ensures { result ≡ doubted e }
+fn doubted(e: &mut End)
+    ensures { e.new ≡ doubted e.old }
 {
-    let picture = e.picture;
-    closed(e, DOUBT, picture)
+    closed(e, DOUBT);
 }
 
 // The mark from before sending.
-fn restored(e: End) -> End
-    ensures { result ≡ restored e }
+fn restored(e: &mut End)
+    ensures { e.new ≡ restored e.old }
 {
-    let picture = e.picture;
-    closed(e, e.before, picture)
+    closed(e, e.before);
 }
 
-// A result of an activation or a deactivation: the request is applied to the picture by the exchange's own rules. Both stand beside their
-// end, as for `rules_hold`.
-fn applied(p: Profile, e: End, request: Request, picture: Run) -> End
-    requires { (request ≡ e.request) × (picture ≡ e.picture) }
-    ensures { result ≡ applied_by p e (judge instances_most p e.operation e.request (instances_of e.picture)) }
+// A result of an activation or a deactivation: the request is applied to the picture by the exchange's own rules.
+fn applied(p: Profile, e: &mut End)
+    ensures { e.new ≡ applied_by p e.old (judge instances_most p e.old.operation e.old.request (instances_of e.old.picture)) }
 {
-    match judge_request(p, e.operation, request, picture) {
-        Verdict::Fails { error: _ } => return doubted(e),
+    match judge_request(p, e.operation, e.request, e.picture) {
+        Verdict::Fails { error: _ } => doubted(e),
         Verdict::Passes { renews: _ } => {
-            let next = apply_request(p, e.operation, request, picture);
-            return closed(e, e.before, next);
+            e.picture = apply_request(p, e.operation, e.request, e.picture);
+            restored(e);
         }
     }
 }
 
 // A list, whose entries stand from `at` up to `end`.
-fn learned(p: Profile, e: End, s: &[u8], at: usize, end: usize) -> End
-    ensures { result ≡ learned_by p e (entries_from instances_most s.now at end) }
+fn learned(p: Profile, e: &mut End, s: &[u8], at: usize, end: usize)
+    ensures { e.new ≡ learned_by p e.old (entries_from instances_most s.now at end) }
 {
-    let read = entries_at(s, at, end);
-    if !read.ok {
+    let Some(list) = entries_at(s, at, end) else {
         return doubted(e);
-    }
-    let list = read.list;
+    };
     let procedure = e.request.procedure;
     let new = run_from(p, list);
-    if !list_good(p, procedure, new) {
+    if !list_good(p, procedure, &new) {
         return doubted(e);
     }
-    let picture = e.picture;
-    let next = replaced_by(picture, procedure, new);
-    closed(e, KNOWN, next)
+    e.picture = replaced_by(e.picture, procedure, new);
+    closed(e, KNOWN);
 }
 
 // The step of an arriving component, by value; others have `lent`.
@@ -98,21 +85,18 @@ pub(crate) fn took(p: Profile, e: End, s: &[u8]) -> End
     requires { e.used ≤ used_most }
     ensures { result ≡ took p e s.now }
 {
+    let mut next = e;
     if e.outstanding != 1 {
-        return e;
+        return next;
     }
     match reply_to(s, e.used as i16, e.operation) {
-        Reply::Dropped => return e,
-        Reply::Rejected => return doubted(e),
-        Reply::Failed { value: _ } => return restored(e),
-        Reply::Done => {
-            let request = e.request;
-            let picture = e.picture;
-            return applied(p, e, request, picture);
-        }
-        Reply::Listed { at, end } => return learned(p, e, s, at, end),
-        Reply::Wrong => return doubted(e),
+        Reply::Dropped => {}
+        Reply::Rejected | Reply::Wrong => doubted(&mut next),
+        Reply::Failed { value: _ } => restored(&mut next),
+        Reply::Done => applied(p, &mut next),
+        Reply::Listed { at, end } => learned(p, &mut next, s, at, end),
     }
+    next
 }
 
 fn refuses(end: End, refusal: Refusal) -> Moved
@@ -120,7 +104,7 @@ fn refuses(end: End, refusal: Refusal) -> Moved
 {
     Moved {
         end,
-        outcome: Handling::Refuses { refusal },
+        outcome: Err(refusal),
     }
 }
 
@@ -129,24 +113,23 @@ impl End {
     pub fn give_up(self, access: &[u8]) -> Moved
         ensures { GivesUp access.now self result }
     {
-        let read = read_access(access);
-        if !read.ok {
+        let Some(p) = read_access(access) else {
             return refuses(self, Refusal::BadProfile);
-        }
-        let p = read.profile;
+        };
         if !self.good(p) {
             return refuses(self, Refusal::BadTable);
         }
         if self.outstanding != 1 {
             return Moved {
                 end: self,
-                outcome: Handling::Done,
+                outcome: Ok(()),
             };
         }
-        let end = doubted(self);
+        let mut end = self;
+        doubted(&mut end);
         Moved {
             end,
-            outcome: Handling::Done,
+            outcome: Ok(()),
         }
     }
 }

@@ -1,10 +1,10 @@
 use Rattle.end.proofs.send.end_after.Goals as goal
 
 pub waiting-requires : goal.waiting-requires
-waiting-requires c = rw c.in-Done.is at c.requires
+waiting-requires c = rw c.in-Ok.is at c.requires
 
-pub returns-in-Refuses : goal.returns-in-Refuses
-returns-in-Refuses c = rw c.in-Refuses.is
+pub returns-in-Err : goal.returns-in-Err
+returns-in-Err c = rw c.in-Err.is
 
-pub returns-in-Done : goal.returns-in-Done
-returns-in-Done c = rw c.in-Done.is c.waiting.ensures
+pub returns-in-Ok : goal.returns-in-Ok
+returns-in-Ok c = rw c.in-Ok.is c.waiting.ensures

@@ -5,6 +5,7 @@ use lib.IntN.{pos}
 use Rattle.end.proofs.Movings.{took_idle, took_reply}
 use native.Mathlib.Omega.{arith}
 use mathlib.Core.Path.{◌∙◌}
+use mathlib.Core.Logic.{⊎_elim}
 use Rattle.end.proofs.take.took.Goals as goal
 
 pub returns-then-e-ne1 : goal.returns-then-e-ne1
@@ -22,8 +23,10 @@ returns-in-Dropped c =
 pub returns-in-Rejected : goal.returns-in-Rejected
 returns-in-Rejected c =
     let id : SFits w16 (pos c.args.e.used) = omega (arith, c.requires) in
-    c.doubted.ensures ∙ took_reply c.args.p c.args.e c.args.s.now _ _ c.if-e-ne1.false
-    (rw (to_z-of_z id) at c.reply_to.ensures) c.in-Rejected.is
+    let heard = rw (to_z-of_z id) at c.reply_to.ensures in
+    c.doubted.ensures
+    ∙ ⊎_elim (took_reply c.args.p c.args.e c.args.s.now _ _ c.if-e-ne1.false heard)
+    (took_reply c.args.p c.args.e c.args.s.now _ _ c.if-e-ne1.false heard) c.in-Rejected.is
 
 pub returns-in-Failed : goal.returns-in-Failed
 returns-in-Failed c =
@@ -42,9 +45,3 @@ returns-in-Listed c =
     let id : SFits w16 (pos c.args.e.used) = omega (arith, c.requires) in
     c.learned.ensures ∙ took_reply c.args.p c.args.e c.args.s.now _ _ c.if-e-ne1.false
     (rw (to_z-of_z id) at c.reply_to.ensures) c.in-Listed.is
-
-pub returns-in-Wrong : goal.returns-in-Wrong
-returns-in-Wrong c =
-    let id : SFits w16 (pos c.args.e.used) = omega (arith, c.requires) in
-    c.doubted-in-Wrong.ensures ∙ took_reply c.args.p c.args.e c.args.s.now _ _ c.if-e-ne1.false
-    (rw (to_z-of_z id) at c.reply_to.ensures) c.in-Wrong.is

@@ -1,17 +1,17 @@
 use Rattle.end.proofs.Movings.{gives_profile, gives_end, gives_all, gave_nothing, gave_doubt, refused_moves, all_moves}
 use Rattle.end.specs.Taking.{gives_up}
 use Rattle.refusals.specs.declared.refusal.Refusal.TheVariants.{BadProfile, BadTable}
-use Rattle.profile.specs.declared.access.AccessRead.{AccessRead}
+use Rattle.profile.proofs.Records.{read_some, read_none}
 use borrow.Author.Tests.{not-true, not-false}
 use mathlib.Core.Path.{sym, ap, ◌∙◌}
 use Rattle.end.proofs.end.End.give_up.Goals as goal
 
-pub returns-then-not-read : goal.returns-then-not-read
-returns-then-not-read c =
+pub returns-in_default : goal.returns-in_default
+returns-in_default c =
     let a = c.args in
     refused_moves (gives_up a.access.now a.self) a.self BadProfile _
     (gives_profile a.access.now a.self
-    (ap (λ (q : AccessRead). q.ok) (sym c.read_access-read.ensures) ∙ not-true _ c.if-not-read.true))
+    (read_none _ _ c.read_access.ensures c.in_default.is))
     c.refuses.ensures
 
 pub returns-then-not-good : goal.returns-then-not-good
@@ -19,9 +19,8 @@ returns-then-not-good c =
     let a = c.args in
     refused_moves (gives_up a.access.now a.self) a.self BadTable _
     (gives_end a.access.now a.self
-    (ap (λ (q : AccessRead). q.ok) (sym c.read_access-read.ensures)
-    ∙ not-false _ c.if-not-read.false)
-    (rw c.read_access-read.ensures at
+    ((read_some _ _ _ c.read_access.ensures c.in-Some.is).0)
+    (rw (← (read_some _ _ _ c.read_access.ensures c.in-Some.is).1) at
     (sym c.good.ensures ∙ c.if-not-good.true))) c.refuses-then-not-good.ensures
 
 pub returns-then-self-ne1 : goal.returns-then-self-ne1
@@ -29,9 +28,8 @@ returns-then-self-ne1 c =
     let a = c.args in
     all_moves (gives_up a.access.now a.self) _ _
     (gives_all a.access.now a.self
-    (ap (λ (q : AccessRead). q.ok) (sym c.read_access-read.ensures)
-    ∙ not-false _ c.if-not-read.false)
-    (rw c.read_access-read.ensures at
+    ((read_some _ _ _ c.read_access.ensures c.in-Some.is).0)
+    (rw (← (read_some _ _ _ c.read_access.ensures c.in-Some.is).1) at
     (sym c.good.ensures ∙ c.if-not-good.false)))
     (sym (gave_nothing a.self c.if-self-ne1.true))
 
@@ -40,8 +38,7 @@ returns c =
     let a = c.args in
     all_moves (gives_up a.access.now a.self) _ _
     (gives_all a.access.now a.self
-    (ap (λ (q : AccessRead). q.ok) (sym c.read_access-read.ensures)
-    ∙ not-false _ c.if-not-read.false)
-    (rw c.read_access-read.ensures at
+    ((read_some _ _ _ c.read_access.ensures c.in-Some.is).0)
+    (rw (← (read_some _ _ _ c.read_access.ensures c.in-Some.is).1) at
     (sym c.good.ensures ∙ c.if-not-good.false)))
-    (c.doubted-end.ensures ∙ sym (gave_doubt a.self c.if-self-ne1.false))
+    (c.doubted.ensures ∙ sym (gave_doubt a.self c.if-self-ne1.false))
