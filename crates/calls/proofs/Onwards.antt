@@ -2,6 +2,7 @@
 use Prim.Native.Nat.{ℕ, ◌+◌}
 use mathlib.Core.Path.{◌≡◌}
 use lib.ListN.{get_or}
+use Rattle.std.specs.Prelude.{Some, Ok}
 use Rattle.numbers.specs.declared.number.Number.{Number}
 use Rattle.numbers.specs.declared.address.Address.{Address}
 use Rattle.profile.specs.Profile.{no_number}
@@ -10,9 +11,9 @@ use Rattle.calls.specs.Onward.{reason_no, reason_of, options_for, option_after, 
 use Rattle.calls.specs.declared.call.Call.{Call}
 use Rattle.calls.specs.declared.onward.Options.{Options}
 use Rattle.calls.specs.declared.onward.Reason.{Reason}
-use Rattle.calls.specs.Divert.{notice_no, served_of, noticed, onward, goes, Becomes}
+use Rattle.calls.specs.Divert.{notice_no, served_of, noticed, onward, goes}
+use Rattle.calls.specs.Coming.{Becomes}
 use Rattle.calls.specs.declared.diverting.Notice.{Notice}
-use Rattle.calls.specs.declared.diverting.Coming.TheVariants.{Diverts}
 
 -- the parts of a diverted call, as the code finds them one by one
 pub goes_on_lem :
@@ -26,8 +27,9 @@ pub goes_on_lem :
     preference ≡ preference_after c →
     number ≡ noticed option called →
     Becomes (goes p c called)
-    (record {
-      outcome = Diverts reason notice;
+    (Ok (Some (record {
+      reason = reason;
+      notice = notice;
       call = record {
         counter = c.counter + 1;
         called = called;
@@ -38,7 +40,7 @@ pub goes_on_lem :
         option = option;
         noticed = number;
       };
-    })
+    })))
 unfolding onward served_of
 goes_on_lem p c called reason notice option shown preference own number is why told ours original wish shows = record {
   told = rw (why, told, is);

@@ -18,17 +18,14 @@ use Rattle.instances.specs.Run.{instances_of, forwarded_to}
 use Rattle.instances.specs.declared.instance.Instance.{Instance}
 use Rattle.exchange.specs.Table.{table_good}
 use Rattle.exchange.specs.declared.table.Table.{Table}
-use Rattle.calls.specs.Onward.{reason_no, reason_of, options_for, option_after, preference_after, original_shown}
+use Rattle.calls.specs.Onward.{reason_of, options_for, option_after, preference_after, original_shown}
 use Rattle.calls.specs.declared.call.Call.{Call}
 use Rattle.calls.specs.Call.{call_from, call_good}
 use Rattle.calls.specs.declared.event.Event.{Event}
 use Rattle.calls.specs.declared.event.Event.TheVariants as event
 use Rattle.calls.specs.declared.diverting.Notice.{Notice}
 use Rattle.calls.specs.declared.diverting.Notice.TheVariants as notice
-use Rattle.calls.specs.declared.diverting.Coming.{Coming}
-use Rattle.calls.specs.declared.diverting.Coming.TheVariants.{Refuses, Passes, Diverts}
 use Rattle.calls.specs.declared.diverting.Onward.{Onward}
-use Rattle.calls.specs.declared.diverting.Diversion.{Diversion}
 
 -- ---- document 01's numbers
 
@@ -38,16 +35,14 @@ notice_no notice.Silent = 0
 notice_no notice.Diverting = 1
 notice_no notice.DivertingTo = 2
 
+-- what the number of a notice promises
+abbrev pub NoticeNo : Notice → ℕ → Type 0
+NoticeNo notice r = r ≡ notice_no notice
+
 -- what becomes of a call that is not refused: it is not diverted, or the numbers of the reason and of the notice
 pub data Course : Type 0 where
   passes : Course
   diverts : (reasonNumber noticeNumber : ℕ) → Course
-
--- what is told of a call
-abbrev pub coming_told : Coming → Told Course
-coming_told (Refuses refusal) = refuses (refusal_no refusal)
-coming_told Passes = tells passes
-coming_told (Diverts reason notice) = tells (diverts (reason_no reason) (notice_no notice))
 
 -- ---- which instance applies
 
@@ -133,12 +128,3 @@ comes access t s =
     ∷ [])
     call_refused
     (by_call (access_read access).profile t (call_from s))
-
--- what the functions promise: what is told by its numbers, and all of the call that goes on
-pub record Becomes (x : Comes) (d : Diversion) : Type 0 where
-  pub told : coming_told d.outcome ≡ x.told
-  pub call : d.call ≡ x.call
-
--- what `divert` promises
-abbrev pub DivertsTo : List ℕ → Table → List ℕ → Diversion → Type 0
-DivertsTo access t s d = Becomes (comes access t s) d

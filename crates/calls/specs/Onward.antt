@@ -1,5 +1,5 @@
 -- What a diverted call carries on, by the profile and the call alone (document 01, "Calls"; Q.732.2-5, 2.5.2.5.1.2).
-use Rattle.std.specs.Prelude.{ℕ, ltb, eqb}
+use Rattle.std.specs.Prelude.{ℕ, ◌≡◌, ltb, eqb}
 use Rattle.laws.specs.Pick.{pick}
 use Rattle.profile.specs.declared.profile.Profile.{Profile}
 use Rattle.calls.specs.declared.call.Call.{Call}
@@ -27,6 +27,10 @@ abbrev pub reason_no : Reason → ℕ
 reason_no reason.Cfu = 1
 reason_no reason.Cfb = 2
 reason_no reason.Cfnr = 3
+
+-- what the number of a reason promises
+abbrev pub ReasonNo : Reason → ℕ → Type 0
+ReasonNo reason r = r ≡ reason_no reason
 
 -- "Offered looks at cfu, busy at cfb, no reply at cfnr"
 unfoldable pub reason_of : Event → ℕ

@@ -1,15 +1,16 @@
 // What becomes of a call: diverted, not diverted or refused (document 01, "Calls"; Q.732.2-5, 2.5.2.5.1.2).
-ghost use Rattle.std.specs.Prelude.{◌≡◌, ◌<◌, ◌≤◌};
+ghost use Rattle.std.specs.Prelude.{◌≡◌, ◌<◌, ◌≤◌, Ok, Some};
 ghost use Rattle.profile.specs.Profile.{numbers_most};
 ghost use Rattle.instances.specs.Run.{instances_of};
 ghost use Rattle.calls.specs.Onward.{options_for};
-ghost use Rattle.calls.specs.Divert.{notice_no, coming_told, noticed, none_goes, call_refused, goes, applying, by_instance, Becomes, DivertsTo};
+ghost use Rattle.calls.specs.Divert.{notice_no, NoticeNo, noticed, goes, applying, by_instance};
+ghost use Rattle.calls.specs.Coming.{Becomes, DivertsTo};
 
 use crate::call::{Call, call_good, call_of};
 use crate::onward::{Reason, option_after, options_for, original_shown, preference_after};
 use exchange::Table;
 use instances::Run;
-use numbers::{Address, Number, blank_address, blank_number};
+use numbers::{Address, Number, blank_number};
 use profile::{Profile, read_access};
 use refusals::Refusal;
 
@@ -21,12 +22,17 @@ pub enum Notice {
     DivertingTo,
 }
 
-// What comes of a call: it is refused, it is not diverted, or it is.
-#[derive(Clone, Copy)]
-pub enum Coming {
-    Refuses { refusal: Refusal },
-    Passes,
-    Diverts { reason: Reason, notice: Notice },
+// The number of a notice.
+impl From<Notice> for u8 {
+    ghost from_gives = { NoticeNo };
+
+    fn from(notice: Notice) -> u8 {
+        match notice {
+            Notice::Silent => 0,
+            Notice::Diverting => 1,
+            Notice::DivertingTo => 2,
+        }
+    }
 }
 
 // The call that goes on: the forwarded-to address, the served number with its presentation, the presentation of the original
@@ -44,41 +50,15 @@ pub struct Onward {
     pub noticed: Number,
 }
 
-// What becomes of a call, and the call that goes on where one does.
+// A diverted call: why, what the caller is told, and the call that goes on.
 #[derive(Clone, Copy)]
 pub struct Diversion {
-    pub outcome: Coming,
+    pub reason: Reason,
+    pub notice: Notice,
     pub call: Onward,
 }
 
-// No call goes on.
-#[tactic(auto, unfolding(crate::specs::Divert::no_onward))]
-fn stays_here(outcome: Coming) -> Diversion
-    ensures { Becomes (none_goes (coming_told outcome)) result }
-{
-    let none = blank_number();
-    let called = blank_address();
-    Diversion {
-        outcome,
-        call: Onward {
-            counter: 0,
-            called,
-            redirecting: none,
-            redirectingshown: 0,
-            originalshown: 0,
-            preference: 0,
-            option: 0,
-            noticed: none,
-        },
-    }
-}
-
-fn refuses(refusal: Refusal) -> Diversion
-    ensures { Becomes (call_refused refusal) result }
-{
-    stays_here(Coming::Refuses { refusal })
-}
-
+// Not TryFrom: no option here is above 2, and so nothing would meet its Err.
 fn notice_of(option: u8) -> Notice
     requires { option ≤ 2 }
     ensures { notice_no result ≡ option }
@@ -102,22 +82,21 @@ fn noticed_of(notice: Notice, called: Address) -> Number
 }
 
 // The call goes on to the address of its instance.
+#[tactic(auto, unfolding(crate::specs::Divert::onward, crate::specs::Divert::served_of), using(crate::proofs::Options::option_least))]
 fn go_on(p: Profile, c: Call, called: Address) -> Diversion
     requires { ((options_for p c).option ≤ 2) × (c.number < numbers_most) × (c.counter < 255) }
-    ensures { Becomes (goes p c called) result }
+    ensures { Becomes (goes p c called) (Ok (Some result)) }
 {
     let option = option_after(p, c);
     let own = options_for(p, c);
-    let numbers = p.numbers;
-    let redirecting = numbers[c.number as usize];
-    let reason = c.event.reason();
     let notice = notice_of(option);
     Diversion {
-        outcome: Coming::Diverts { reason, notice },
+        reason: c.event.reason(),
+        notice,
         call: Onward {
             counter: c.counter + 1,
             called,
-            redirecting,
+            redirecting: p.numbers[c.number as usize],
             redirectingshown: own.release,
             originalshown: original_shown(p, c),
             preference: preference_after(c),
@@ -128,40 +107,38 @@ fn go_on(p: Profile, c: Call, called: Address) -> Diversion
 }
 
 // The event's instance for the call's number and service decides, and then the limit.
-fn divert_by(p: Profile, run: Run, c: Call) -> Diversion
+#[tactic(auto, unfolding(crate::specs::Divert::applying), using(crate::proofs::Instances::found_none, crate::proofs::Instances::found_some))]
+fn divert_by(p: Profile, run: Run, c: Call) -> Result<Option<Diversion>, Refusal>
     requires { ((options_for p c).option ≤ 2) × (c.number < numbers_most) }
     ensures { Becomes (by_instance p c (applying p (instances_of run) c)) result }
 {
     if p.inuse == 0 {
-        return stays_here(Coming::Passes);
+        return Ok(None);
     }
     let found = run.find(c.event.procedure(), c.number, c.service);
     if !found.ok {
-        return stays_here(Coming::Passes);
+        return Ok(None);
     }
     if p.limit <= c.counter {
-        return refuses(Refusal::LimitReached);
+        return Err(Refusal::LimitReached);
     }
-    let address = found.address;
-    go_on(p, c, address)
+    Ok(Some(go_on(p, c, found.address)))
 }
 
-// What becomes of a call that comes to the access.
-pub fn divert(table: Table, access: &[u8], call: &[u8]) -> Diversion
+// What becomes of a call that comes to the access; None where it is not diverted.
+#[tactic(auto, unfolding(crate::specs::Divert::comes), using(profile::proofs::Records::read_some, profile::proofs::Records::read_none, crate::proofs::Records::good_call))]
+pub fn divert(table: Table, access: &[u8], call: &[u8]) -> Result<Option<Diversion>, Refusal>
     ensures { DivertsTo access.now table call.now result }
 {
-    let read = read_access(access);
-    if !read.ok {
-        return refuses(Refusal::BadProfile);
-    }
-    let p = read.profile;
+    // Not ok_or(..)?, which holds the profile twice more: 448 octets of stack.
+    let Some(p) = read_access(access) else {
+        return Err(Refusal::BadProfile);
+    };
     if !table.good(p) {
-        return refuses(Refusal::BadTable);
+        return Err(Refusal::BadTable);
     }
     if !call_good(p, call) {
-        return refuses(Refusal::BadCall);
+        return Err(Refusal::BadCall);
     }
-    let c = call_of(call);
-    let run = table.run;
-    divert_by(p, run, c)
+    divert_by(p, table.run, call_of(call))
 }

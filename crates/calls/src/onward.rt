@@ -1,4 +1,5 @@
 // What a diverted call carries on (document 01, "Calls").
+ghost use Rattle.calls.specs.Onward.{ReasonNo};
 ghost use Rattle.calls.specs.inner.Onward.{OptionsFor, OptionAfter, PreferenceAfter, OriginalShown};
 
 use crate::call::Call;
@@ -10,6 +11,19 @@ pub enum Reason {
     Cfu,
     Cfb,
     Cfnr,
+}
+
+// The number of a reason.
+impl From<Reason> for u8 {
+    ghost from_gives = { ReasonNo };
+
+    fn from(reason: Reason) -> u8 {
+        match reason {
+            Reason::Cfu => 1,
+            Reason::Cfb => 2,
+            Reason::Cfnr => 3,
+        }
+    }
 }
 
 // The notification option and the release flag for the calls of a number and a service.
