@@ -5,7 +5,6 @@ use Rattle.refusals.specs.Refusal.{Told, refuses, tells, refusal_in}
 use Rattle.exchange.specs.declared.table.Table.{Table}
 use Rattle.calls.specs.Divert.{Course, passes, diverts, comes}
 use Rattle.calls.specs.Original.{original_in}
-use Rattle.sconcetoad.specs.declared.diversion.CallTold.{CallTold}
 use Rattle.sconcetoad.specs.declared.diversion.Diverted.{Diverted}
 use Rattle.sconcetoad.specs.declared.diversion.HandedOn.{HandedOn}
 
@@ -19,10 +18,6 @@ abbrev pub notice_in : Told Course → ℕ
 notice_in (refuses number) = 0
 notice_in (tells passes) = 0
 notice_in (tells (diverts reasonNumber noticeNumber)) = noticeNumber
-
--- all of its numbers
-abbrev pub call_told : Told Course → CallTold
-call_told told = record { refusal = refusal_in told; reason = reason_in told; notice = notice_in told }
 
 -- what `sconcetoad_divert` promises
 pub record DivertedBy (access : List ℕ) (t : Table) (s : List ℕ) (r : Diverted) : Type 0 where

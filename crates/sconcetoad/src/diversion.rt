@@ -1,12 +1,11 @@
 // Calls, as C puts them.
 ghost use Rattle.std.specs.Prelude.{◌≡◌};
-ghost use Rattle.calls.specs.Onward.{reason_no};
-ghost use Rattle.calls.specs.Divert.{notice_no, coming_told};
-ghost use Rattle.sconcetoad.specs.Diversion.{call_told, DivertedBy, HandsOn};
+ghost use Rattle.calls.specs.Divert.{no_onward};
+ghost use Rattle.sconcetoad.specs.Diversion.{DivertedBy, HandsOn};
 
-use calls::{Coming, Notice, Onward, Reason, divert, original};
+use calls::{Onward, divert, original};
 use exchange::Table;
-use refusals::refusal_no;
+use numbers::{blank_address, blank_number};
 
 // The numbers of the refusal, of the reason and of the notice, each 0 where there is none; and the call that goes on.
 #[repr(C)]
@@ -28,53 +27,21 @@ pub struct HandedOn {
     pub count: usize,
 }
 
-// The numbers that C is told of a call, whether or not it asks for the original number.
-#[derive(Clone, Copy)]
-struct CallTold {
-    refusal: u8,
-    reason: u8,
-    notice: u8,
-}
-
-fn reason_no(reason: Reason) -> u8
-    ensures { result ≡ reason_no reason }
+// The call that C reads where none goes on.
+#[tactic(auto, unfolding(calls::specs::Divert::no_onward))]
+fn no_onward() -> Onward
+    ensures { result ≡ no_onward }
 {
-    match reason {
-        Reason::Cfu => 1,
-        Reason::Cfb => 2,
-        Reason::Cfnr => 3,
-    }
-}
-
-fn notice_no(notice: Notice) -> u8
-    ensures { result ≡ notice_no notice }
-{
-    match notice {
-        Notice::Silent => 0,
-        Notice::Diverting => 1,
-        Notice::DivertingTo => 2,
-    }
-}
-
-fn told_of(outcome: Coming) -> CallTold
-    ensures { result ≡ call_told (coming_told outcome) }
-{
-    match outcome {
-        Coming::Refuses { refusal } => CallTold {
-            refusal: refusal_no(refusal),
-            reason: 0,
-            notice: 0,
-        },
-        Coming::Passes => CallTold {
-            refusal: 0,
-            reason: 0,
-            notice: 0,
-        },
-        Coming::Diverts { reason, notice } => CallTold {
-            refusal: 0,
-            reason: reason_no(reason),
-            notice: notice_no(notice),
-        },
+    let none = blank_number();
+    Onward {
+        counter: 0,
+        called: blank_address(),
+        redirecting: none,
+        redirectingshown: 0,
+        originalshown: 0,
+        preference: 0,
+        option: 0,
+        noticed: none,
     }
 }
 
@@ -83,15 +50,25 @@ fn told_of(outcome: Coming) -> CallTold
 pub extern "C" fn sconcetoad_divert(table: Table, access: &[u8], call: &[u8]) -> Diverted
     ensures { DivertedBy access.now table call.now result }
 {
-    let diversion = divert(table, access, call);
-    let outcome = diversion.outcome;
-    let call = diversion.call;
-    let told = told_of(outcome);
-    Diverted {
-        refusal: told.refusal,
-        reason: told.reason,
-        notice: told.notice,
-        call,
+    match divert(table, access, call) {
+        Err(refusal) => Diverted {
+            refusal: u8::from(refusal),
+            reason: 0,
+            notice: 0,
+            call: no_onward(),
+        },
+        Ok(None) => Diverted {
+            refusal: 0,
+            reason: 0,
+            notice: 0,
+            call: no_onward(),
+        },
+        Ok(Some(d)) => Diverted {
+            refusal: 0,
+            reason: u8::from(d.reason),
+            notice: u8::from(d.notice),
+            call: d.call,
+        },
     }
 }
 
@@ -105,13 +82,24 @@ pub extern "C" fn sconcetoad_original<'a>(
 ) -> HandedOn
     ensures { HandsOn access.now table call.now out.old result out.new }
 {
-    let handed = original(table, access, call, out);
-    let outcome = handed.outcome;
-    let told = told_of(outcome);
-    HandedOn {
-        refusal: told.refusal,
-        reason: told.reason,
-        length: handed.length,
-        count: handed.count,
+    match original(table, access, call, out) {
+        Err(refusal) => HandedOn {
+            refusal: u8::from(refusal),
+            reason: 0,
+            length: 0,
+            count: 0,
+        },
+        Ok(None) => HandedOn {
+            refusal: 0,
+            reason: 0,
+            length: 0,
+            count: 0,
+        },
+        Ok(Some(h)) => HandedOn {
+            refusal: 0,
+            reason: u8::from(h.reason),
+            length: h.length,
+            count: h.count,
+        },
     }
 }
