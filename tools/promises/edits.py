@@ -11,7 +11,7 @@ from pathlib import Path
 
 FUNCTION = re.compile(r'^( *)(?:pub(?:\(crate\))? )?(?:extern "C" )?fn (\w+)', re.M)
 # The head of an `impl`: a trait and what it is of, if it is a trait's, and the type.
-OWNER = re.compile(r"^impl(?:<[^>]*>)? (?:(\w+)(?:<(\w+)>)? for )?(\w+)", re.M)
+OWNER = re.compile(r"^impl(?:<[^>]*>)? (?:(\w+)(?:<(.+)>)? for )?(\w+)", re.M)
 # What a check says of a fact of a function that a proof file answers; of one that no file answers, by the place in the code where it is owed;
 # and of each function that is not proved.
 ERROR = re.compile(r"(?:\./)?proofs/(\S+)/(?:Proof|Invariants|Answers)\.antt:\d+:\d+: error: (?:`([^`]+)`: )?(.*)")
@@ -79,7 +79,8 @@ def function_from(source, whole, at):
         return ""
     if heads[-1][1]:  # the prover names a method by the module of its type, which may be another one
         trait, of, owner = [owner.groups("") for owner in OWNER.finditer(whole) if owner.start() < heads[-1].start()][-1]
-        return f"{capital(owner)}{trait}{capital(of)}::{heads[-1][2]}"
+        of = "".join(capital(name) for name in re.findall(r"\w+", of))
+        return f"{capital(owner)}{trait}{of}::{heads[-1][2]}"
     module = source.removeprefix("src/").removesuffix(".rt").removesuffix("lib").split("/")
     return "::".join(part for part in [*module, heads[-1][2]] if part)
 
