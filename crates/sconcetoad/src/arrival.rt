@@ -1,12 +1,8 @@
 // The exchange, as C drives it.
-ghost use Rattle.std.specs.Prelude.{◌≡◌};
-ghost use Rattle.refusals.specs.Refusal.{refusal_in};
 ghost use Rattle.exchange.specs.Table.{FreshTable};
-ghost use Rattle.exchange.specs.Arrive.{arriving_told};
 ghost use Rattle.sconcetoad.specs.Arrival.{ArrivedBy};
 
-use exchange::{Arriving, Table, fresh_table};
-use refusals::refusal_no;
+use exchange::{Table, fresh_table};
 
 // The number of the refusal, 0 where the component is answered; how many octets the reply has; and the next table.
 #[repr(C)]
@@ -25,15 +21,6 @@ pub extern "C" fn sconcetoad_fresh_table() -> Table
     fresh_table()
 }
 
-fn refusal_in(outcome: Arriving) -> u8
-    ensures { result ≡ refusal_in (arriving_told outcome) }
-{
-    match outcome {
-        Arriving::Refuses { refusal } => refusal_no(refusal),
-        Arriving::Answers { answer: _ } => 0,
-    }
-}
-
 // What `table` becomes when `component` arrives, with the reply at the start of `out`.
 #[unsafe(no_mangle)]
 pub extern "C" fn sconcetoad_arrive(
@@ -45,9 +32,13 @@ pub extern "C" fn sconcetoad_arrive(
     ensures { ArrivedBy access.now table component.now out.old result out.new }
 {
     let arrived = table.arrive(access, component, out);
+    let (refusal, count) = match arrived.outcome {
+        Ok(answered) => (0, answered.count),
+        Err(refusal) => (u8::from(refusal), 0),
+    };
     Arrival {
-        refusal: refusal_in(arrived.outcome),
-        count: arrived.count,
+        refusal,
+        count,
         table: arrived.table,
     }
 }

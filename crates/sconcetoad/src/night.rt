@@ -1,8 +1,8 @@
 // Night sheets, as C has them written, read and listed.
 ghost use Rattle.sconcetoad.specs.Sheets.{SheetWrittenBy, SheetTakenBy, SheetListedBy};
 
-use crate::written::{Octets, refusal_in};
-use exchange::Table;
+use crate::written::Octets;
+use exchange::{Table, fresh_table};
 use listings::list_sheet;
 use sheets::{read_sheet, write_sheet};
 
@@ -19,12 +19,7 @@ pub struct SheetTaken {
 pub extern "C" fn sconcetoad_write_sheet(table: Table, access: &[u8], out: &mut [u8]) -> Octets
     ensures { SheetWrittenBy access.now table out.old result out.new }
 {
-    let written = write_sheet(table, access, out);
-    let outcome = written.outcome;
-    Octets {
-        refusal: refusal_in(outcome),
-        count: written.count,
-    }
+    Octets::from(write_sheet(table, access, out))
 }
 
 // The table that `sheet` holds, by the profile of an access.
@@ -32,12 +27,12 @@ pub extern "C" fn sconcetoad_write_sheet(table: Table, access: &[u8], out: &mut 
 pub extern "C" fn sconcetoad_read_sheet(access: &[u8], sheet: &[u8]) -> SheetTaken
     ensures { SheetTakenBy access.now sheet.now result }
 {
-    let read = read_sheet(access, sheet);
-    let outcome = read.outcome;
-    let table = read.table;
-    SheetTaken {
-        refusal: refusal_in(outcome),
-        table,
+    match read_sheet(access, sheet) {
+        Ok(table) => SheetTaken { refusal: 0, table },
+        Err(refusal) => SheetTaken {
+            refusal: u8::from(refusal),
+            table: fresh_table(),
+        },
     }
 }
 
@@ -46,10 +41,5 @@ pub extern "C" fn sconcetoad_read_sheet(access: &[u8], sheet: &[u8]) -> SheetTak
 pub extern "C" fn sconcetoad_list_sheet(sheet: &[u8], out: &mut [u8]) -> Octets
     ensures { SheetListedBy sheet.now out.old result out.new }
 {
-    let written = list_sheet(sheet, out);
-    let outcome = written.outcome;
-    Octets {
-        refusal: refusal_in(outcome),
-        count: written.count,
-    }
+    Octets::from(list_sheet(sheet, out))
 }

@@ -2,11 +2,11 @@
 ghost use Rattle.std.specs.Prelude.{◌≡◌};
 ghost use Rattle.refusals.specs.Refusal.{refusal_in};
 ghost use Rattle.refusals.specs.Handling.{handling_told};
-ghost use Rattle.sconcetoad.specs.Written.{RequestWrittenBy, ListWrittenBy};
+ghost use Rattle.sconcetoad.specs.Written.{octets_told, RequestWrittenBy, ListWrittenBy};
 
 use components::{write_list, write_request};
 use lists::Entries;
-use refusals::{Handling, refusal_no};
+use refusals::Refusal;
 use requests::Request;
 
 // The number of the refusal, 0 where there is none; and how many octets were written.
@@ -17,12 +17,23 @@ pub struct Octets {
     pub count: usize,
 }
 
-pub(crate) fn refusal_in(outcome: Handling) -> u8
+pub(crate) fn refusal_in<T: Copy>(outcome: Result<T, Refusal>) -> u8
     ensures { result ≡ refusal_in (handling_told outcome) }
 {
     match outcome {
-        Handling::Refuses { refusal } => refusal_no(refusal),
-        Handling::Done => 0,
+        Ok(_) => 0,
+        Err(refusal) => u8::from(refusal),
+    }
+}
+
+impl From<Result<usize, Refusal>> for Octets {
+    ghost from_gives = { λ outcome octets. octets ≡ octets_told outcome };
+
+    fn from(outcome: Result<usize, Refusal>) -> Octets {
+        Octets {
+            refusal: refusal_in(outcome),
+            count: outcome.unwrap_or(0),
+        }
     }
 }
 
@@ -36,12 +47,7 @@ pub extern "C" fn sconcetoad_put_request(
 ) -> Octets
     ensures { RequestWrittenBy identifier operation request out.old result out.new }
 {
-    let written = write_request(out, identifier, operation, request);
-    let outcome = written.outcome;
-    Octets {
-        refusal: refusal_in(outcome),
-        count: written.count,
-    }
+    Octets::from(write_request(out, identifier, operation, request))
 }
 
 // The result of an interrogation at the start of `out`.
@@ -49,10 +55,5 @@ pub extern "C" fn sconcetoad_put_request(
 pub extern "C" fn sconcetoad_put_list(out: &mut [u8], identifier: i16, list: Entries) -> Octets
     ensures { ListWrittenBy identifier list out.old result out.new }
 {
-    let written = write_list(out, identifier, list);
-    let outcome = written.outcome;
-    Octets {
-        refusal: refusal_in(outcome),
-        count: written.count,
-    }
+    Octets::from(write_list(out, identifier, list))
 }
