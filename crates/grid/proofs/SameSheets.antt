@@ -7,6 +7,7 @@ use mathlib.Core.Logic.{⊎_elim}
 use mathlib.Core.Path.{◌∙◌, ◌≡◌, ap, refl, subst, sym}
 use lib.Dec.{ltb}
 use borrow.Author.Tests.{ltb-false, ltb-true}
+use Rattle.std.specs.Prelude.{Err}
 use Rattle.laws.proofs.Eaches.{each_so}
 use Rattle.laws.proofs.Picks.{by_bool}
 use Rattle.refusals.specs.Handling.{made}
@@ -29,7 +30,6 @@ use Rattle.forms.specs.declared.sheet.FormRead.{FormRead}
 use Rattle.forms.proofs.Fits.{FieldsFit, order_of}
 use Rattle.forms.proofs.Sheets.{FormFound, form_found, form_none}
 use Rattle.sheets.specs.Sheets.{ReadsSheet, read_sheet, wrote_sheet}
-use Rattle.sheets.specs.inner.Refused.{sheet_refused}
 use Rattle.sheets.proofs.ReadTables as run
 use Rattle.sheets.proofs.Tables.{reads_form, reads_outside, reads_profile, reads_table}
 use Rattle.sheets.proofs.WrittenSheets as written
@@ -82,7 +82,7 @@ module _ (access s : List ℕ) where
   Alike x = ReadSame p x (read_sheet access s)
 
   -- both refuse, and the tables are those of a new access
-  both_refuse : (refusal : Refusal) → ReadsSheet access s (sheet_refused refusal) → Alike (grid_not_read refusal)
+  both_refuse : (refusal : Refusal) → ReadsSheet access s (Err refusal) → Alike (grid_not_read refusal)
   both_refuse refusal reads = record {
     told = reads.told;
     tables = subst (HoldSame p grid_fresh) reads.table (fresh_same p);
@@ -121,7 +121,7 @@ module _ (access s : List ℕ) where
           let read : grid_read_sheet access
           s ≡ record { told = tells tt; table = record { last = was.sheet.last; grid = all_placed p no_grid is } } =
           read_from access s ok ∙ rw (was.is, good_in p whole is so.each) in
-          let reads = reads_table access s (access_read access) refl ok form refl formed good in
+          let reads = reads_table access s p (ok, refl) form refl formed good in
           record {
             told = ap (λ (x : GridTableRead). x.told) read ∙ reads.told;
             tables = record {
@@ -145,8 +145,7 @@ module _ (access s : List ℕ) where
           let outside : grid_all_in p is ≡ false =
           by_bool (grid_all_in p is ≡ false) (grid_all_in p is) (λ all. absurd (false≢true (sym bad ∙ run_held all))) (λ e. e) in
           let read : grid_read_sheet access s ≡ grid_not_read BadSheet = read_from access s ok ∙ rw (was.is, outside) in
-          rw read (both_refuse BadSheet (reads_outside access s (access_read access) refl ok form refl formed bad
-          (sheet_refused BadSheet) refl))
+          rw read (both_refuse BadSheet (reads_outside access s p (ok, refl) form refl formed bad))
 
   -- any octets are refused alike, or read as tables that hold the same
   pub read_same : ReadSame (access_read access).profile (grid_read_sheet access s) (read_sheet access s)
@@ -158,8 +157,7 @@ module _ (access s : List ℕ) where
       by_bool (Alike (grid_read_sheet access s)) (run_good instances_most p (form ok).run) (both_read ok formed) (none_read ok formed))
       (λ unformed.
       let read : grid_read_sheet access s ≡ grid_not_read BadSheet = read_from access s ok ∙ rw (form_none s (form ok) refl unformed) in
-      rw read (both_refuse BadSheet (reads_form access s (access_read access) refl ok (form ok) refl unformed
-      (sheet_refused BadSheet) refl))))
+      rw read (both_refuse BadSheet (reads_form access s p (ok, refl) (form ok) refl unformed))))
       (λ bad.
       rw (read_profile access s bad)
-      (both_refuse BadProfile (reads_profile access s (access_read access) refl bad (sheet_refused BadProfile) refl)))
+      (both_refuse BadProfile (reads_profile access s bad)))
