@@ -2,15 +2,16 @@
 use Prim.Native.Nat.{ℕ}
 use mathlib.Core.List.{List}
 use mathlib.Core.Path.{◌≡◌}
+use Rattle.std.specs.Prelude.{Result}
 use Rattle.laws.proofs.Picks.{both}
-use Rattle.refusals.specs.declared.handling.Written.{Written}
-use Rattle.refusals.proofs.Handlings.{handling_same, written_same}
+use Rattle.refusals.specs.declared.refusal.Refusal.{Refusal}
+use Rattle.refusals.proofs.Handlings.{written_same}
 use Rattle.listings.specs.Listing.{HexOf, ListsSheet, PrintsSheet}
 
 pub only_list_sheet :
-    (s xs : List ℕ) {r q : Written} {ys zs : List ℕ} → ListsSheet s xs r ys → ListsSheet s xs q zs → (r ≡ q) × (ys ≡ zs)
+    (s xs : List ℕ) {r q : Result ℕ Refusal} {ys zs : List ℕ} → ListsSheet s xs r ys → ListsSheet s xs q zs → (r ≡ q) × (ys ≡ zs)
 only_list_sheet s xs {r} {q} a b = (
-  written_same r q (handling_same r.outcome q.outcome (both a.told b.told)) (both a.count b.count),
+  written_same r q (both a.told b.told) (both a.count b.count),
   both a.lent b.lent,
 )
 

@@ -8,19 +8,19 @@ use native.Mathlib.Omega.{arith}
 use lib.ListN.{length, get_or}
 use lib.Dec.{ltb}
 use borrow.Author.Tests.{ltb-true, ltb-false, le-leb}
+use Rattle.std.specs.Prelude.{Ok, Err}
 use Rattle.laws.specs.Over.{over}
 use Rattle.laws.specs.Mark.{known, mark_no}
 use Rattle.laws.proofs.Over.{over_eq}
 use Rattle.laws.proofs.Picks.{both, by_bool}
 use Rattle.refusals.specs.Refusal.{output_least, component_most, tells}
 use Rattle.refusals.specs.declared.refusal.Refusal.{Refusal}
-use Rattle.refusals.specs.declared.handling.Handling.TheVariants as handling
 use Rattle.codes.specs.Codes.{activation}
 use Rattle.profile.specs.Access.{access_read}
 use Rattle.lists.specs.Entries.{instances_most}
 use Rattle.instances.specs.Run.{packed}
 use Rattle.exchange.specs.Table.{table_of, table_good, fresh_table}
-use Rattle.exchange.specs.Arrive.{Done, done, Arrives}
+use Rattle.exchange.specs.Arrive.{arriving_count, Done, done, Arrives}
 use Rattle.exchange.specs.declared.table.Table.{Table}
 use Rattle.exchange.specs.declared.arrive.Arrived.{Arrived}
 use Rattle.exchange.proofs.Arrivals.{done_long, done_profile, done_table, done_answers}
@@ -79,7 +79,7 @@ module _
     sample_octets : (done sample_access t s (length xs)).octets ≡ octets
     sample_octets = ap (λ (d : Done). d.octets) (done_roomy sample_access t s (length xs) room) ∙ is.0
 
-    sample_count : r.count ≡ length octets
+    sample_count : arriving_count r.outcome ≡ length octets
     sample_count = k.count ∙ ap length sample_octets
 
     sample_lent : ys ≡ over xs 0 octets
@@ -269,8 +269,8 @@ keeping_end = record { taker = λ access e s. (each access e s).by; keeps = λ a
     each : (access : List ℕ) (e : End) (s : List ℕ) → Kept (takes access e s)
     each access e s =
         takes_ind access e s Kept
-        (λ refusal. record { by = record { end = e; outcome = handling.Refuses refusal }; kept = record { end = refl; told = refl } })
+        (λ refusal. record { by = record { end = e; outcome = Err refusal }; kept = record { end = refl; told = refl } })
         (λ _ _ _. record {
-          by = record { end = took (access_read access).profile e s; outcome = handling.Done };
+          by = record { end = took (access_read access).profile e s; outcome = Ok tt };
           kept = record { end = refl; told = refl };
         })

@@ -1,13 +1,12 @@
 -- The wrong programs that document 01 shuts out by name ("How tight the promises are"), written out. Each is proved in
 -- crates/promise/proofs/Wrong.antt to break the promise that document 01 names for it. Where document 01 says one thing that a program does
 -- wrong, the program is made of any other, which does the rest as it likes, rightly too.
-use Rattle.std.specs.Prelude.{ℕ, ◌≡◌, List, [], ◌∷◌, pos, leb}
+use Rattle.std.specs.Prelude.{ℕ, ◌≡◌, List, [], ◌∷◌, pos, leb, Ok, Err}
 use Rattle.laws.specs.Pick.{pick}
 use Rattle.laws.specs.Over.{over}
 use Rattle.laws.specs.Mark.{known, doubt, mark_no}
 use Rattle.refusals.specs.Refusal.{output_least, tells}
 use Rattle.refusals.specs.declared.refusal.Refusal.{Refusal}
-use Rattle.refusals.specs.declared.handling.Handling.TheVariants as handling
 use Rattle.codes.specs.Codes.{activation, interrogation}
 use Rattle.profile.specs.Access.{access_read}
 use Rattle.answers.specs.Answer.{answer_octets}
@@ -15,7 +14,6 @@ use Rattle.answers.specs.declared.answer.Answer.TheVariants as answer
 use Rattle.exchange.specs.Table.{fresh_table}
 use Rattle.exchange.specs.Arrive.{Done, done, Arrives}
 use Rattle.exchange.specs.declared.table.Table.{Table}
-use Rattle.exchange.specs.declared.arrive.Arriving.TheVariants as arriving
 use Rattle.exchange.specs.declared.arrive.Arrived.{Arrived}
 use Rattle.calls.specs.Divert.{DivertsTo}
 use Rattle.calls.specs.declared.diverting.Diversion.{Diversion}
@@ -46,7 +44,7 @@ ArrivesBy x access t s xs = Arrives access t s xs (x access t s xs).answer (x ac
 -- "refusing everything": the table is handed back, nothing is written, and the refusal is told
 abbrev pub refuses_all : Refusal → ExchangeStep
 refuses_all refusal access t s xs = record {
-  answer = record { table = t; outcome = arriving.Refuses refusal; count = 0 };
+  answer = record { table = t; outcome = Err refusal };
   lent = xs;
 }
 
@@ -57,11 +55,7 @@ one_reply octets answers access t s xs = record { answer = answers access t s xs
 -- "leaving the table untouched": what another exchange answers and writes, the right one too, but for the table
 abbrev pub table_untouched : ExchangeStep → ExchangeStep
 table_untouched x access t s xs = record {
-  answer = record {
-    table = t;
-    outcome = (x access t s xs).answer.outcome;
-    count = (x access t s xs).answer.count;
-  };
+  answer = record { table = t; outcome = (x access t s xs).answer.outcome };
   lent = (x access t s xs).lent;
 }
 
@@ -144,7 +138,7 @@ result_for e = answer_octets (answer.Result (pos e.used)) []
 abbrev pub pretends : Taker → Taker
 pretends x access e s =
     pick (leb e.used 1) (x access e s)
-    (record { end = all_marked (mark_no known) (x access e (result_for e)).end; outcome = handling.Done })
+    (record { end = all_marked (mark_no known) (x access e (result_for e)).end; outcome = Ok tt })
 
 -- ---- two requests over a path that loses and repeats, with an end that hears by `x`
 
