@@ -24,7 +24,7 @@ fn skip_element(s: &[u8], at: usize, end: usize, depth: u8) -> Option<usize>
 }
 
 // Whether the octets from `at` up to `end` are elements that go at most `depth` deep. Siblings are a loop, so that the stack
-// is bounded by the depth.
+// is bounded by the depth; each says where the next begins, so there is nothing that a `for` could count.
 #[cycle(skip_contents_skip_element)]
 fn skip_contents(s: &[u8], at: usize, end: usize, depth: u8) -> bool
     ensures { result ≡ skip_contents depth s.now at end }

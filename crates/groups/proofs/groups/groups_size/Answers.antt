@@ -4,9 +4,6 @@ use Rattle.groups.proofs.GroupTurns.{size_more, size_last}
 use Rattle.groups.proofs.GroupLaws.{groups_length}
 use Rattle.groups.proofs.groups.groups_size.Goals as goal
 
-pub loop-rest-init : goal.loop-rest-init
-loop-rest-init c = (search rules, omega arith)
-
 pub overflow_add-k : goal.overflow_add-k
 overflow_add-k c = omega (arith, groups_length 4 c.args.n (omega arith))
 

@@ -5,14 +5,8 @@ use Rattle.laws.proofs.Over.{over_one}
 use Rattle.groups.proofs.GroupTurns.{size_more, size_last, over_group, wrote_last}
 use Rattle.groups.proofs.groups.write_groups.Goals as goal
 
-pub loop-rest-init : goal.loop-rest-init
-loop-rest-init c = (refl, refl, refl)
-
 pub bounds-out-p : goal.bounds-out-p
 bounds-out-p c = omega (arith, size_more _ _ _ c.loop-rest-test.true c.loop-rest.invariant.1)
-
-pub overflow_add-p : goal.overflow_add-p
-overflow_add-p c = omega (arith, size_more _ _ _ c.loop-rest-test.true c.loop-rest.invariant.1)
 
 pub loop-rest-preserved : goal.loop-rest-preserved
 loop-rest-preserved c = let l = c.loop-rest in
@@ -21,12 +15,6 @@ loop-rest-preserved c = let l = c.loop-rest in
 
 pub bounds-out-p-2 : goal.bounds-out-p-2
 bounds-out-p-2 c = omega (arith, size_last _ _ _ c.loop-rest-test.false c.loop-rest.invariant.1)
-
-pub overflow_add-result : goal.overflow_add-result
-overflow_add-result c = omega (arith, size_last _ _ _ c.loop-rest-test.false c.loop-rest.invariant.1)
-
-pub shape_of-out : goal.shape_of-out
-shape_of-out c = simp length-set c.loop-rest.invariant.0
 
 pub returns : goal.returns
 returns c = let l = c.loop-rest in

@@ -8,11 +8,6 @@ returns-then-not-has_room c =
     let a = c.args in
     puts_none (omega (arith, c.number_size-need.ensures, room_past a.out.now a.at _ c.if-not-has_room.ensures))
 
-pub write_number-requires : goal.write_number-requires
-write_number-requires c =
-    let a = c.args in
-    omega (arith, c.number_size-need.ensures, room_here a.out.now a.at _ c.if-not-has_room.ensures)
-
 pub returns : goal.returns
 returns c =
     let a = c.args in

@@ -5,6 +5,3 @@ use Rattle.octets.proofs.head.length_by.Goals as goal
 
 pub returns-then-end-at : goal.returns-then-end-at
 returns-then-end-at c = sym (span_past _ _ _ (omega arith))
-
-pub returns : goal.returns
-returns c = rw (← c.word_at-n.ensures.is) c.span_of.ensures

@@ -8,13 +8,6 @@ use Rattle.values.specs.Ident.{half}
 use Rattle.values.proofs.Signs.{minus, twos_low, twos_high}
 use Rattle.values.proofs.ident.signed.Goals as goal
 
-pub overflow_sub-result-else-u-all-2 : goal.overflow_sub-result-else-u-all-2
-unfolding half
-overflow_sub-result-else-u-all-2 c = let a = c.args in
-    let all = c.numbers_of-all.ensures.0 in
-    rw (all, to_z_pos w16 {n = 256 ^ a.w - 1 - a.u} (omega (arith, all)), minus (256 ^ a.w - 1 - a.u))
-    (record { sfits = omega (arith, all) })
-
 pub returns-then-u-all : goal.returns-then-u-all
 unfolding half
 returns-then-u-all c = let a = c.args in
