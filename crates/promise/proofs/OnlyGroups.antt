@@ -2,13 +2,14 @@
 use Prim.Native.Nat.{ℕ}
 use mathlib.Core.Path.{◌≡◌}
 use mathlib.Core.List.{List}
+use Rattle.std.specs.Prelude.{Option}
 use Rattle.laws.proofs.Picks.{both}
 use Rattle.laws.proofs.Over.{only_puts}
 use Rattle.groups.specs.Groups.{GroupsAt, PutGroups}
-use Rattle.groups.specs.declared.groups.Groups.{Groups}
+use Rattle.octets.specs.declared.found.Found.{Found}
 
 pub only_groups_at :
-    (s : List ℕ) (at end : ℕ) {a b : Groups} → GroupsAt s at end a → GroupsAt s at end b → a ≡ b
+    (s : List ℕ) (at end : ℕ) {a b : Option (Found (Option ℕ))} → GroupsAt s at end a → GroupsAt s at end b → a ≡ b
 only_groups_at s at end = both
 
 pub only_put_groups :

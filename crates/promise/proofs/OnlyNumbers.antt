@@ -3,13 +3,14 @@ use Prim.Native.Nat.{ℕ}
 use mathlib.Core.Path.{◌≡◌}
 use mathlib.Core.Bool.{Bool}
 use mathlib.Core.List.{List}
+use Rattle.std.specs.Prelude.{Option}
 use Rattle.laws.proofs.Picks.{both}
 use Rattle.numbers.specs.Number.{BlankNumber, NumberAt, NumberGood, NumberSize, PutNumber}
 use Rattle.numbers.specs.Address.{BlankAddress, AddressAt, AddressGood, AddressSize, PutSub, PutAddress}
 use Rattle.numbers.specs.declared.number.Number.{Number}
-use Rattle.numbers.specs.declared.number.NumberRead.{NumberRead}
+use Rattle.octets.specs.declared.found.Found.{Found}
 use Rattle.numbers.specs.declared.address.Address.{Address}
-use Rattle.numbers.specs.declared.address.AddressRead.{AddressRead}
+use Rattle.numbers.specs.declared.address.Forwarded.{Forwarded}
 use Rattle.laws.proofs.Over.{only_puts}
 
 pub only_blank_number : {a b : Number} → BlankNumber a → BlankNumber b → a ≡ b
@@ -25,11 +26,11 @@ pub only_address_good : (a : Address) {x y : Bool} → AddressGood a x → Addre
 only_address_good a = both
 
 module _ (depth : ℕ) (s : List ℕ) (at end : ℕ) where
-  pub only_number_at : {a b : NumberRead} → NumberAt depth s at end a → NumberAt depth s at end b → a ≡ b
+  pub only_number_at : {a b : Option (Found Number)} → NumberAt depth s at end a → NumberAt depth s at end b → a ≡ b
   only_number_at = both
 
   pub only_address_at :
-      {a b : AddressRead} → AddressAt depth s at end a → AddressAt depth s at end b → a ≡ b
+      {a b : Option (Found Forwarded)} → AddressAt depth s at end a → AddressAt depth s at end b → a ≡ b
   only_address_at = both
 
 pub only_number_size : (n : Number) {a b : ℕ} → NumberSize n a → NumberSize n b → a ≡ b

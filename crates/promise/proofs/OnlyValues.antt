@@ -3,21 +3,21 @@ use Prim.Native.Nat.{ℕ}
 use mathlib.Core.Path.{◌≡◌}
 use mathlib.Core.List.{List}
 use lib.IntN.{ℤ}
+use Rattle.std.specs.Prelude.{Option}
 use Rattle.laws.proofs.Picks.{both}
 use Rattle.laws.proofs.Over.{only_puts}
 use Rattle.values.specs.Enumerated.{EnumeratedAt, PutEnumerated}
 use Rattle.values.specs.Ident.{IdentAt, IdentSize, PutIdent}
-use Rattle.values.specs.declared.enumerated.Enumerated.{Enumerated}
-use Rattle.values.specs.declared.ident.Ident.{Ident}
+use Rattle.octets.specs.declared.found.Found.{Found}
 
 -- ---- readers: the answer
 
 module _ (depth : ℕ) (s : List ℕ) (at end : ℕ) where
   pub only_enumerated_at :
-      {a b : Enumerated} → EnumeratedAt depth s at end a → EnumeratedAt depth s at end b → a ≡ b
+      {a b : Option (Found ℕ)} → EnumeratedAt depth s at end a → EnumeratedAt depth s at end b → a ≡ b
   only_enumerated_at = both
 
-  pub only_ident_at : {a b : Ident} → IdentAt depth s at end a → IdentAt depth s at end b → a ≡ b
+  pub only_ident_at : {a b : Option (Found ℤ)} → IdentAt depth s at end a → IdentAt depth s at end b → a ≡ b
   only_ident_at = both
 
 pub only_ident_size : (z : ℤ) {a b : ℕ} → IdentSize z a → IdentSize z b → a ≡ b
