@@ -7,7 +7,6 @@ mod readers;
 mod say;
 mod writers;
 
-use readers::Reader;
 use std::io;
 use testtext::{find, octets_from};
 
@@ -24,28 +23,28 @@ fn main(rt: HostRuntime) -> io::Result<()> {
 }
 
 fn each_line(rt: &impl Print, s: &[u8]) -> io::Result<()> {
-    let mut at = 0;
-    while at < s.len() {
-        let end = find(s, at, b'\n');
-        case(rt, &s[at..end])?;
+    if s.is_empty() {
+        return Ok(());
+    }
+    let lines = s.strip_suffix(b"\n").unwrap_or(s);
+    for line in lines.split(|c| *c == b'\n') {
+        case(rt, line)?;
         say::text(rt, b"\n")?;
-        at = end + 1;
     }
     Ok(())
 }
 
-fn case(rt: &impl Print, text: &[u8]) -> io::Result<()> {
-    let end = find(text, 0, b' ');
-    let by = readers::reader_of(&text[..end]);
-    match by {
-        Reader::Unknown => {
-            let by = writers::writer_of(&text[..end]);
-            writers::with_and_without_room(rt, by, text)
-        }
-        _ => {
-            let mut octets = [0u8; 512];
-            let n = octets_from(text, end, &mut octets);
-            readers::whole_and_cut(rt, by, &octets[..n])
-        }
+fn case(rt: &impl Print, line: &[u8]) -> io::Result<()> {
+    let end = find(line, 0, b' ');
+    let mut space = [0u8; 512];
+    let n = octets_from(line, end, &mut space);
+    let s = &space[..n];
+    match &line[..end] {
+        b"element" => readers::element(rt, s),
+        b"enumerated" => readers::enumerated(rt, s),
+        b"identifier" => readers::identifier(rt, s),
+        b"skip" => readers::skipped(rt, s),
+        b"groups" => readers::groups(rt, s),
+        word => writers::written(rt, word, line),
     }
 }

@@ -6,159 +6,118 @@ use skip::Skip;
 use std::io;
 use values::{Enumerated, Ident};
 
-// What is read.
-#[derive(Clone, Copy)]
-pub(crate) enum Reader {
-    Element,
-    Enumerated,
-    Identifier,
-    Skip,
-    Groups,
-    Unknown,
-}
-
-pub(crate) fn reader_of(word: &[u8]) -> Reader {
-    if check::same(word, b"element") {
-        return Reader::Element;
+// Prints what is read of `s`, or the word for what is not, and a mark for each cut: whether it is read too.
+fn whole_and_cut<T, R, S>(
+    rt: &impl Print,
+    s: &[u8],
+    read: R,
+    tell: S,
+    wrong: &[u8],
+) -> io::Result<()>
+where
+    T: Drop,
+    R: Fn(&[u8]) -> Option<T>,
+    S: Fn(T) -> io::Result<()>,
+    requires reads { R.IsAlwaysCallable read }
+    requires tells { S.IsAlwaysCallable tell }
+{
+    match read(s) {
+        Some(value) => tell(value)?,
+        None => say::text(rt, wrong)?,
     }
-    if check::same(word, b"enumerated") {
-        return Reader::Enumerated;
-    }
-    if check::same(word, b"identifier") {
-        return Reader::Identifier;
-    }
-    if check::same(word, b"skip") {
-        return Reader::Skip;
-    }
-    if check::same(word, b"groups") {
-        return Reader::Groups;
-    }
-    Reader::Unknown
-}
-
-// Prints what is read of `s`, and a mark for each cut: whether it is read too.
-pub(crate) fn whole_and_cut(rt: &impl Print, by: Reader, s: &[u8]) -> io::Result<()> {
-    reads(rt, by, s, true)?;
     say::text(rt, b" cuts")?;
-    if 0 < s.len() {
+    if !s.is_empty() {
         say::text(rt, b" ")?;
     }
-    let mut i = 0;
-    while i < s.len() {
-        say_cut(rt, reads(rt, by, &s[..i], false)?)?;
-        i += 1;
+    for cut in 0..s.len() {
+        let mark = if read(&s[..cut]).is_some() {
+            b"+"
+        } else {
+            b"."
+        };
+        say::text(rt, mark)?;
     }
     Ok(())
 }
 
-fn say_cut(rt: &impl Print, read: bool) -> io::Result<()> {
-    say::text(rt, &[if read { b'+' } else { b'.' }])
-}
-
-// Whether `s` is read; what is read is printed where `told` says so.
-fn reads(rt: &impl Print, by: Reader, s: &[u8], told: bool) -> io::Result<bool> {
-    match by {
-        Reader::Element => element(rt, s, told),
-        Reader::Enumerated => enumerated(rt, s, told),
-        Reader::Identifier => identifier(rt, s, told),
-        Reader::Skip => skipped(rt, s, told),
-        Reader::Groups => groups(rt, s, told),
-        Reader::Unknown => refused(rt, b"unknown", told),
-    }
-}
-
-// Prints the word before a place, and the place, where `told` says so.
-fn tell(rt: &impl Print, told: bool, word: &[u8], at: usize) -> io::Result<()> {
-    if told {
-        say::place(rt, word, at)?;
-    }
-    Ok(())
-}
-
-fn tell_tag(rt: &impl Print, told: bool, tag: u8) -> io::Result<()> {
-    if told {
+pub(crate) fn element(rt: &impl Print, s: &[u8]) -> io::Result<()> {
+    let tell = |(tag, start, stop, next)| {
         say::text(rt, b"tag ")?;
         say::octet(rt, tag)?;
-    }
-    Ok(())
+        print!(rt; " contents {start} {stop} next {next}")
+    };
+    whole_and_cut(rt, s, head_of, tell, b"bad")
 }
 
-fn tell_signed(rt: &impl Print, told: bool, value: i16) -> io::Result<()> {
-    if told {
-        say::text(rt, b"is ")?;
-        say::signed(rt, value)?;
-    }
-    Ok(())
-}
-
-fn element(rt: &impl Print, s: &[u8], told: bool) -> io::Result<bool> {
+fn head_of(s: &[u8]) -> Option<(u8, usize, usize, usize)> {
     match octets::head_at(s, 0, s.len(), 1) {
         Head::Is {
             tag,
             start,
             stop,
             next,
-        } => {
-            tell_tag(rt, told, tag)?;
-            tell(rt, told, b" contents ", start)?;
-            tell(rt, told, b" ", stop)?;
-            tell(rt, told, b" next ", next)?;
-            Ok(true)
-        }
-        Head::Bad => refused(rt, b"bad", told),
+        } => Some((tag, start, stop, next)),
+        Head::Bad => None,
     }
 }
 
-fn enumerated(rt: &impl Print, s: &[u8], told: bool) -> io::Result<bool> {
+pub(crate) fn enumerated(rt: &impl Print, s: &[u8]) -> io::Result<()> {
+    let tell = |(value, next)| print!(rt; "is {value} next {next}");
+    whole_and_cut(rt, s, enumerated_of, tell, b"unreadable")
+}
+
+fn enumerated_of(s: &[u8]) -> Option<(u8, usize)> {
     match values::enumerated_at(s, 0, s.len(), 1) {
-        Enumerated::Is { value, next } => {
-            tell(rt, told, b"is ", value as usize)?;
-            tell(rt, told, b" next ", next)?;
-            Ok(true)
-        }
-        Enumerated::Unreadable => refused(rt, b"unreadable", told),
+        Enumerated::Is { value, next } => Some((value, next)),
+        Enumerated::Unreadable => None,
     }
 }
 
-fn identifier(rt: &impl Print, s: &[u8], told: bool) -> io::Result<bool> {
+pub(crate) fn identifier(rt: &impl Print, s: &[u8]) -> io::Result<()> {
+    let tell = |(value, next)| {
+        say::text(rt, b"is ")?;
+        say::signed(rt, value)?;
+        print!(rt; " next {next}")
+    };
+    whole_and_cut(rt, s, identifier_of, tell, b"unreadable")
+}
+
+fn identifier_of(s: &[u8]) -> Option<(i16, usize)> {
     match values::ident_at(s, 0, s.len(), 1) {
-        Ident::Is { value, next } => {
-            tell_signed(rt, told, value)?;
-            tell(rt, told, b" next ", next)?;
-            Ok(true)
-        }
-        Ident::Unreadable => refused(rt, b"unreadable", told),
+        Ident::Is { value, next } => Some((value, next)),
+        Ident::Unreadable => None,
     }
 }
 
-fn skipped(rt: &impl Print, s: &[u8], told: bool) -> io::Result<bool> {
+pub(crate) fn skipped(rt: &impl Print, s: &[u8]) -> io::Result<()> {
+    whole_and_cut(
+        rt,
+        s,
+        after_element,
+        |next| print!(rt; "to {next}"),
+        b"wrong",
+    )
+}
+
+fn after_element(s: &[u8]) -> Option<usize> {
     match skip::skip_at(s, 0, s.len()) {
-        Skip::To(next) => {
-            tell(rt, told, b"to ", next)?;
-            Ok(true)
-        }
-        Skip::Wrong => refused(rt, b"wrong", told),
+        Skip::To(next) => Some(next),
+        Skip::Wrong => None,
     }
 }
 
-fn groups(rt: &impl Print, s: &[u8], told: bool) -> io::Result<bool> {
+pub(crate) fn groups(rt: &impl Print, s: &[u8]) -> io::Result<()> {
+    let tell = |(value, next)| match value {
+        Some(value) => print!(rt; "is {value} next {next}"),
+        None => print!(rt; "large next {next}"),
+    };
+    whole_and_cut(rt, s, groups_of, tell, b"bad")
+}
+
+fn groups_of(s: &[u8]) -> Option<(Option<u32>, usize)> {
     match groups::groups_at(s, 0, s.len()) {
-        Groups::Is { value, next } => {
-            tell(rt, told, b"is ", value as usize)?;
-            tell(rt, told, b" next ", next)?;
-            Ok(true)
-        }
-        Groups::Large { next } => {
-            tell(rt, told, b"large next ", next)?;
-            Ok(true)
-        }
-        Groups::Bad => refused(rt, b"bad", told),
+        Groups::Is { value, next } => Some((Some(value), next)),
+        Groups::Large { next } => Some((None, next)),
+        Groups::Bad => None,
     }
-}
-
-fn refused(rt: &impl Print, word: &[u8], told: bool) -> io::Result<bool> {
-    if told {
-        say::text(rt, word)?;
-    }
-    Ok(false)
 }

@@ -6,10 +6,6 @@ pub(crate) fn text(rt: &impl Print, s: &[u8]) -> io::Result<()> {
     rt.write_all(s)
 }
 
-fn decimal(rt: &impl Print, n: usize) -> io::Result<()> {
-    rt.print(n)
-}
-
 // An octet in hexadecimal.
 pub(crate) fn octet(rt: &impl Print, b: u8) -> io::Result<()> {
     text(rt, &[hex_character(b / 16), hex_character(b)])
@@ -17,13 +13,11 @@ pub(crate) fn octet(rt: &impl Print, b: u8) -> io::Result<()> {
 
 // Octets in hexadecimal, separated by spaces.
 pub(crate) fn octets(rt: &impl Print, s: &[u8]) -> io::Result<()> {
-    let mut i = 0;
-    while i < s.len() {
+    for (i, b) in s.iter().enumerate() {
         if 0 < i {
             text(rt, b" ")?;
         }
-        octet(rt, s[i])?;
-        i += 1;
+        octet(rt, *b)?;
     }
     Ok(())
 }
@@ -33,16 +27,10 @@ pub(crate) fn signed(rt: &impl Print, v: i16) -> io::Result<()> {
     if v < 0 {
         text(rt, b"-")?;
     }
-    decimal(rt, without_sign(v) as usize)
-}
-
-// The word before a place, and the place.
-pub(crate) fn place(rt: &impl Print, word: &[u8], at: usize) -> io::Result<()> {
-    text(rt, word)?;
-    decimal(rt, at)
+    rt.print(without_sign(v))
 }
 
 // A mark: `.` for what is right, `!` for what is not.
 pub(crate) fn mark(rt: &impl Print, right: bool) -> io::Result<()> {
-    text(rt, &[if right { b'.' } else { b'!' }])
+    text(rt, if right { b"." } else { b"!" })
 }

@@ -3,16 +3,6 @@ use crate::say;
 use std::io;
 use testtext::{all_outside, find, last_identifier, last_number, octet_of};
 
-// What is written.
-#[derive(Clone, Copy)]
-pub(crate) enum Writer {
-    Head,
-    Enumerated,
-    Identifier,
-    Groups,
-    Unknown,
-}
-
 // Room for what is written; where it is written, so that octets stand before it too; and what all octets hold beforehand.
 const SIZE: usize = 16;
 
@@ -20,38 +10,47 @@ const AT: usize = 3;
 
 const BEFORE: u8 = 0xAA;
 
-pub(crate) fn writer_of(word: &[u8]) -> Writer {
-    if check::same(word, b"write-head") {
-        return Writer::Head;
+// A case of writing, by its word; by any other word nothing is written.
+pub(crate) fn written(rt: &impl Print, word: &[u8], line: &[u8]) -> io::Result<()> {
+    let number = last_number(line);
+    match word {
+        b"write-head" => {
+            let tag = tag_of(line);
+            with_and_without_room(
+                rt,
+                |out| octets::put_head(out, AT, tag, (number % 65536) as u16),
+            )
+        }
+        b"write-enumerated" => with_and_without_room(
+            rt,
+            |out| values::put_enumerated(out, AT, (number % 256) as u8),
+        ),
+        b"write-identifier" => {
+            let identifier = last_identifier(line);
+            with_and_without_room(rt, |out| values::put_ident(out, AT, identifier))
+        }
+        b"write-groups" => with_and_without_room(rt, |out| groups::put_groups(out, AT, number)),
+        _ => with_and_without_room(rt, |_| AT),
     }
-    if check::same(word, b"write-enumerated") {
-        return Writer::Enumerated;
-    }
-    if check::same(word, b"write-identifier") {
-        return Writer::Identifier;
-    }
-    if check::same(word, b"write-groups") {
-        return Writer::Groups;
-    }
-    Writer::Unknown
 }
 
-// Prints what is written for the words of `line`, and a mark for each smaller room: whether nothing was altered.
-pub(crate) fn with_and_without_room(rt: &impl Print, by: Writer, line: &[u8]) -> io::Result<()> {
-    let mut out = [BEFORE; 16];
-    let next = writes(by, &mut out, line);
-    if SIZE < next {
+// Prints what `write` writes, and a mark for each smaller room: whether nothing was altered, and the answer is the place it began at.
+fn with_and_without_room<W>(rt: &impl Print, write: W) -> io::Result<()>
+where
+    W: Fn(&mut [u8]) -> usize,
+    requires { W.IsAlwaysCallable write }
+{
+    let mut out = [BEFORE; SIZE];
+    let next = write(&mut out);
+    let Some(written) = out.get(AT..next) else {
         return Ok(());
-    }
-    if next < AT {
-        return Ok(());
-    }
-    say::octets(rt, &out[AT..next])?;
+    };
+    say::octets(rt, written)?;
     say::text(rt, b" room ")?;
-    let mut size = AT;
-    while size < next {
-        smaller(rt, by, size, line)?;
-        size += 1;
+    for size in AT..next {
+        let mut out = [BEFORE; SIZE];
+        let next = write(&mut out[..size]);
+        say::mark(rt, next == AT && all_outside(&out, 0, 0, BEFORE))?;
     }
     if !all_outside(&out, AT, next, BEFORE) {
         say::text(rt, b"!")?;
@@ -59,32 +58,10 @@ pub(crate) fn with_and_without_room(rt: &impl Print, by: Writer, line: &[u8]) ->
     Ok(())
 }
 
-// A room of `size` octets is too small: the answer is the place it began at, and every octet stays.
-fn smaller(rt: &impl Print, by: Writer, size: usize, line: &[u8]) -> io::Result<()> {
-    let mut out = [BEFORE; 16];
-    if SIZE < size {
-        return Ok(());
-    }
-    let next = writes(by, &mut out[..size], line);
-    say::mark(rt, next == AT && all_outside(&out, 0, 0, BEFORE))
-}
-
 // The octet of the word after the first.
 fn tag_of(line: &[u8]) -> u8 {
-    let at = find(line, 0, b' ');
-    if line.len() - at < 3 {
-        return 0;
-    }
-    octet_of(line[at + 1], line[at + 2])
-}
-
-fn writes(by: Writer, out: &mut [u8], line: &[u8]) -> usize {
-    let number = last_number(line);
-    match by {
-        Writer::Head => octets::put_head(out, AT, tag_of(line), (number % 65536) as u16),
-        Writer::Enumerated => values::put_enumerated(out, AT, (number % 256) as u8),
-        Writer::Identifier => values::put_ident(out, AT, last_identifier(line)),
-        Writer::Groups => groups::put_groups(out, AT, number),
-        Writer::Unknown => AT,
+    match &line[find(line, 0, b' ')..] {
+        [_, high, low, ..] => octet_of(*high, *low),
+        _ => 0,
     }
 }
