@@ -1,4 +1,5 @@
-// The input.
+// The input. Each program has this file: a function that another crate can call must admit one answer (docs/ARCHITECTURE.md, "Rules that the
+// gate checks"), and what a reader will give or where it fails is not known.
 ghost use Rattle.std.specs.Prelude.{ℕ, List, ◌<◌, ◌≤◌, length, take, IfOk, IfErr};
 ghost use Rattle.std.specs.Io.KnownBytes.{Consumes, IsAtEnd};
 
@@ -14,6 +15,7 @@ pub(crate) fn read_full<R: Read>(from: &mut R, out: &mut [u8]) -> io::Result<usi
     ensures end { IfOk result (λ n. n < length out.new → IsAtEnd (R.remaining from.new)) }
 {
     let mut n = 0;
+    // No `for`: each turn goes on by as many octets as a read gives.
     while n < out.len() {
         let more = from.read(&mut out[n..])?;
         if more == 0 {
