@@ -17,7 +17,7 @@ fn main(rt: HostRuntime) -> io::Result<()> {
     let mut space = [0u8; SPACE];
     let n = input::read_full(&mut rt.stdin(), &mut space)?;
     if n == SPACE {
-        return say::text(&rt, b"too many cases\n");
+        return rt.write_all(b"too many cases\n");
     }
     each_line(&rt, &space[..n])
 }
@@ -29,7 +29,7 @@ fn each_line(rt: &impl Print, s: &[u8]) -> io::Result<()> {
     let lines = s.strip_suffix(b"\n").unwrap_or(s);
     for line in lines.split(|c| *c == b'\n') {
         case(rt, line)?;
-        say::text(rt, b"\n")?;
+        rt.write_all(b"\n")?;
     }
     Ok(())
 }

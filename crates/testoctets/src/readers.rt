@@ -23,11 +23,11 @@ where
 {
     match read(s) {
         Some(value) => tell(value)?,
-        None => say::text(rt, wrong)?,
+        None => rt.write_all(wrong)?,
     }
-    say::text(rt, b" cuts")?;
+    rt.write_all(b" cuts")?;
     if !s.is_empty() {
-        say::text(rt, b" ")?;
+        rt.write_all(b" ")?;
     }
     for cut in 0..s.len() {
         let mark = if read(&s[..cut]).is_some() {
@@ -35,14 +35,14 @@ where
         } else {
             b"."
         };
-        say::text(rt, mark)?;
+        rt.write_all(mark)?;
     }
     Ok(())
 }
 
 pub(crate) fn element(rt: &impl Print, s: &[u8]) -> io::Result<()> {
     let tell = |(tag, start, stop, next)| {
-        say::text(rt, b"tag ")?;
+        rt.write_all(b"tag ")?;
         say::octet(rt, tag)?;
         print!(rt; " contents {start} {stop} next {next}")
     };
@@ -75,7 +75,7 @@ fn enumerated_of(s: &[u8]) -> Option<(u8, usize)> {
 
 pub(crate) fn identifier(rt: &impl Print, s: &[u8]) -> io::Result<()> {
     let tell = |(value, next)| {
-        say::text(rt, b"is ")?;
+        rt.write_all(b"is ")?;
         say::signed(rt, value)?;
         print!(rt; " next {next}")
     };

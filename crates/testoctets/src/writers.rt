@@ -46,14 +46,14 @@ where
         return Ok(());
     };
     say::octets(rt, written)?;
-    say::text(rt, b" room ")?;
+    rt.write_all(b" room ")?;
     for size in AT..next {
         let mut out = [BEFORE; SIZE];
         let next = write(&mut out[..size]);
         say::mark(rt, next == AT && all_outside(&out, 0, 0, BEFORE))?;
     }
     if !all_outside(&out, AT, next, BEFORE) {
-        say::text(rt, b"!")?;
+        rt.write_all(b"!")?;
     }
     Ok(())
 }

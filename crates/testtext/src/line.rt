@@ -19,7 +19,7 @@ pub fn find(s: &[u8], at: usize, wanted: u8) -> usize
     }
 }
 
-// The number of a word that had the number `n` before the character `c`.
+// The number of a word that had the number `n` before the character `c`. No `parse`, which refuses a sign, and a number of more than 32 bits.
 #[tactic(auto, unfolding(crate::specs::Line::next_number), using(laws::proofs::Cases::cases))]
 fn next_number(n: u32, c: u8) -> u32
     ensures { result ≡ next_number n c }
