@@ -4,10 +4,10 @@ ghost use Rattle.end.specs.End.{FreshEnd};
 ghost use Rattle.end.specs.Shown.{shown_no};
 ghost use Rattle.sconcetoad.specs.Desk.{page_of, ActivatedBy, DeactivatedBy, InterrogatedBy, TakenBy, GivenUpBy, PageBy, PageEntryBy};
 
-use crate::written::refusal_in;
+use crate::written::{count_in, refusal_in};
 use end::{End, Shown, arrived, fresh_end};
 use lists::Entry;
-use refusals::refusal_no;
+use refusals::Refusal;
 use requests::Request;
 
 // A mark, and what stands for the count of a procedure that is not known.
@@ -74,7 +74,7 @@ pub extern "C" fn sconcetoad_activate(
     let next = sent.end;
     Sending {
         refusal: refusal_in(outcome),
-        count: sent.count,
+        count: count_in(outcome),
         end: next,
     }
 }
@@ -94,7 +94,7 @@ pub extern "C" fn sconcetoad_deactivate(
     let next = sent.end;
     Sending {
         refusal: refusal_in(outcome),
-        count: sent.count,
+        count: count_in(outcome),
         end: next,
     }
 }
@@ -114,7 +114,7 @@ pub extern "C" fn sconcetoad_interrogate(
     let next = sent.end;
     Sending {
         refusal: refusal_in(outcome),
-        count: sent.count,
+        count: count_in(outcome),
         end: next,
     }
 }
@@ -141,15 +141,20 @@ pub extern "C" fn sconcetoad_give_up(end: End, access: &[u8]) -> Moving
     }
 }
 
-fn page_of(shown: Shown) -> Page
+fn page_of(shown: Result<Shown, Refusal>) -> Page
     ensures { result ≡ page_of (shown_no shown) }
 {
-    match shown {
-        Shown::Refuses { refusal } => Page {
-            refusal: refusal_no(refusal),
-            mark: DOUBT,
-            count: NOCOUNT,
-        },
+    let told = match shown {
+        Ok(told) => told,
+        Err(refusal) => {
+            return Page {
+                refusal: u8::from(refusal),
+                mark: DOUBT,
+                count: NOCOUNT,
+            };
+        }
+    };
+    match told {
         Shown::Known { count } => Page {
             refusal: 0,
             mark: KNOWN,

@@ -56,11 +56,9 @@ pub extern "C" fn sconcetoad_reply(component: &[u8], identifier: i16, operation:
         Reply::Failed { value } => not_listed(FAILED, value),
         Reply::Done => not_listed(DONE, 0),
         Reply::Listed { at, end } => {
-            let read = entries_at(component, at, end);
-            if !read.ok {
+            let Some(list) = entries_at(component, at, end) else {
                 return not_listed(WRONG, 0);
-            }
-            let list = read.list;
+            };
             Replied {
                 kind: LISTED,
                 value: 0,

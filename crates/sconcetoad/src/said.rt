@@ -47,11 +47,9 @@ pub extern "C" fn sconcetoad_said(component: &[u8]) -> Said
             at,
             end,
         } => {
-            let read = argument_at(component, at, end, operation);
-            if !read.ok {
+            let Some(request) = argument_at(component, at, end, operation) else {
                 return nothing_asked(6, identifier, operation.value);
-            }
-            let request = read.request;
+            };
             Said {
                 row: 6,
                 asks: 1,

@@ -1,7 +1,7 @@
 // Components that C has written, and how C is told of what was written: a request, and the list of an interrogation.
 ghost use Rattle.std.specs.Prelude.{◌≡◌};
 ghost use Rattle.refusals.specs.Refusal.{refusal_in};
-ghost use Rattle.refusals.specs.Handling.{handling_told};
+ghost use Rattle.refusals.specs.Handling.{handling_told, written_count};
 ghost use Rattle.sconcetoad.specs.Written.{octets_told, RequestWrittenBy, ListWrittenBy};
 
 use components::{write_list, write_request};
@@ -26,13 +26,19 @@ pub(crate) fn refusal_in<T: Copy>(outcome: Result<T, Refusal>) -> u8
     }
 }
 
+pub(crate) fn count_in(outcome: Result<usize, Refusal>) -> usize
+    ensures { result ≡ written_count outcome }
+{
+    outcome.unwrap_or(0)
+}
+
 impl From<Result<usize, Refusal>> for Octets {
     ghost from_gives = { λ outcome octets. octets ≡ octets_told outcome };
 
     fn from(outcome: Result<usize, Refusal>) -> Octets {
         Octets {
             refusal: refusal_in(outcome),
-            count: outcome.unwrap_or(0),
+            count: count_in(outcome),
         }
     }
 }

@@ -1,10 +1,7 @@
 // The reading cases: each is read whole, and then cut at every octet.
 use crate::say;
-use groups::Groups;
-use octets::Head;
-use skip::Skip;
+use octets::{Found, Head};
 use std::io;
-use values::{Enumerated, Ident};
 
 // Prints what is read of `s`, or the word for what is not, and a mark for each cut: whether it is read too.
 fn whole_and_cut<T, R, S>(
@@ -41,52 +38,38 @@ where
 }
 
 pub(crate) fn element(rt: &impl Print, s: &[u8]) -> io::Result<()> {
-    let tell = |(tag, start, stop, next)| {
+    let tell = |head: Head| {
         rt.write_all(b"tag ")?;
-        say::octet(rt, tag)?;
-        print!(rt; " contents {start} {stop} next {next}")
+        say::octet(rt, head.tag)?;
+        print!(rt; " contents {} {} next {}", head.start, head.stop, head.next)
     };
     whole_and_cut(rt, s, head_of, tell, b"bad")
 }
 
-fn head_of(s: &[u8]) -> Option<(u8, usize, usize, usize)> {
-    match octets::head_at(s, 0, s.len(), 1) {
-        Head::Is {
-            tag,
-            start,
-            stop,
-            next,
-        } => Some((tag, start, stop, next)),
-        Head::Bad => None,
-    }
+fn head_of(s: &[u8]) -> Option<Head> {
+    octets::head_at(s, 0, s.len(), 1)
 }
 
 pub(crate) fn enumerated(rt: &impl Print, s: &[u8]) -> io::Result<()> {
-    let tell = |(value, next)| print!(rt; "is {value} next {next}");
+    let tell = |found: Found<u8>| print!(rt; "is {} next {}", found.value, found.next);
     whole_and_cut(rt, s, enumerated_of, tell, b"unreadable")
 }
 
-fn enumerated_of(s: &[u8]) -> Option<(u8, usize)> {
-    match values::enumerated_at(s, 0, s.len(), 1) {
-        Enumerated::Is { value, next } => Some((value, next)),
-        Enumerated::Unreadable => None,
-    }
+fn enumerated_of(s: &[u8]) -> Option<Found<u8>> {
+    values::enumerated_at(s, 0, s.len(), 1)
 }
 
 pub(crate) fn identifier(rt: &impl Print, s: &[u8]) -> io::Result<()> {
-    let tell = |(value, next)| {
+    let tell = |found: Found<i16>| {
         rt.write_all(b"is ")?;
-        say::signed(rt, value)?;
-        print!(rt; " next {next}")
+        say::signed(rt, found.value)?;
+        print!(rt; " next {}", found.next)
     };
     whole_and_cut(rt, s, identifier_of, tell, b"unreadable")
 }
 
-fn identifier_of(s: &[u8]) -> Option<(i16, usize)> {
-    match values::ident_at(s, 0, s.len(), 1) {
-        Ident::Is { value, next } => Some((value, next)),
-        Ident::Unreadable => None,
-    }
+fn identifier_of(s: &[u8]) -> Option<Found<i16>> {
+    values::ident_at(s, 0, s.len(), 1)
 }
 
 pub(crate) fn skipped(rt: &impl Print, s: &[u8]) -> io::Result<()> {
@@ -100,24 +83,17 @@ pub(crate) fn skipped(rt: &impl Print, s: &[u8]) -> io::Result<()> {
 }
 
 fn after_element(s: &[u8]) -> Option<usize> {
-    match skip::skip_at(s, 0, s.len()) {
-        Skip::To(next) => Some(next),
-        Skip::Wrong => None,
-    }
+    skip::skip_at(s, 0, s.len())
 }
 
 pub(crate) fn groups(rt: &impl Print, s: &[u8]) -> io::Result<()> {
-    let tell = |(value, next)| match value {
-        Some(value) => print!(rt; "is {value} next {next}"),
-        None => print!(rt; "large next {next}"),
+    let tell = |found: Found<Option<u32>>| match found.value {
+        Some(value) => print!(rt; "is {value} next {}", found.next),
+        None => print!(rt; "large next {}", found.next),
     };
     whole_and_cut(rt, s, groups_of, tell, b"bad")
 }
 
-fn groups_of(s: &[u8]) -> Option<(Option<u32>, usize)> {
-    match groups::groups_at(s, 0, s.len()) {
-        Groups::Is { value, next } => Some((Some(value), next)),
-        Groups::Large { next } => Some((None, next)),
-        Groups::Bad => None,
-    }
+fn groups_of(s: &[u8]) -> Option<Found<Option<u32>>> {
+    groups::groups_at(s, 0, s.len())
 }

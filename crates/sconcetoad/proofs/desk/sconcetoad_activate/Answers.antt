@@ -5,7 +5,7 @@ use Rattle.sconcetoad.proofs.desk.sconcetoad_activate.Goals as goal
 pub returns : goal.returns
 returns c = record {
   refusal = c.refusal_in.ensures ∙ ap refusal_in c.activate-sent.ensures.told;
-  count = c.activate-sent.ensures.count;
+  count = c.count_in.ensures ∙ c.activate-sent.ensures.count;
   end = c.activate-sent.ensures.end;
   lent = c.activate-sent.ensures.lent;
 }

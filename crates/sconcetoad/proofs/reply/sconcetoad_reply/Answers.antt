@@ -9,14 +9,14 @@ use borrow.Author.Tests.{not-true, not-false}
 use borrow.Author.Rules.{rules}
 use Rattle.sconcetoad.proofs.reply.sconcetoad_reply.Goals as goal
 
-pub returns-then-not-read : goal.returns-then-not-read
-returns-then-not-read c =
+pub returns-in_default : goal.returns-in_default
+returns-in_default c =
     let found = sym (replies_is (rw
     (to_z-of_z c.ranges.identifier) at
     c.reply_to.ensures))
     ∙ c.in-Listed.is in
-    rw found (c.not_listed-then-not-read.ensures
-    ∙ told_none (entries_from _ _ _ _) _ c.entries_at-read.ensures (not-true _ c.if-not-read.true))
+    rw found (c.not_listed-in_default.ensures
+    ∙ told_none (entries_from _ _ _ _) _ c.entries_at.ensures c.in_default.is)
 
 pub returns-in-Dropped : goal.returns-in-Dropped
 returns-in-Dropped c =
@@ -40,13 +40,13 @@ returns-in-Done c =
     rw (sym (replies_is (rw (to_z-of_z c.ranges.identifier) at
     c.reply_to.ensures)) ∙ c.in-Done.is) c.not_listed-in-Done.ensures
 
-pub returns-else-not-read : goal.returns-else-not-read
-returns-else-not-read c =
+pub returns-in-Some : goal.returns-in-Some
+returns-in-Some c =
     let found = sym (replies_is (rw
     (to_z-of_z c.ranges.identifier) at
     c.reply_to.ensures))
     ∙ c.in-Listed.is in
-    rw found (told_found (entries_from _ _ _ _) _ c.entries_at-read.ensures (not-false _ c.if-not-read.false))
+    rw found (told_found (entries_from _ _ _ _) _ _ c.entries_at.ensures c.in-Some.is)
 
 pub returns-in-Wrong : goal.returns-in-Wrong
 returns-in-Wrong c =

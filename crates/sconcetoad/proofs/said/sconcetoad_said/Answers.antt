@@ -1,3 +1,4 @@
+use Rattle.octets.proofs.Founds.{only_got, only_wrong}
 use Rattle.requests.proofs.Numbers.{hears_is}
 use Rattle.sconcetoad.proofs.Saids.{asked_found, asked_none}
 use Rattle.requests.specs.Request.{argument_at}
@@ -9,15 +10,14 @@ use borrow.Author.Tests.{not-true, not-false}
 use borrow.Author.Rules.{rules}
 use Rattle.sconcetoad.proofs.said.sconcetoad_said.Goals as goal
 
-pub returns-then-not-read : goal.returns-then-not-read
-returns-then-not-read c =
+pub returns-in_default : goal.returns-in_default
+returns-in_default c =
     let found = sym (hears_is c.hear.ensures)
     ∙ c.in-Asks.is in
     let identifier : SFits w16 c.in-Asks.identifier = search rules in
     let operation : SFits w16 c.in-Asks.operation.value = search rules in
-    rw found ((rw (to_z-of_z identifier, to_z-of_z operation) at c.nothing_asked-then-not-read.ensures)
-    ∙ asked_none _ _ (argument_at _ _ _ _) _ c.argument_at-read.ensures
-    (not-true _ c.if-not-read.true))
+    rw found ((rw (to_z-of_z identifier, to_z-of_z operation) at c.nothing_asked-in_default.ensures)
+    ∙ asked_none _ _ (argument_at _ _ _ _) (only_wrong (argument_at _ _ _ _) c.argument_at.ensures c.in_default.is))
 
 pub returns-in-NotOne : goal.returns-in-NotOne
 returns-in-NotOne c = rw (sym (hears_is c.hear.ensures) ∙ c.in-NotOne.is) c.nothing_asked.ensures
@@ -37,12 +37,11 @@ returns-in-NoOperation c =
     rw (sym (hears_is c.hear.ensures) ∙ c.in-NoOperation.is)
     (rw (to_z-of_z identifier) at c.nothing_asked-in-NoOperation.ensures)
 
-pub returns-else-not-read : goal.returns-else-not-read
-returns-else-not-read c =
+pub returns-in-Some : goal.returns-in-Some
+returns-in-Some c =
     let found = sym (hears_is c.hear.ensures)
     ∙ c.in-Asks.is in
     let identifier : SFits w16 c.in-Asks.identifier = search rules in
     let operation : SFits w16 c.in-Asks.operation.value = search rules in
     rw (to_z-of_z identifier, to_z-of_z operation, found)
-    (asked_found _ _ (argument_at _ _ _ _) _ c.argument_at-read.ensures
-    (not-false _ c.if-not-read.false))
+    (asked_found _ _ (argument_at _ _ _ _) _ (only_got (argument_at _ _ _ _) c.argument_at.ensures c.in-Some.is))
