@@ -1,21 +1,18 @@
 -- Marks, and what it means that an end breaks no rule. Assumes nothing.
-use Prim.Native.Nat.{ℕ, zero, suc, ◌<◌, ◌≤◌}
-use mathlib.Core.Path.{◌≡◌, refl, ◌∙◌}
-use mathlib.Core.Bool.{true, false}
+use Prim.Native.Nat.{ℕ, zero, suc, ◌≤◌}
+use mathlib.Core.Path.{◌≡◌, refl}
+use mathlib.Core.Bool.{true}
 use mathlib.Core.List.{List, [], ◌∷◌}
-use native.Mathlib.Omega.{arith}
 use lib.ListN.{length, get_or-eq_default}
 use lib.Dec.{leb}
-use borrow.Author.Tests.{lt-ltb, le-ltb, le-leb, lt-leb, leb-true, eq-eqb, ne_eqb}
-use Rattle.laws.specs.Pick.{pick}
+use borrow.Author.Tests.{leb-true}
 use Rattle.laws.specs.Tests.{all}
 use Rattle.laws.specs.Mark.{doubt, mark_no}
 use Rattle.laws.proofs.Picks.{pick_last, pick_then}
 use Rattle.laws.proofs.Filled.{set_past}
 use Rattle.profile.specs.declared.profile.Profile.{Profile}
-use Rattle.requests.specs.Sent.{sendable}
 use Rattle.instances.specs.Run.{run_good}
-use Rattle.end.specs.End.{mark_at, marked, used_most, waiting_good, end_rules, end_good}
+use Rattle.end.specs.End.{mark_at, marked, used_most, end_rules, end_good}
 use Rattle.end.specs.declared.end.End.{End}
 
 -- a procedure that has no mark is in doubt, and none is put there
@@ -40,11 +37,6 @@ pub rules_used : (e : End) → all (end_rules e) ≡ true → e.used ≤ used_mo
 rules_used e h = leb-true e.used used_most (pick_then (leb e.used used_most) _ h).0
 
 module _ (most : ℕ) (p : Profile) (e : End) where
-  -- where its own rules fail the picture is not looked at
-  pub rules_fail : all (end_rules e) ≡ false → end_good most p e ≡ false
-  unfolding end_good
-  rules_fail h = rw h
-
   -- an end that breaks no rule has used no identifier past the last
   pub used_most_lem : end_good most p e ≡ true → e.used ≤ used_most
   unfolding end_good
@@ -58,25 +50,3 @@ module _ (most : ℕ) (p : Profile) (e : End) where
   pub rules_pass : all (end_rules e) ≡ true → end_good most p e ≡ run_good most p e.picture
   unfolding end_good
   rules_pass h = rw h (pick_last (run_good most p e.picture))
-
-module _ (e : End) where
-  -- where nothing is outstanding what would be is not looked at
-  pub waiting_none : e.outstanding ≡ 0 → waiting_good e ≡ true
-  unfolding waiting_good
-  waiting_none h = rw (eq-eqb e.outstanding 0 h)
-
-  module _ (some : e.outstanding ≡ 0 → ⊥) where
-    pub waiting_unused : e.used ≡ 0 → waiting_good e ≡ false
-    unfolding waiting_good
-    waiting_unused h = rw (ne_eqb e.outstanding 0 some, le-ltb 0 e.used (omega (arith, h)))
-
-    module _ (used : e.used ≡ 0 → ⊥) where
-      pub waiting_mark : 1 < e.before → waiting_good e ≡ false
-      unfolding waiting_good
-      waiting_mark h = rw (ne_eqb e.outstanding 0 some, lt-ltb 0 e.used (omega (arith, used)), lt-leb e.before 1 h)
-
-      pub waiting_sends : e.before ≤ 1 → waiting_good e ≡ sendable e.operation e.request
-      unfolding waiting_good
-      waiting_sends h =
-          rw (ne_eqb e.outstanding 0 some, lt-ltb 0 e.used (omega (arith, used)), le-leb e.before 1 h)
-          (pick_last (pick (sendable e.operation e.request) true false) ∙ pick_last (sendable e.operation e.request))

@@ -19,7 +19,7 @@ use Rattle.answers.proofs.Numbers.{reply_same}
 use Rattle.instances.specs.Run.{instances_of}
 use Rattle.rules.specs.Judge.{verdict_no, judge, applied}
 use Rattle.rules.specs.declared.verdict.Verdict.{Verdict}
-use Rattle.rules.specs.declared.verdict.Verdict.TheVariants.{Passes, Fails}
+use Rattle.rules.specs.declared.verdict.Verdict.TheVariants.{Passes}
 use Rattle.end.specs.End.{closed, end_good}
 use Rattle.end.specs.Taking.{doubted, applied_by, took_by, took, gave_up, Moves, moved, not_moved, takes, gives_up, MovesBy}
 use Rattle.end.specs.inner.Refused.{move_refused}
@@ -83,12 +83,6 @@ all_moves d e next is made = record { end = rw (is, made); told = rw is }
 
 module _ (p : Profile) (e : End) (v : Verdict)
     (judged : verdict_no v ≡ judge instances_most p e.operation e.request (instances_of e.picture)) where
-  -- the rules give an error on the picture
-  pub applied_fails :
-      (error : ℕ) → v ≡ Fails error →
-      doubted e ≡ applied_by p e (judge instances_most p e.operation e.request (instances_of e.picture))
-  applied_fails error is = ap (applied_by p e) (sym (ap verdict_no is) ∙ judged)
-
   pub applied_passes :
       (renews : Bool) → v ≡ Passes renews →
       closed e.before (applied p e.operation e.request e.picture) e

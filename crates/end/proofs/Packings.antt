@@ -4,7 +4,7 @@ use mathlib.Core.Path.{◌≡◌, refl, sym, ap, subst, ◌∙◌}
 use mathlib.Core.List.{List, [], ◌∷◌, ◌++◌, append-nil}
 use native.Mathlib.Omega.{arith}
 use lib.ListN.{length, take, set, replicate, length-append, length-take, length-replicate}
-use lib.Seq.{take_all, take-append-le, take-append_seam, drop-append_seam}
+use lib.Seq.{take-append-le, take-append_seam, drop-append_seam}
 use Rattle.laws.proofs.Filled.{Filled, filled_next, filled_done}
 use Rattle.instances.specs.Instance.{blank_instance}
 use Rattle.instances.specs.Places.{run_most}
@@ -68,18 +68,6 @@ module _ (x : Instance) (t : List Instance) (room : length t < run_most) where
       (packed (t ++ x ∷ []))
   one_more =
       packed_done (t ++ x ∷ []) _ _ (filled_done _ _ _ _ _ (filled_next run_most blank_instance (t ++ x ∷ []) x [] (length t) _ room filled))
-
--- what stands in a run that has room
-pub record Roomy (l : List Instance) (run : Run) : Type 0 where
-  pub count : run.count ≡ length l
-  pub array : run.run ≡ l ++ blank_instance ∷ replicate (run_most - suc (length l)) blank_instance
-
-pub roomy : (l : List Instance) (run : Run) → run ≡ packed l → run.count < run_most → Roomy l run
-roomy l run is room =
-    let many : run.count ≡ length (take run_most l) = ap (λ (r : Run). r.count) is in
-    let all : take run_most l ≡ l = take_all run_most l (omega (arith, many, room, length-take run_most l)) in
-    let some : run_most - length l ≡ suc (run_most - suc (length l)) = omega (arith, room, rw all at many) in
-    record { count = rw all at many; array = rw (all, some) at (ap (λ (r : Run). r.run) is) }
 
 pub added :
     (l : List Instance) (run : Run) (x : Instance) → run ≡ packed l → run.count < run_most →

@@ -1,30 +1,31 @@
 -- The instances of a list put in order, one after the other. Assumes nothing.
-use Prim.Native.Nat.{ℕ, suc, ◌+◌, ◌-◌, ◌<◌, ◌≤◌}
+use Prim.Native.Nat.{ℕ, suc, min, ◌+◌, ◌-◌, ◌<◌, ◌≤◌}
 use mathlib.Core.Path.{◌≡◌, refl, sym, ap, ◌∙◌}
-use mathlib.Core.Bool.{Bool, not}
-use mathlib.Core.List.{List, [], ◌∷◌, ◌++◌, map, append_assoc, append-nil}
+use mathlib.Core.Bool.{Bool}
+use mathlib.Core.List.{List, [], ◌∷◌, ◌++◌, map}
+use native.Mathlib.Numerals.{add-one}
 use native.Mathlib.Omega.{arith}
 use lib.Dec.{leb}
-use lib.ListN.{length, take, drop, set, replicate, length-append, length-map, length-take, length-drop, take-append-drop}
-use lib.Seq.{set_at, take_at, drop_at, append_snoc, length-take-le}
+use lib.ListN.{length, take, drop, get_or, set, replicate, length-map, length-drop, length-take, length-replicate, replicate-append-replicate}
+use lib.Seq.{set_at, take_at, drop_at, append_snoc, take_all}
+use Rattle.laws.proofs.Lefts.{left_none}
 use borrow.Author.Tests.{leb-true, leb-false}
 use borrow.Rule.Slice.PartMut.{mid_of, put_mid}
 use Rattle.std.specs.List.{position_or_len}
-use Rattle.std.proofs.lemmas.List.Sums.{prefix_len-le-length}
 use Rattle.laws.proofs.Picks.{by_bool}
 use Rattle.profile.specs.declared.profile.Profile.{Profile}
-use Rattle.lists.specs.Entries.{instances_most}
+use Rattle.lists.specs.Entry.{entry_of}
+use Rattle.lists.specs.Entries.{instances_most, entries_in}
 use Rattle.lists.specs.declared.entry.Entry.{Entry}
+use Rattle.lists.specs.declared.entries.Entries.{Entries}
 use Rattle.instances.specs.Instance.{blank_instance, key_of}
 use Rattle.instances.specs.Places.{run_most}
-use Rattle.instances.specs.Run.{instances_of, packed, merged}
+use Rattle.instances.specs.Run.{packed, merged}
 use Rattle.instances.specs.declared.instance.Instance.{Instance}
 use Rattle.instances.specs.declared.run.Run.{Run}
-use Rattle.instances.proofs.Runs.{packed_done, packed_all}
+use Rattle.instances.proofs.Runs.{step, packed_done}
 use Rattle.instances.proofs.Merged.{nil_merged, merged_nil, merge_lower, merge_higher, merged_length}
 use Rattle.end.specs.Listed.{instance_for, sorted, instances_listed}
-use Rattle.end.specs.inner.Listed.{Packed}
-use Rattle.end.proofs.Packings.{packed_packed, roomy}
 
 -- ---- none is lost
 
@@ -58,87 +59,80 @@ put_in x (y ∷ l) =
     (merge_lower (x ∷ []) (y ∷ l) y l refl x [] refl (leb-false (key_of x) (key_of y) h)
     ∙ ap (λ (m : List Instance). y ∷ m) (put_in x l)))
 
--- what stands after the last is turned to that place
-pub turned :
-    {A : Type 0} (front back rest : List A) (x : A) (a k : ℕ) (xs ys : List A) →
-    length front ≡ a → length back + 1 ≡ k → xs ≡ (front ++ back) ++ x ∷ rest →
-    ys ≡ drop (length (mid_of a k xs) - 1) (mid_of a k xs) ++ take (length (mid_of a k xs) - 1) (mid_of a k xs) →
-    put_mid a k xs ys ≡ (front ++ x ∷ back) ++ rest
-turned front back rest x a k xs ys at many is turns =
-    let whole : xs ≡ front ++ ((back ++ x ∷ []) ++ rest) = is ∙ append_assoc front back (x ∷ rest) ∙ ap (λ l. front ++ l) (sym (append_snoc back x rest)) in
-    let start : drop a xs ≡ (back ++ x ∷ []) ++ rest = rw whole (drop_at front ((back ++ x ∷ []) ++ rest) a at) in
-    let before : take a xs ≡ front = rw whole (take_at front ((back ++ x ∷ []) ++ rest) a at) in
-    let count : length (back ++ x ∷ []) ≡ k = omega (arith, many, length-append back (x ∷ [])) in
-    let mid : mid_of a k xs ≡ back ++ x ∷ [] = rw start (take_at (back ++ x ∷ []) rest k count) in
-    let after : drop k (drop a xs) ≡ rest = rw start (drop_at (back ++ x ∷ []) rest k count) in
-    let less : length back ≡ length (back ++ x ∷ []) - 1 = omega (arith, length-append back (x ∷ [])) in
-    let turn : ys ≡ x ∷ back = rw mid at turns ∙ rw (drop_at back (x ∷ []) _ less, take_at back (x ∷ []) _ less) in
-    rw (turn, before, after) (sym (append_assoc front (x ∷ back) rest))
+-- the first of several goes behind those that are below it
+pub settled :
+    (s : List Instance) (d : Instance) (lower : ℕ) (ys : List Instance) → 0 < length s →
+    lower ≡ place_for (get_or s 0 d) (take (length s - 1) (drop 1 s)) →
+    ys ≡ drop 1 (take (lower + 1) s) ++ take 1 (take (lower + 1) s) →
+    ys ++ drop (lower + 1) s ≡ merged (take 1 s) (drop 1 s)
+settled [] d lower ys some at turns = absurd (omega (arith, some))
+settled (x ∷ l) d lower ys some at turns =
+    let less : length (x ∷ l) - 1 ≡ length l = omega arith in
+    let all : take (length l) l ≡ l = take_all (length l) l (omega arith) in
+    let place : lower ≡ place_for x l = rw (less, all) at at in
+    let turn : ys ≡ take lower l ++ x ∷ [] = rw add-one at turns in
+    rw (turn, add-one) (append_snoc (take lower l) x (drop lower l) ∙ rw place (sym (put_in x l)))
 
--- so a run that has room gets it in its place
-pub inserted :
-    (l : List Instance) (run : Run) (x : Instance) (a k : ℕ) (ys : List Instance) → run ≡ packed l → run.count < run_most →
-    a ≡ place_for x l → k ≡ run.count + 1 - a →
-    ys
-    ≡ drop (length (mid_of a k (set run.run run.count x)) - 1) (mid_of a k (set run.run run.count x))
-    ++ take (length (mid_of a k (set run.run run.count x)) - 1) (mid_of a k (set run.run run.count x)) →
-    ◌≡◌ {A = Run} record { count = run.count + 1; run = put_mid a k (set run.run run.count x) ys } (packed (merged (x ∷ []) l))
-inserted l run x a k ys is room at many turns =
-    let so = roomy l run is room in
-    let rest : List Instance = replicate (run_most - suc (length l)) blank_instance in
-    let low : a ≤ length l = omega (arith, at, prefix_len-le-length (λ y. not (not_below x y)) l) in
-    let stored : set run.run run.count x ≡ (take a l ++ drop a l) ++ x ∷ rest =
-    rw (so.array, take-append-drop a l) (set_at l blank_instance rest x run.count (sym so.count)) in
-    let turn =
-    turned (take a l) (drop a l) rest x a k (set run.run run.count x) ys (length-take-le a l low)
-    (omega (arith, many, so.count, low, length-drop a l)) stored turns in
-    let whole : merged (x ∷ []) l ≡ take a l ++ x ∷ drop a l = rw (← at) at (put_in x l) in
-    let long : length (merged (x ∷ []) l) ≡ length l + 1 = omega (arith, merged_length (x ∷ []) l) in
-    let left : run_most - suc (length l) ≡ run_most - length (merged (x ∷ []) l) = omega (arith, long) in
-    packed_done (merged (x ∷ []) l) _ _
-    (omega (arith, so.count, long), turn ∙ rw (← whole, left), omega (arith, so.count, room, long))
+-- ---- the array of a list's instances from the place i on
 
--- ---- a list's entries, from the last to the first
+-- what the machine reads past an array of entries
+abbrev pub outside_entry : Entry
+outside_entry =
+    entry_of (record { form = 0; kind = 0; count = 0; digits = [] }) 0 0
+    (record { number = record { form = 0; kind = 0; count = 0; digits = [] }; subcount = 0; sub = [] })
 
-pub record Listing (p : Profile) (es rest : List Entry) (next : Run) : Type 0 where
-  pub done : List Entry
-  pub whole : rest ++ done ≡ es
-  pub made : next ≡ packed (instances_listed p done)
+abbrev pub sorted_from : Profile → Entries → ℕ → List Instance
+sorted_from p list i = sorted (map (instance_for p) (drop i (entries_in list)))
 
-pub listing_none : (p : Profile) (es : List Entry) (next : Run) → next ≡ packed [] → Listing p es es next
-unfolding instances_listed sorted
-listing_none p es next fresh = record { done = []; whole = append-nil es; made = fresh }
+-- blanks stand before them, and after the n of the whole list
+abbrev pub array_from : Profile → Entries → ℕ → ℕ → List Instance
+array_from p list n i = replicate i blank_instance ++ (sorted_from p list i ++ replicate (run_most - n) blank_instance)
 
-module _ (p : Profile) (es rest : List Entry) (few : length es ≤ instances_most) (next : Run) (so : Listing p es rest next) where
-  listed_few : length (instances_listed p so.done) ≤ instances_most
+module _ (p : Profile) (list : Entries) (n : ℕ)
+    (few : n ≡ min list.count instances_most) (long : length list.entries ≡ instances_most) where
+  length_from : (i : ℕ) → length (sorted_from p list i) ≡ n - i
+  length_from i =
+      let es = drop i (entries_in list) in
+      sorted_length (map (instance_for p) es) ∙
+      omega (arith, few, long, length-map es (instance_for p), length-drop i (entries_in list), length-take list.count list.entries)
+
+  -- at first there are none
+  pub array_none : replicate run_most blank_instance ≡ array_from p list n n
+  unfolding sorted
+  array_none =
+      let none : drop n (entries_in list) ≡ [] = left_none list.count list.entries n (omega (arith, few, long)) in
+      let all : n + (run_most - n) ≡ run_most = omega (arith, few) in
+      rw none (rw all at (sym (replicate-append-replicate n (run_most - n) blank_instance)))
+
+  -- the entry before them takes the place of the last blank before them, and goes to its own
+  pub array_next :
+      (i k : ℕ) (array ys : List Instance) (x : Instance) → k ≡ i + 1 → k ≤ n → array ≡ array_from p list n k →
+      x ≡ instance_for p (get_or list.entries i outside_entry) →
+      ys ≡ merged (take 1 (mid_of i (n - i) (set array i x))) (drop 1 (mid_of i (n - i) (set array i x))) →
+      put_mid i (n - i) (set array i x) ys ≡ array_from p list n i
+  unfolding sorted
+  array_next i k array ys x e h so is settles =
+      let before : List Instance = replicate i blank_instance in
+      let after : List Instance = sorted_from p list (i + 1) in
+      let rest : List Instance = replicate (run_most - n) blank_instance in
+      let next = step list.count list.entries i outside_entry (omega arith) (omega arith) in
+      let many : length (x ∷ after) ≡ n - i = omega (arith, length_from (i + 1)) in
+      let at : length before ≡ i = length-replicate i blank_instance in
+      let stood : array ≡ before ++ blank_instance ∷ (after ++ rest) =
+      so ∙ rw (e, ← replicate-append-replicate i 1 blank_instance) (append_snoc before blank_instance (after ++ rest)) in
+      let stands : set array i x ≡ before ++ ((x ∷ after) ++ rest) = rw stood (set_at before blank_instance (after ++ rest) x i at) in
+      let start : drop i (set array i x) ≡ (x ∷ after) ++ rest = rw stands (drop_at before ((x ∷ after) ++ rest) i at) in
+      let front : take i (set array i x) ≡ before = rw stands (take_at before ((x ∷ after) ++ rest) i at) in
+      let mid : mid_of i (n - i) (set array i x) ≡ x ∷ after = rw start (take_at (x ∷ after) rest (n - i) many) in
+      let past : drop (n - i) (drop i (set array i x)) ≡ rest = rw start (drop_at (x ∷ after) rest (n - i) many) in
+      let settled_here : ys ≡ sorted_from p list i = rw mid at settles ∙ rw (next, is) in
+      rw (front, settled_here, past)
+
+  -- and at last they are all there
+  pub array_done :
+      (array : List Instance) → array ≡ array_from p list n 0 →
+      ◌≡◌ {A = Run} record { count = n; run = array } (packed (instances_listed p (entries_in list)))
   unfolding instances_listed
-  listed_few =
-      omega (
-        arith,
-        few,
-        sorted_length (map (instance_for p) so.done),
-        length-map so.done (instance_for p),
-        length-append rest so.done,
-        ap length so.whole,
-      )
-
-  held_all : instances_of next ≡ instances_listed p so.done
-  held_all = ap instances_of so.made ∙ packed_all (instances_listed p so.done) (omega (arith, listed_few))
-
-  -- there is room for one more
-  pub listing_room : Packed next × (next.count < run_most)
-  listing_room =
-      (rw so.made (packed_packed (instances_listed p so.done)), rw so.made (omega (arith, listed_few, length-take run_most (instances_listed p so.done))))
-
-  pub listing_next :
-      (x : Entry) (left : List Entry) (more : Run) → rest ≡ left ++ x ∷ [] →
-      more ≡ packed (merged (instance_for p x ∷ []) (instances_of next)) → Listing p es left more
-  unfolding instances_listed sorted
-  listing_next x left more on is = record {
-    done = x ∷ so.done;
-    whole = sym (append_snoc left x so.done) ∙ rw on at so.whole;
-    made = rw held_all at is;
-  }
-
-  pub listing_done : rest ≡ [] → next ≡ packed (instances_listed p es)
-  listing_done none = so.made ∙ ap (λ (l : List Entry). packed (instances_listed p l)) (rw none at so.whole)
+  array_done array so =
+      let many : n ≡ length (sorted_from p list 0) = omega (arith, length_from 0) in
+      packed_done (sorted_from p list 0) n array (many, rw (← many) so, omega (arith, many, few))

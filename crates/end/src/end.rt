@@ -54,7 +54,7 @@ fn marks_good(marks: [u8; PROCEDURES]) -> bool
 
 // Whether all but the picture breaks no rule. The end is looked at where it stands: taken by value, it would be copied.
 #[tactic(auto, unfolding(crate::specs::End::waiting_good))]
-pub(crate) fn rules_hold(e: &End) -> bool
+fn rules_hold(e: &End) -> bool
     ensures { result ≡ all (end_rules e.now) }
 {
     if USEDMOST < e.used {
@@ -78,14 +78,19 @@ pub(crate) fn rules_hold(e: &End) -> bool
     is_sendable(e.operation, e.request)
 }
 
+// Whether an end breaks no rule of the profile.
+#[tactic(auto, unfolding(crate::specs::End::end_good))]
+pub(crate) fn end_good(e: &End, p: Profile) -> bool
+    ensures { EndGood p e.now result }
+{
+    rules_hold(e) && e.picture.good(p)
+}
+
 impl End {
     // Whether an end breaks no rule of the profile.
     pub fn good(self, p: Profile) -> bool
         ensures { EndGood p self result }
     {
-        if !rules_hold(&self) {
-            return false;
-        }
-        self.picture.good(p)
+        end_good(&self, p)
     }
 }

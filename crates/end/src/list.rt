@@ -1,10 +1,9 @@
 // What the end makes of a list's entries (document 01, "The customer end").
-ghost use Rattle.std.specs.Prelude.{◌≡◌, true, ◌≤◌, ◌<◌, [], ◌∷◌, get_or, eqb};
+ghost use Rattle.std.specs.Prelude.{◌≡◌, true, ◌≤◌, ◌<◌, length, take, drop, get_or, eqb};
 ghost use Rattle.lists.specs.Entries.{instances_most, entries_in};
-ghost use Rattle.instances.specs.Places.{run_most};
 ghost use Rattle.instances.specs.Run.{instances_of, packed, merged, each_good};
 ghost use Rattle.end.specs.Listed.{instance_for, instances_listed, list_good, every_of};
-ghost use Rattle.end.specs.inner.Listed.{address_held, Packed};
+ghost use Rattle.end.specs.inner.Listed.{address_held};
 
 use instances::{
     EVERYNUMBER, EVERYSERVICE, Instance, PROCEDURES, Run, Selection, fresh_run, key_of, stored,
@@ -43,33 +42,33 @@ fn instance_for(p: Profile, x: Entry) -> Instance
     }
 }
 
-// An instance is put before the first that does not come before it.
-fn insert(next: &mut Run, x: Instance)
-    requires { Packed next.old × (next.old.count < run_most) }
-    ensures { next.new ≡ packed (merged (x ∷ []) (instances_of next.old)) }
+// The first of some instances goes behind those that come before it; the others ascend.
+fn settle(instances: &mut [Instance])
+    requires { 0 < length instances.old }
+    ensures { instances.new ≡ merged (take 1 instances.old) (drop 1 instances.old) }
 {
-    let n = next.count as usize;
+    let x = instances[0];
     let key = key_of(x.procedure, x.number, x.service);
-    let at = next.run[..n]
+    let others = &instances[1..];
+    let lower = others
         .iter()
         .position(|y| key <= key_of(y.procedure, y.number, y.service))
-        .unwrap_or(n);
-    next.run[n] = x;
-    next.run[at..=n].rotate_right(1);
-    next.count += 1;
+        .unwrap_or(others.len());
+    instances[..=lower].rotate_left(1);
 }
 
-// The instances of a list, ascending. They are put in from the last entry to the first, so that of two with one key the first stays first.
+// The instances of a list, ascending. They are put in their places from the last entry to the first: a list that ascends already is
+// only copied.
 pub(crate) fn run_from(p: Profile, list: Entries) -> Run
     ensures { result ≡ packed (instances_listed p (entries_in list)) }
 {
     let mut next = fresh_run();
-    for entry in list.entries[..stored(list.count, INSTANCESMOST)]
-        .iter()
-        .rev()
-    {
-        insert(&mut next, instance_for(p, *entry));
+    let n = stored(list.count, INSTANCESMOST);
+    for i in (0..n).rev() {
+        next.run[i] = instance_for(p, list.entries[i]);
+        settle(&mut next.run[i..n]);
     }
+    next.count = n as u8;
     next
 }
 

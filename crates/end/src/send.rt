@@ -4,7 +4,7 @@ ghost use Rattle.end.specs.End.{used_most, mark_at, marked};
 ghost use Rattle.end.specs.Sending.{interrogation_of, marks_sent, sent, sends, SendsBy, Activates, Deactivates, Interrogates};
 ghost use Rattle.end.specs.inner.Sending.{WrittenBy, IdentifierLeft, end_after};
 
-use crate::end::{DOUBT, End, USEDMOST, rules_hold};
+use crate::end::{DOUBT, End, USEDMOST, end_good};
 use codes::{ACTIVATION, DEACTIVATION, INTERROGATION};
 use instances::PROCEDURES;
 use numbers::blank_number;
@@ -91,10 +91,7 @@ fn send(e: &End, access: &[u8], operation: u8, r: Request, out: &mut [u8]) -> Re
     let Some(p) = read_access(access) else {
         return Err(Refusal::BadProfile);
     };
-    if !rules_hold(e) {
-        return Err(Refusal::BadTable);
-    }
-    if !e.picture.good(p) {
+    if !end_good(e, p) {
         return Err(Refusal::BadTable);
     }
     if e.outstanding == 1 {

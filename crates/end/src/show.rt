@@ -1,7 +1,7 @@
 // What the subscriber's page reads (document 01, "The customer end").
 ghost use Rattle.end.specs.Shown.{Shows, ShowsEntry};
 
-use crate::end::{End, KNOWN};
+use crate::end::{End, KNOWN, end_good};
 use crate::list::every_of;
 use crate::send::mark_at;
 use instances::PROCEDURES;
@@ -32,7 +32,7 @@ impl End {
         let Some(p) = read_access(access) else {
             return Err(Refusal::BadProfile);
         };
-        if !self.good(p) {
+        if !end_good(&self, p) {
             return Err(Refusal::BadTable);
         }
         if PROCEDURES <= procedure as usize {

@@ -7,7 +7,7 @@ ghost use Rattle.end.specs.inner.Refused.{move_refused};
 ghost use Rattle.instances.specs.Run.{instances_of};
 ghost use Rattle.rules.specs.Judge.{judge};
 
-use crate::end::{DOUBT, End, KNOWN};
+use crate::end::{DOUBT, End, KNOWN, end_good};
 use crate::list::{list_good, run_from};
 use crate::picture::replaced_by;
 use crate::send::marked;
@@ -116,7 +116,7 @@ impl End {
         let Some(p) = read_access(access) else {
             return refuses(self, Refusal::BadProfile);
         };
-        if !self.good(p) {
+        if !end_good(&self, p) {
             return refuses(self, Refusal::BadTable);
         }
         if self.outstanding != 1 {

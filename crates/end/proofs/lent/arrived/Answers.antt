@@ -1,13 +1,11 @@
 use Rattle.std.proofs.Common.{arith, ◌≡◌, ◌≤◌, true, length, refl, sym, ap, ◌∙◌}
 use borrow.Author.Tests.{not-true, not-false}
-use Rattle.laws.specs.Tests.{all}
 use Rattle.refusals.specs.Refusal.{component_most}
 use Rattle.refusals.specs.declared.refusal.Refusal.TheVariants.{LongComponent, BadProfile, BadTable}
 use Rattle.profile.specs.Access.{access_read}
 use Rattle.profile.proofs.Records.{read_some, read_none}
 use Rattle.lists.specs.Entries.{instances_most}
-use Rattle.end.specs.End.{end_rules, end_good}
-use Rattle.end.proofs.Ends.{rules_fail, rules_pass, used_most_lem}
+use Rattle.end.proofs.Ends.{used_most_lem}
 use Rattle.end.proofs.Movings.{takes_long, takes_profile, takes_end, takes_all, refused_moves, all_moves}
 use Rattle.end.proofs.lent.arrived.Goals as goal
 
@@ -21,33 +19,19 @@ returns-in_default c =
     let bad = read_none _ _ c.read_access.ensures c.in_default.is in
     refused_moves _ c.args.end.now BadProfile _ (takes_profile _ _ _ fair bad) refl
 
-pub returns-then-not-rules_hold : goal.returns-then-not-rules_hold
-returns-then-not-rules_hold c =
+pub returns-then-not-end_good : goal.returns-then-not-end_good
+returns-then-not-end_good c =
     let fair : length c.args.component.now ≤ component_most = omega (arith, c.if-component-gt-COMPONENTMOST.false) in
     let ok : (access_read c.args.access.now).ok ≡ true = (read_some _ _ _ c.read_access.ensures c.in-Some.is).0 in
-    let bad = rules_fail instances_most _ _ (sym c.rules_hold.ensures ∙ c.if-not-rules_hold.true) in
+    let bad = rw (← (read_some _ _ _ c.read_access.ensures c.in-Some.is).1) at (sym c.end_good.ensures ∙ c.if-not-end_good.true) in
     refused_moves _ c.args.end.now BadTable _ (takes_end _ _ _ fair ok bad) refl
 
-pub returns-then-not-good : goal.returns-then-not-good
-returns-then-not-good c =
-    let fair : length c.args.component.now ≤ component_most = omega (arith, c.if-component-gt-COMPONENTMOST.false) in
-    let ok : (access_read c.args.access.now).ok ≡ true = (read_some _ _ _ c.read_access.ensures c.in-Some.is).0 in
-    let rules : all (end_rules c.args.end.now) ≡ true = sym c.rules_hold.ensures ∙ c.if-not-rules_hold.false in
-    let bad = rw (← (read_some _ _ _ c.read_access.ensures c.in-Some.is).1) at (sym c.good.ensures ∙ c.if-not-good.true) in
-    refused_moves _ c.args.end.now BadTable _ (takes_end _ _ _ fair ok (rules_pass instances_most _ _ rules ∙ bad)) refl
-
 pub took-requires : goal.took-requires
-took-requires c =
-    let rules : all (end_rules c.args.end.now) ≡ true = sym c.rules_hold.ensures ∙ c.if-not-rules_hold.false in
-    let good : end_good instances_most (access_read c.args.access.now).profile c.args.end.now ≡ true =
-    rules_pass instances_most _ _ rules ∙ rw (← (read_some _ _ _ c.read_access.ensures c.in-Some.is).1) at (sym c.good.ensures ∙ c.if-not-good.false) in
-    used_most_lem instances_most _ _ good
+took-requires c = used_most_lem instances_most _ _ (sym c.end_good.ensures ∙ c.if-not-end_good.false)
 
 pub returns : goal.returns
 returns c =
     let fair : length c.args.component.now ≤ component_most = omega (arith, c.if-component-gt-COMPONENTMOST.false) in
     let ok : (access_read c.args.access.now).ok ≡ true = (read_some _ _ _ c.read_access.ensures c.in-Some.is).0 in
-    let rules : all (end_rules c.args.end.now) ≡ true = sym c.rules_hold.ensures ∙ c.if-not-rules_hold.false in
-    let good : end_good instances_most (access_read c.args.access.now).profile c.args.end.now ≡ true =
-    rules_pass instances_most _ _ rules ∙ rw (← (read_some _ _ _ c.read_access.ensures c.in-Some.is).1) at (sym c.good.ensures ∙ c.if-not-good.false) in
+    let good = rw (← (read_some _ _ _ c.read_access.ensures c.in-Some.is).1) at (sym c.end_good.ensures ∙ c.if-not-end_good.false) in
     all_moves _ _ _ (takes_all _ _ _ fair ok good) (rw (← (read_some _ _ _ c.read_access.ensures c.in-Some.is).1) at c.took.ensures)

@@ -1,8 +1,8 @@
-use Rattle.std.specs.Iterator.Adapters.{rev_source}
-use Rattle.std.specs.Slice.Iter.{iter_rest}
-use Rattle.end.proofs.Sorted.{Listing}
+use Prim.Native.Nat.{min}
+use mathlib.Core.Path.{◌≡◌}
+use Rattle.lists.specs.Entries.{instances_most}
+use Rattle.end.proofs.Sorted.{array_from}
 use Rattle.end.proofs.list.run_from.Given as goal
 
-abbrev pub invariant-loop-entry : goal.invariant-loop-entry
-invariant-loop-entry l =
-    Listing l.p (iter_rest (rev_source l.initial.entry-iterator)) (iter_rest (rev_source l.entry-iterator)) l.next
+abbrev pub invariant-loop-i : goal.invariant-loop-i
+invariant-loop-i l = (l.n ≡ min l.list.count instances_most) × (l.next.run ≡ array_from l.p l.list l.n l.i)

@@ -14,14 +14,14 @@ returns-in_default c =
     (read_none _ _ c.read_access.ensures c.in_default.is))
     c.refuses.ensures
 
-pub returns-then-not-good : goal.returns-then-not-good
-returns-then-not-good c =
+pub returns-then-not-end_good : goal.returns-then-not-end_good
+returns-then-not-end_good c =
     let a = c.args in
     refused_moves (gives_up a.access.now a.self) a.self BadTable _
     (gives_end a.access.now a.self
     ((read_some _ _ _ c.read_access.ensures c.in-Some.is).0)
     (rw (← (read_some _ _ _ c.read_access.ensures c.in-Some.is).1) at
-    (sym c.good.ensures ∙ c.if-not-good.true))) c.refuses-then-not-good.ensures
+    (sym c.end_good.ensures ∙ c.if-not-end_good.true))) c.refuses-then-not-end_good.ensures
 
 pub returns-then-self-ne1 : goal.returns-then-self-ne1
 returns-then-self-ne1 c =
@@ -30,7 +30,7 @@ returns-then-self-ne1 c =
     (gives_all a.access.now a.self
     ((read_some _ _ _ c.read_access.ensures c.in-Some.is).0)
     (rw (← (read_some _ _ _ c.read_access.ensures c.in-Some.is).1) at
-    (sym c.good.ensures ∙ c.if-not-good.false)))
+    (sym c.end_good.ensures ∙ c.if-not-end_good.false)))
     (sym (gave_nothing a.self c.if-self-ne1.true))
 
 pub returns : goal.returns
@@ -40,5 +40,5 @@ returns c =
     (gives_all a.access.now a.self
     ((read_some _ _ _ c.read_access.ensures c.in-Some.is).0)
     (rw (← (read_some _ _ _ c.read_access.ensures c.in-Some.is).1) at
-    (sym c.good.ensures ∙ c.if-not-good.false)))
+    (sym c.end_good.ensures ∙ c.if-not-end_good.false)))
     (c.doubted.ensures ∙ sym (gave_doubt a.self c.if-self-ne1.false))

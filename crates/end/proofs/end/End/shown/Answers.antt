@@ -15,13 +15,13 @@ returns-in_default c =
     sym (shown_profile a.access.now a.self a.procedure
     (read_none _ _ c.read_access.ensures c.in_default.is))
 
-pub returns-then-not-good : goal.returns-then-not-good
-returns-then-not-good c =
+pub returns-then-not-end_good : goal.returns-then-not-end_good
+returns-then-not-end_good c =
     let a = c.args in
     sym (shown_end a.access.now a.self a.procedure
     ((read_some _ _ _ c.read_access.ensures c.in-Some.is).0)
     (rw (← (read_some _ _ _ c.read_access.ensures c.in-Some.is).1) at
-    (sym c.good.ensures ∙ c.if-not-good.true)))
+    (sym c.end_good.ensures ∙ c.if-not-end_good.true)))
 
 pub returns-then-procedure-ge-PROCEDURES : goal.returns-then-procedure-ge-PROCEDURES
 returns-then-procedure-ge-PROCEDURES c =
@@ -29,7 +29,7 @@ returns-then-procedure-ge-PROCEDURES c =
     sym (shown_none a.access.now a.self a.procedure
     ((read_some _ _ _ c.read_access.ensures c.in-Some.is).0)
     (rw (← (read_some _ _ _ c.read_access.ensures c.in-Some.is).1) at
-    (sym c.good.ensures ∙ c.if-not-good.false)) (omega (arith, c.if-procedure-ge-PROCEDURES.true)))
+    (sym c.end_good.ensures ∙ c.if-not-end_good.false)) (omega (arith, c.if-procedure-ge-PROCEDURES.true)))
 
 pub returns-then-mark_at-ne-KNOWN : goal.returns-then-mark_at-ne-KNOWN
 returns-then-mark_at-ne-KNOWN c =
@@ -37,7 +37,7 @@ returns-then-mark_at-ne-KNOWN c =
     sym (shown_doubt a.access.now a.self a.procedure
     ((read_some _ _ _ c.read_access.ensures c.in-Some.is).0)
     (rw (← (read_some _ _ _ c.read_access.ensures c.in-Some.is).1) at
-    (sym c.good.ensures ∙ c.if-not-good.false))
+    (sym c.end_good.ensures ∙ c.if-not-end_good.false))
     (omega (arith, c.if-procedure-ge-PROCEDURES.false)) (λ h. c.if-mark_at-ne-KNOWN.true (c.mark_at.ensures ∙ h)))
 
 pub returns : goal.returns
@@ -48,7 +48,7 @@ returns c =
     ∙ sym (shown_known a.access.now a.self a.procedure
     ((read_some _ _ _ c.read_access.ensures c.in-Some.is).0)
     (rw (← (read_some _ _ _ c.read_access.ensures c.in-Some.is).1) at
-    (sym c.good.ensures
-    ∙ c.if-not-good.false))
+    (sym c.end_good.ensures
+    ∙ c.if-not-end_good.false))
     (omega (arith, c.if-procedure-ge-PROCEDURES.false))
     (sym c.mark_at.ensures ∙ c.if-mark_at-ne-KNOWN.false))
