@@ -1,5 +1,5 @@
 -- Instances that ascend, met one by one: those of a procedure stand together, and are counted by their places. Assumes nothing.
-use Prim.Native.Nat.{ℕ, zero, suc, ◌+◌, ◌-◌, ◌<◌, ◌≤◌}
+use Prim.Native.Nat.{ℕ, ◌+◌, ◌-◌, ◌<◌, ◌≤◌}
 use mathlib.Core.Logic.{⊎_elim}
 use mathlib.Core.Path.{◌≡◌, refl, sym, ap, ◌∙◌}
 use mathlib.Core.Bool.{false}
@@ -17,7 +17,7 @@ use Rattle.instances.specs.Run.{is_of, count_of, few_of_each}
 use Rattle.instances.specs.declared.instance.Instance.{Instance}
 use Rattle.instances.proofs.Keys.{Small, key_first, key_least}
 use Rattle.instances.proofs.Counts.{count_this, count_other}
-use Rattle.instances.proofs.Goods.{Few, few_of, few_is}
+use Rattle.instances.proofs.Goods.{few_of, few_is, few_at}
 
 -- `i` instances of the whole were met and the others are left. The last one met has the procedure before `beyond` and the key
 -- `below`; the first one of its procedure stands at `from`. Its procedure is subscribed; of earlier ones few were met, of later
@@ -30,13 +30,6 @@ pub record Blocks (subscribed : List ℕ) (whole left : List Instance) (beyond f
   pub past : (q : ℕ) → q + 1 < beyond → count_of q whole ≤ count_of q left + instances_most
   pub here : (q : ℕ) → q + 1 ≡ beyond → count_of q whole + from ≡ count_of q left + i
   pub later : (q : ℕ) → beyond ≤ q → count_of q whole ≡ count_of q left
-
--- where there are few of each procedure, there are few of any one
-few_at : (most : ℕ) (l : List Instance) → Few most l → (q : ℕ) → q < 3 → count_of q l ≤ most
-few_at most l h zero k = h.0
-few_at most l h (suc zero) k = h.1
-few_at most l h (suc (suc zero)) k = h.2
-few_at most l h (suc (suc (suc q))) k = absurd (omega arith)
 
 -- before the first
 pub blocks_first : (subscribed : List ℕ) (whole : List Instance) → Blocks subscribed whole whole 0 0 0 0

@@ -1,7 +1,9 @@
 -- Which instances a selection chooses, which one stands at a place, and codes among others. Assumes nothing.
-use Prim.Native.Nat.{ℕ, zero, suc, ◌<◌}
+use Rattle.std.specs.List.{list_any, count_by}
+use Rattle.std.proofs.lemmas.List.Recursion.{is_count_by}
+use Prim.Native.Nat.{ℕ, zero, suc, ◌+◌, ◌<◌}
 use mathlib.Core.Path.{◌≡◌, refl, sym, ap, ◌∙◌}
-use mathlib.Core.Bool.{Bool, true, false, not, false≢true}
+use mathlib.Core.Bool.{Bool, true, false, not, cond, false≢true}
 use mathlib.Core.List.{List, [], ◌∷◌}
 use mathlib.Core.Option.{none, some}
 use native.Mathlib.Omega.{arith}
@@ -9,6 +11,8 @@ use lib.ListN.{length, get_or}
 use lib.Dec.{eqb}
 use borrow.Author.Tests.{eq-eqb, ne_eqb, eqb-true, eqb-false}
 use Rattle.laws.specs.Pick.{pick}
+use Rattle.laws.specs.Those.{those}
+use Rattle.laws.proofs.Thoses.{those_take, those_skip, those_none}
 use Rattle.laws.proofs.Picks.{pick_then, pick_last, by_bool, not_passed}
 use Rattle.codes.specs.Codes.{place_of}
 use Rattle.codes.proofs.Tables.{place_first, place_stands}
@@ -78,6 +82,15 @@ module _ (code : ℕ) (l : List ℕ) where
   unfolding among
   among_none e = rw e
 
+-- a slice that contains it says the same
+pub among_any : (code : ℕ) (l : List ℕ) → list_any (λ x. eqb x code) l ≡ among code l
+unfolding among
+among_any code [] = refl
+among_any code (x ∷ l) =
+    by_bool (list_any (λ y. eqb y code) (x ∷ l) ≡ among code (x ∷ l)) (eqb x code)
+    (λ h. rw h)
+    (λ h. rw (h, pick_last (among code l)) (among_any code l))
+
 -- what stands at a place is among them
 stands_among : (code : ℕ) (codes : List ℕ) (k : ℕ) → k < length codes → get_or codes k 0 ≡ code → among code codes ≡ true
 stands_among code [] k h e = absurd (omega arith)
@@ -100,6 +113,17 @@ among_place code (x ∷ codes) h =
     (λ t.
     let later = among_place code codes (sym (among_on code (x ∷ codes) x codes refl (eqb-false x code t)) ∙ h) in
     omega (arith, later, place_first code (x ∷ codes) (suc (place_of code codes)) (omega arith) (place_stands code codes later)))
+
+-- ---- how many pass a test, as an iterator counts them
+
+pub those_count : {A : Type 0} (f : A → Bool) (l : List A) → length (those f l) ≡ count_by f l
+those_count {A = A} f l =
+    is_count_by (λ (xs : List A). length (those f xs)) f (ap length (those_none f [] refl))
+    (λ x xs.
+    by_bool (length (those f (x ∷ xs)) ≡ cond (f x) (1 + length (those f xs)) (length (those f xs))) (f x)
+    (λ h. rw (those_take f (x ∷ xs) xs x refl h, h) (omega arith))
+    (λ h. rw (those_skip f (x ∷ xs) xs x refl h, h)))
+    l
 
 -- ---- the instance of a procedure, number and service
 

@@ -5,10 +5,9 @@ use mathlib.Core.Bool.{true, false}
 use mathlib.Core.List.{List, [], ◌∷◌, map}
 use native.Mathlib.Omega.{arith}
 use lib.ListN.{length}
-use lib.Dec.{ltb, leb, eqb}
+use lib.Dec.{ltb, eqb}
 use borrow.Author.Tests.{eq-eqb, ne_eqb}
 use Rattle.laws.specs.Pick.{pick}
-use Rattle.laws.specs.Tests.{all}
 use Rattle.laws.proofs.Picks.{pick_ind, by_bool}
 use Rattle.laws.proofs.Thoses.{those_take, those_skip, those_none}
 use Rattle.laws.proofs.Eaches.{Each}
@@ -16,7 +15,7 @@ use Rattle.numbers.specs.declared.address.Address.{Address}
 use Rattle.profile.specs.declared.profile.Profile.{Profile}
 use Rattle.instances.specs.Instance.{key_of, chosen, spared}
 use Rattle.instances.specs.Places.{places_of}
-use Rattle.instances.specs.Run.{deactivated, instance_at, merged, activated, is_of, count_of, few_of_each}
+use Rattle.instances.specs.Run.{deactivated, instance_at, merged, activated, is_of, count_of}
 use Rattle.instances.specs.declared.instance.Instance.{Instance}
 use Rattle.instances.specs.declared.instance.Selection.{Selection}
 use Rattle.instances.specs.declared.places.Place.{Place}
@@ -30,64 +29,6 @@ module _ (q : ℕ) (l m : List Instance) (x : Instance) (e : l ≡ x ∷ m) wher
 
   pub count_other : (x.procedure ≡ q → ⊥) → count_of q l ≡ count_of q m
   count_other h = ap length (those_skip (is_of q) l m x e (ne_eqb x.procedure q h))
-
--- ---- counted one by one: what is still to come, and what was counted of each procedure
-
-pub record Tallied (whole left : List Instance) (a b c : ℕ) : Type 0 where
-  pub cfu : a + count_of 0 left ≡ count_of 0 whole
-  pub cfb : b + count_of 1 left ≡ count_of 1 whole
-  pub cfnr : c + count_of 2 left ≡ count_of 2 whole
-
-module _ (whole l m : List Instance) (x : Instance) (a b c : ℕ) (e : l ≡ x ∷ m) (so : Tallied whole l a b c) where
-  at0 : (x.procedure ≡ 0 → ⊥) → count_of 0 l ≡ count_of 0 m
-  at0 = count_other 0 l m x e
-
-  at1 : (x.procedure ≡ 1 → ⊥) → count_of 1 l ≡ count_of 1 m
-  at1 = count_other 1 l m x e
-
-  at2 : (x.procedure ≡ 2 → ⊥) → count_of 2 l ≡ count_of 2 m
-  at2 = count_other 2 l m x e
-
-  pub tally_first : x.procedure ≡ 0 → Tallied whole m (a + 1) b c
-  tally_first h = record {
-    cfu = omega (arith, so.cfu, count_this 0 l m x e h);
-    cfb = omega (arith, so.cfb, at1 (λ q. omega arith));
-    cfnr = omega (arith, so.cfnr, at2 (λ q. omega arith));
-  }
-
-  pub tally_second : x.procedure ≡ 1 → Tallied whole m a (b + 1) c
-  tally_second h = record {
-    cfu = omega (arith, so.cfu, at0 (λ q. omega arith));
-    cfb = omega (arith, so.cfb, count_this 1 l m x e h);
-    cfnr = omega (arith, so.cfnr, at2 (λ q. omega arith));
-  }
-
-  pub tally_third : x.procedure ≡ 2 → Tallied whole m a b (c + 1)
-  tally_third h = record {
-    cfu = omega (arith, so.cfu, at0 (λ q. omega arith));
-    cfb = omega (arith, so.cfb, at1 (λ q. omega arith));
-    cfnr = omega (arith, so.cfnr, count_this 2 l m x e h);
-  }
-
-  -- of no procedure
-  pub tally_none : (x.procedure ≡ 0 → ⊥) → (x.procedure ≡ 1 → ⊥) → (x.procedure ≡ 2 → ⊥) → Tallied whole m a b c
-  tally_none f g h = record {
-    cfu = omega (arith, so.cfu, at0 f);
-    cfb = omega (arith, so.cfb, at1 g);
-    cfnr = omega (arith, so.cfnr, at2 h);
-  }
-
--- at the end
-pub tallied :
-    (whole left : List Instance) (a b c most : ℕ) → left ≡ [] → Tallied whole left a b c →
-    all (leb a most ∷ leb b most ∷ leb c most ∷ []) ≡ few_of_each most whole
-unfolding few_of_each
-tallied whole left a b c most e so =
-    let none : (q : ℕ) → count_of q left ≡ 0 = λ q. ap length (those_none (is_of q) left e) in
-    let same0 : count_of 0 whole ≡ a = omega (arith, so.cfu, none 0) in
-    let same1 : count_of 1 whole ≡ b = omega (arith, so.cfb, none 1) in
-    let same2 : count_of 2 whole ≡ c = omega (arith, so.cfnr, none 2) in
-    rw (same0, same1, same2)
 
 -- ---- of a deactivation, met one by one
 

@@ -102,6 +102,13 @@ pub few_is : (most : ℕ) (l : List Instance) → Few most l → few_of_each mos
 unfolding few_of_each
 few_is most l h = rw (le-leb (count_of 0 l) most h.0, le-leb (count_of 1 l) most h.1, le-leb (count_of 2 l) most h.2)
 
+-- then there are few of any one
+pub few_at : (most : ℕ) (l : List Instance) → Few most l → (q : ℕ) → q < 3 → count_of q l ≤ most
+few_at most l h zero k = h.0
+few_at most l h (suc zero) k = h.1
+few_at most l h (suc (suc zero)) k = h.2
+few_at most l h (suc (suc (suc q))) k = absurd (omega arith)
+
 -- ---- good runs
 
 pub record GoodList (p : Profile) (most : ℕ) (l : List Instance) : Type 0 where
@@ -241,8 +248,8 @@ module _ (p : Profile) (profile : GoodProfile p) (sel : Selection) (address : Ad
           each_so (λ x. (instance_good p x ≡ true) × (spared sel x ≡ true)) _ (λ x h. (small_good x h.0, h.1))
           (deactivated sel l) (each_those (λ x. instance_good p x ≡ true) (spared sel) l so.each)
 
-      few_at : (q : ℕ) → count_of q l ≤ most → count_of q (activated p sel address l) ≤ most
-      few_at q h =
+      still_few : (q : ℕ) → count_of q l ≤ most → count_of q (activated p sel address l) ≤ most
+      still_few q h =
           let sum = count_merged q (map here ws) (deactivated sel l) in
           by_bool (count_of q (activated p sel address l) ≤ most) (eqb sel.procedure q)
           (λ e. rw (sym (eqb-true sel.procedure q e)) within)
@@ -255,5 +262,5 @@ module _ (p : Profile) (profile : GoodProfile p) (sel : Selection) (address : Ad
             ascends = up_merged (λ x. Small x × (chosen sel x ≡ true)) (λ y. Small y × (spared sel y ≡ true)) (key_apart sel) 0
                 (map here ws) (deactivated sel l) made_small kept_small made_up kept.ascends;
             each = each_merged (λ x. instance_good p x ≡ true) (map here ws) (deactivated sel l) made_good kept.each;
-            few = (few_at 0 so.few.0, few_at 1 so.few.1, few_at 2 so.few.2);
+            few = (still_few 0 so.few.0, still_few 1 so.few.1, still_few 2 so.few.2);
           }

@@ -1,6 +1,7 @@
 pub mod Runs
 pub mod Choices
 pub mod Counts
+mod Tallies
 pub mod Orders
 pub mod Placings
 pub mod Merged
@@ -8,6 +9,7 @@ pub mod Puts
 pub mod Renewals
 pub mod Fits
 pub mod Keys
+mod KeyOrders
 pub mod Goods
 pub mod Blocks
 pub mod Finds

@@ -1,5 +1,5 @@
 -- What an interrogation lists of good instances: no more than the limit, and entries that break no rule. Assumes nothing.
-use Prim.Native.Nat.{ℕ, zero, suc, ◌≤◌, ◌<◌}
+use Prim.Native.Nat.{ℕ, ◌≤◌, ◌<◌}
 use mathlib.Core.Path.{◌≡◌, refl, ap}
 use mathlib.Core.Bool.{true}
 use mathlib.Core.List.{List, [], ◌∷◌, map}
@@ -24,7 +24,7 @@ use Rattle.instances.specs.declared.instance.Selection.{Selection}
 use Rattle.instances.proofs.Choices.{chosen_is, concerns_is}
 use Rattle.instances.proofs.Counts.{count_this, count_cons}
 use Rattle.instances.proofs.Fits.{fits_of}
-use Rattle.instances.proofs.Goods.{Few, GoodList}
+use Rattle.instances.proofs.Goods.{few_at, GoodList}
 
 -- ---- how many
 
@@ -42,12 +42,6 @@ listed_few sel (x ∷ l) =
     ))
     (λ h. omega (arith, listed_few sel l, ap length (those_skip (chosen sel) (x ∷ l) l x refl h), count_cons q x l))
 
-few_at : (most q : ℕ) (l : List Instance) → q < 3 → Few most l → count_of q l ≤ most
-few_at most zero l h few = few.0
-few_at most (suc zero) l h few = few.1
-few_at most (suc (suc zero)) l h few = few.2
-few_at most (suc (suc (suc q))) l h few = absurd (omega arith)
-
 module _ (p : Profile) (sel : Selection) (most : ℕ) (l : List Instance) (so : GoodList p most l) where
   -- "at most 8 for each procedure"
   pub listed_most : sel.procedure < 3 → length (map (entry_for p.numbers) (listed sel l)) ≤ most
@@ -56,7 +50,7 @@ module _ (p : Profile) (sel : Selection) (most : ℕ) (l : List Instance) (so : 
         arith,
         length-map (listed sel l) (entry_for p.numbers),
         listed_few sel l,
-        few_at most sel.procedure l three so.few,
+        few_at most l so.few sel.procedure three,
       )
 
 -- ---- entries

@@ -1,5 +1,5 @@
--- The places of the numbers and services that a selection names, met one by one: these are the selected ones, their record, and how many
--- they are. Assumes nothing.
+-- The places of the numbers and services that a selection names, met one by one: these are the selected ones, and how many they are.
+-- Assumes nothing.
 use Prim.Native.Nat.{ℕ, zero, suc, min, ◌+◌, ◌-◌, ◌*◌, ◌<◌, ◌≤◌}
 use mathlib.Core.Path.{◌≡◌, refl, sym, ◌∙◌}
 use mathlib.Core.Bool.{true, false}
@@ -7,25 +7,20 @@ use mathlib.Core.List.{List, [], ◌∷◌, ◌++◌, map}
 use native.Mathlib.Numerals.{add-one}
 use native.Mathlib.Omega.{arith}
 use lib.Dec.{ltb, eqb}
-use lib.ListN.{length, take, drop, get_or, replicate, length-append, length-take, length-map, get_or-map}
-use lib.Seq.{drop-length, drop-cons, take-append_seam}
+use lib.ListN.{length, drop, get_or, length-append, length-take, length-map, get_or-map}
+use lib.Seq.{drop-length, drop-cons}
 use borrow.Author.Tests.{eqb-true, eqb-false, eq-eqb, ne_eqb, ltb-true, ltb-false}
 use Rattle.laws.specs.Pick.{pick}
 use Rattle.laws.specs.Those.{those}
 use Rattle.laws.proofs.Picks.{by_bool, pick_last}
 use Rattle.laws.proofs.Thoses.{those_take, those_skip, those_none}
-use Rattle.laws.proofs.Lefts.{left_none}
-use Rattle.laws.proofs.Filled.{Full}
-use Rattle.profile.specs.Profile.{services_most, subscribed_services}
+use Rattle.profile.specs.Profile.{subscribed_services}
 use Rattle.profile.specs.declared.profile.Profile.{Profile}
 use Rattle.instances.specs.Instance.{every_number, every_service, named, selected}
-use Rattle.instances.specs.Places.{run_most, place_for, places_from, picks, places_of}
-use Rattle.instances.specs.inner.Places.{no_place, placed, places_in, noted, numbers_named, services_named, places_named}
+use Rattle.instances.specs.Places.{place_for, places_from, picks, places_of}
+use Rattle.instances.specs.inner.Places.{numbers_named, services_named, places_named}
 use Rattle.instances.specs.declared.instance.Selection.{Selection}
-use Rattle.instances.specs.declared.places.Named.{Named}
 use Rattle.instances.specs.declared.places.Place.{Place}
-use Rattle.instances.specs.declared.places.Places.{Places}
-use Rattle.instances.proofs.Runs.{step}
 use Rattle.instances.proofs.Choices.{named_every, named_one}
 
 places_more :
@@ -164,33 +159,6 @@ pub places_are :
 unfolding places_of
 places_are p sel numbers e =
     rw (length-take p.numbercount p.numbers, ← e) (sym (places_named_lem sel (subscribed_services p) numbers 0))
-
--- ---- the record of services, and of places
-
-pub noted_done :
-    (services : List ℕ) (k : ℕ) (array : List ℕ) → Full services_most 0 services k array →
-    ◌≡◌ {A = Named} record { count = k; services = array } (noted services)
-noted_done services k array so = rw (so.1, so.0)
-
-pub placed_done :
-    (ws : List Place) (k : ℕ) (array : List Place) → Full run_most no_place ws k array →
-    ◌≡◌ {A = Places} record { count = k; places = array } (placed ws)
-placed_done ws k array so = rw (so.1, so.0)
-
-pub noted_back : (r : Named) (services : List ℕ) → r ≡ noted services → take r.count r.services ≡ services
-noted_back r services e = rw e (take-append_seam services (replicate (services_most - length services) 0))
-
--- ---- the places that the record counts
-
-module _ (w : Places) (many m : ℕ) (few : many ≡ min w.count run_most) (long : length w.places ≡ run_most) where
-  pub next_place : m < many → drop m (places_in w) ≡ get_or w.places m no_place ∷ drop (m + 1) (places_in w)
-  next_place h = step w.count w.places m no_place (omega arith) (omega arith)
-
-  pub no_place_lem : many ≤ m → drop m (places_in w) ≡ []
-  no_place_lem h = left_none w.count w.places m (omega (arith, few, long))
-
-pub placed_back : (w : Places) (ws : List Place) → w ≡ placed ws → places_in w ≡ ws
-placed_back w ws e = rw e (take-append_seam ws (replicate (run_most - length ws) no_place))
 
 -- ---- how many are selected: each number that is named has each service that is
 

@@ -12,16 +12,13 @@ use Rattle.numbers.specs.declared.address.Address.{Address}
 use Rattle.profile.specs.declared.profile.Profile.{Profile}
 use Rattle.instances.specs.Instance.{blank_instance, key_of, chosen, spared}
 use Rattle.instances.specs.Places.{run_most, places_of}
-use Rattle.instances.specs.inner.Places.{placed, places_in}
 use Rattle.instances.specs.Run.{instances_of, packed, deactivated, instance_at, merged, activated_at, activated}
 use Rattle.instances.specs.declared.instance.Instance.{Instance}
 use Rattle.instances.specs.declared.instance.Selection.{Selection}
 use Rattle.instances.specs.declared.places.Place.{Place}
-use Rattle.instances.specs.declared.places.Places.{Places}
 use Rattle.instances.specs.declared.run.Run.{Run}
 use Rattle.instances.proofs.Runs.{packed_done, packed_full}
 use Rattle.instances.proofs.Choices.{kept_test, gone_test}
-use Rattle.instances.proofs.Placings.{placed_back}
 use Rattle.instances.proofs.Merged.{merged_nil, merge_rest, merge_lower, merge_last, merge_higher}
 
 module _ (sel : Selection) (address : Address) (ws : List Place) (is : List Instance) where
@@ -63,13 +60,13 @@ module _ (sel : Selection) (address : Address) (ws : List Place) (is : List Inst
 
 -- either all has found room, or there is none left
 pub put_answer :
-    (p : Profile) (sel : Selection) (address : Address) (run : Run) (w : Places) (k : ℕ) (array : List Instance) →
-    w ≡ placed (places_of p sel) →
-    (Full run_most blank_instance (activated_at sel address (places_in w) (instances_of run)) k array) ⊎
-    (Full run_most blank_instance (take run_most (activated_at sel address (places_in w) (instances_of run))) k array) →
+    (p : Profile) (sel : Selection) (address : Address) (run : Run) (ws : List Place) (is : List Instance) (k : ℕ)
+    (array : List Instance) →
+    ws ≡ places_of p sel → is ≡ instances_of run →
+    (Full run_most blank_instance (activated_at sel address ws is) k array) ⊎
+    (Full run_most blank_instance (take run_most (activated_at sel address ws is)) k array) →
     ◌≡◌ {A = Run} record { count = k; run = array } (packed (activated p sel address (instances_of run)))
-put_answer p sel address run w k array e so =
-    let whole = activated_at sel address (places_in w) (instances_of run) in
-    let same : whole ≡ activated p sel address (instances_of run) =
-    ap (λ ws. activated_at sel address ws (instances_of run)) (placed_back w (places_of p sel) e) in
+put_answer p sel address run ws is k array places held so =
+    let whole = activated_at sel address ws is in
+    let same : whole ≡ activated p sel address (instances_of run) = rw (places, held) in
     ⊎_elim (λ full. packed_done whole k array full ∙ ap packed same) (λ full. packed_full whole k array full ∙ ap packed same) so

@@ -4,15 +4,24 @@ use mathlib.Core.Path.{◌≡◌}
 use mathlib.Core.List.{List, [], ◌∷◌}
 use native.Mathlib.Numerals.{add-one}
 use native.Mathlib.Omega.{arith}
-use lib.ListN.{length, take, drop, get_or, replicate}
-use lib.Seq.{take_all, take-append_seam}
+use lib.ListN.{length, take, drop, get_or, replicate, drop_of_length-le}
+use lib.Seq.{take_all, take-append_seam, drop-cons}
 use Rattle.laws.proofs.Lefts.{left_cons, left_none}
-use Rattle.laws.proofs.Filled.{Full}
+use Rattle.laws.proofs.Filled.{Full, take_min}
 use Rattle.instances.specs.Instance.{instance_of, blank_instance}
 use Rattle.instances.specs.Places.{run_most}
 use Rattle.instances.specs.Run.{instances_of, packed}
 use Rattle.instances.specs.declared.instance.Instance.{Instance}
 use Rattle.instances.specs.declared.run.Run.{Run}
+
+-- ---- the things of a slice, met one by one
+
+module _ {A : Type 0} (l : List A) (i : ℕ) where
+  pub next_of : (d : A) → i < length l → drop i l ≡ get_or l i d ∷ drop (i + 1) l
+  next_of d h = rw add-one (drop-cons l i d h)
+
+  pub none_of : length l ≤ i → drop i l ≡ []
+  none_of h = drop_of_length-le l h
 
 -- ---- things that are counted
 
@@ -20,6 +29,11 @@ pub step :
     {A : Type 0} (count : ℕ) (l : List A) (i : ℕ) (d : A) → i < count → i < length l →
     drop i (take count l) ≡ get_or l i d ∷ drop (i + 1) (take count l)
 step count l i d h long = rw add-one (left_cons count l i d h long)
+
+-- as many as the code takes of an array: those that are counted
+pub stored_is :
+    {A : Type 0} (n count size : ℕ) (l : List A) → n ≡ min count size → length l ≡ size → take n l ≡ take count l
+stored_is n count size l h long = rw (h, ← long) (take_min count l)
 
 -- what the machine reads past an array
 abbrev pub outside : Instance

@@ -6,6 +6,7 @@ use Rattle.numbers.specs.declared.address.Address.{Address}
 use Rattle.profile.specs.Profile.{subscribed_services}
 use Rattle.profile.specs.declared.profile.Profile.{Profile}
 use Rattle.instances.specs.declared.instance.Instance.{Instance}
+use Rattle.instances.specs.declared.instance.Key.{Key}
 use Rattle.instances.specs.declared.instance.Selection.{Selection}
 
 -- "An instance is (procedure, served number, basic service, forwarded-to address)": the number by its place in the profile
@@ -31,6 +32,13 @@ key procedure number service = (procedure * 256 + number) * 256 + service
 
 abbrev pub key_of : Instance → ℕ
 key_of x = key x.procedure x.number x.service
+
+-- the three of an instance as a record of their own, and the number of such a record
+abbrev pub key_for : Instance → Key
+key_for x = record { procedure = x.procedure; number = x.number; service = x.service }
+
+abbrev pub key_at : Key → ℕ
+key_at k = key k.procedure k.number k.service
 
 -- ---- selections: of a procedure, one number or all, and one service or all
 
@@ -88,10 +96,17 @@ instance_fits subscribed numbercount services x =
 abbrev pub instance_good : Profile → Instance → Bool
 instance_good p x = instance_fits p.subscribed p.numbercount (subscribed_services p) x
 
--- what `key_of` promises
-abbrev pub KeyOf : ℕ → ℕ → ℕ → ℕ → Type 0
-KeyOf procedure number service r = r ≡ key procedure number service
+-- what `Instance::key` and `key_of` promise
+abbrev pub KeyFor : Instance → Key → Type 0
+KeyFor x r = r ≡ key_for x
+
+abbrev pub KeyOf : Key → ℕ → Type 0
+KeyOf k r = r ≡ key_at k
 
 -- what `blank_instance` promises
 abbrev pub BlankInstance : Instance → Type 0
 BlankInstance r = r ≡ blank_instance
+
+-- what `is_named` promises
+abbrev pub IsNamed : ℕ → ℕ → ℕ → Bool → Type 0
+IsNamed every asked is r = r ≡ named every asked is

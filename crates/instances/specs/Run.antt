@@ -1,11 +1,11 @@
 -- What a table or a picture holds: its instances, one after the other (document 01, "Profile and table", "Replies").
-use Rattle.std.specs.Prelude.{ℕ, ◌+◌, ◌-◌, ◌≡◌, Bool, true, false, List, [], ◌∷◌, ◌++◌, map, length, take, get_or, replicate, ltb, leb, eqb, ℤ}
+use Rattle.std.specs.Prelude.{ℕ, ◌+◌, ◌-◌, ◌≡◌, Bool, true, List, [], ◌∷◌, ◌++◌, map, length, take, get_or, replicate, ltb, leb, eqb, ℤ}
+use Rattle.std.specs.Prelude.{Option as Answer, None, Some}
 use Rattle.std.proofs.Math.Option.{Option, none, some}
 use Rattle.laws.specs.Pick.{pick}
 use Rattle.laws.specs.Tests.{all}
 use Rattle.laws.specs.Those.{those}
 use Rattle.numbers.specs.Number.{blank_number}
-use Rattle.numbers.specs.Address.{blank_address}
 use Rattle.numbers.specs.declared.address.Address.{Address}
 use Rattle.numbers.specs.declared.number.Number.{Number}
 use Rattle.profile.specs.Profile.{numbers_most, no_number}
@@ -18,11 +18,11 @@ use Rattle.lists.specs.declared.entries.Entries.{Entries}
 use Rattle.instances.specs.Instance.{instance_of, blank_instance, key_of, chosen, spared, is_at, instance_good}
 use Rattle.instances.specs.Places.{run_most, places_of}
 use Rattle.instances.specs.declared.instance.Instance.{Instance}
+use Rattle.instances.specs.declared.instance.Key.{Key}
 use Rattle.instances.specs.declared.instance.Selection.{Selection}
 use Rattle.instances.specs.declared.places.Place.{Place}
 use Rattle.instances.specs.declared.run.Run.{Run}
 use Rattle.instances.specs.declared.run.After.{After}
-use Rattle.instances.specs.declared.run.Found.{Found}
 
 -- the instances that a record counts
 abbrev pub instances_of : Run → List Instance
@@ -122,12 +122,13 @@ run_good most p run = all (leb run.count run_most ∷ instances_good most p (ins
 abbrev pub FreshRun : Run → Type 0
 FreshRun r = r ≡ packed []
 
-abbrev pub found_by : Option Address → Found
-found_by none = record { ok = false; address = blank_address }
-found_by (some address) = record { ok = true; address = address }
+-- the same, as the code answers it
+abbrev pub found_by : Option Address → Answer Address
+found_by none = None
+found_by (some address) = Some address
 
-abbrev pub FindsAddress : ℕ → ℕ → ℕ → Run → Found → Type 0
-FindsAddress procedure number service run r = r ≡ found_by (forwarded_to procedure number service (instances_of run))
+abbrev pub FindsAddress : Key → Run → Answer Address → Type 0
+FindsAddress key run r = r ≡ found_by (forwarded_to key.procedure key.number key.service (instances_of run))
 
 abbrev pub ChosenCount : Selection → Run → ℕ → Type 0
 ChosenCount sel run r = r ≡ length (listed sel (instances_of run))

@@ -1,2 +1,3 @@
 -- What only private functions promise.
+pub mod Few
 pub mod Places

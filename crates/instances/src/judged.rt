@@ -6,29 +6,24 @@ use crate::places::stored;
 use crate::run::{ROOM, Run};
 use lists::INSTANCESMOST;
 use numbers::address_good;
-use profile::Profile;
+use profile::{Profile, SERVICES};
 
 impl Run {
     // Whether a run breaks no rule of the profile: its instances ascend, each is good, and there are at most 8 of each procedure.
     pub fn good(self, p: Profile) -> bool
         ensures { RunGood p self result }
     {
-        let n = self.count as usize;
-        if ROOM < n {
+        if ROOM < self.count as usize {
             return false;
         }
-        let subscribed = p.subscribed;
-        let services = p.services;
-        let numbers = p.numbercount;
-        let count = p.servicecount;
+        let held = self.instances();
+        let services = &p.services[..stored(p.servicecount, SERVICES)];
         // Where instances ascend those of a procedure stand together: they begin at `from`, and `beyond` is the next procedure.
         let mut beyond: usize = 0;
         let mut from: usize = 0;
         let mut below: usize = 0;
-        let mut i: usize = 0;
-        while i < n {
-            let x = self.run[i];
-            let key = key_of(x.procedure, x.number, x.service);
+        for (i, x) in held.iter().enumerate() {
+            let key = key_of(x.key());
             if key <= below {
                 return false;
             }
@@ -37,7 +32,7 @@ impl Run {
                 if PROCEDURES <= procedure {
                     return false;
                 }
-                if subscribed[procedure] != 1 {
+                if p.subscribed[procedure] != 1 {
                     return false;
                 }
                 if from + INSTANCESMOST < i {
@@ -46,55 +41,35 @@ impl Run {
                 beyond = procedure + 1;
                 from = i;
             }
-            if !place_good(numbers, services, count, x) {
+            if !place_good(p.numbercount, services, *x) {
                 return false;
             }
-            // Read here, the address need not be kept while the tests above run.
-            let again = self.run[i];
-            let address = again.address;
-            if !address_good(address) {
+            if !address_good(x.address) {
                 return false;
             }
             below = key;
-            i += 1;
         }
-        n <= from + INSTANCESMOST
+        held.len() <= from + INSTANCESMOST
     }
 
     // Whether the instances ascend, and there are at most so many of each procedure.
     pub fn ordered(self, most: u8) -> bool
         ensures { Ordered most self result }
     {
-        let n = stored(self.count, ROOM);
-        let most = most as usize;
-        let mut cfu: usize = 0;
-        let mut cfb: usize = 0;
-        let mut cfnr: usize = 0;
+        let mut counts = [0usize; PROCEDURES];
         let mut under: usize = 0;
-        let mut i: usize = 0;
-        while i < n {
-            let x = self.run[i];
-            let procedure = x.procedure;
-            let key = key_of(procedure, x.number, x.service);
+        for x in self.instances() {
+            let key = key_of(x.key());
             if key <= under {
                 return false;
             }
-            if procedure == 0 {
-                cfu += 1;
-            } else if procedure == 1 {
-                cfb += 1;
-            } else if procedure == 2 {
-                cfnr += 1;
+            let procedure = x.procedure as usize;
+            if procedure < PROCEDURES {
+                counts[procedure] += 1;
             }
             under = key;
-            i += 1;
         }
-        if most < cfu {
-            return false;
-        }
-        if most < cfb {
-            return false;
-        }
-        cfnr <= most
+        let most = most as usize;
+        counts.iter().all(|count| *count <= most)
     }
 }

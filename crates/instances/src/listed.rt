@@ -4,9 +4,9 @@ ghost use Rattle.laws.specs.Over.{Wrote};
 ghost use Rattle.lists.specs.Entry.{entry_of, entry_octets, entry_size};
 ghost use Rattle.instances.specs.Run.{PutListed};
 
+use crate::few::Few;
 use crate::instance::{Instance, Selection, is_chosen};
-use crate::places::stored;
-use crate::run::{ROOM, Run, served_number};
+use crate::run::{Run, served_number};
 use lists::{INSTANCESMOST, put_list_head};
 use numbers::{Number, address_size, number_size, put_number, put_sub};
 use octets::put_head;
@@ -17,11 +17,10 @@ use values::put_enumerated;
 fn listed_size(served: Number, x: Instance) -> usize
     ensures { (result ≡ length (entry_octets (entry_of served x.service x.procedure x.address))) × (result ≤ entry_size) }
 {
-    let address = x.address;
-    8 + number_size(served) + address_size(address)
+    8 + number_size(served) + address_size(x.address)
 }
 
-// The entry of an instance.
+// The entry of an instance. The crate `lists` writes the same octets of an `Entry`, a record of 70 octets that would be copied here.
 fn write_listed(out: &mut [u8], at: usize, served: Number, x: Instance) -> usize
     requires { at + length (entry_octets (entry_of served x.service x.procedure x.address)) ≤ length out.old }
     ensures { Wrote out.old at (entry_octets (entry_of served x.service x.procedure x.address)) result out.new }
@@ -45,35 +44,26 @@ impl Run {
     pub fn put_listed(self, out: &mut [u8], identifier: i16, p: Profile, sel: Selection) -> usize
         ensures { PutListed out.old identifier p sel self result out.new }
     {
-        let numbers = p.numbers;
-        let n = stored(self.count, ROOM);
-        let mut places = [0u8; INSTANCESMOST];
+        let held = self.instances();
+        let mut places: Few<u8, INSTANCESMOST> = Few::none(0);
         let mut size: usize = 0;
-        let mut k: usize = 0;
-        let mut i: usize = 0;
-        while i < n {
-            let x = self.run[i];
-            if is_chosen(sel, x) {
-                if k < INSTANCESMOST {
-                    let served = served_number(numbers, x.number);
-                    size += listed_size(served, x);
-                    places[k] = i as u8;
-                    k += 1;
+        for (i, x) in held.iter().enumerate() {
+            if is_chosen(sel, *x) {
+                if places.len() < INSTANCESMOST {
+                    let served = served_number(&p.numbers, x.number);
+                    size += listed_size(served, *x);
+                    places.push(i as u8);
                 }
             }
-            i += 1;
         }
         let mut at = put_list_head(out, identifier, size);
         if at == 0 {
             return 0;
         }
-        let mut m: usize = 0;
-        while m < k {
-            let place = places[m];
-            let x = self.run[place as usize];
-            let served = served_number(numbers, x.number);
+        for place in places.as_slice() {
+            let x = held[*place as usize];
+            let served = served_number(&p.numbers, x.number);
             at = write_listed(out, at, served, x);
-            m += 1;
         }
         at
     }

@@ -2,8 +2,10 @@
 ghost use Rattle.std.specs.Prelude.{◌≡◌, min, ◌≤◌, length, take};
 ghost use Rattle.profile.specs.Profile.{numbers_most, services_most};
 ghost use Rattle.instances.specs.Places.{run_most, places_of, Stored};
-ghost use Rattle.instances.specs.inner.Places.{placed, noted, numbers_named, services_named, places_named};
+ghost use Rattle.instances.specs.inner.Few.{items_in};
+ghost use Rattle.instances.specs.inner.Places.{numbers_named, services_named, places_named};
 
+use crate::few::Few;
 use crate::instance::{EVERYNUMBER, EVERYSERVICE, Selection, is_named};
 use crate::run::ROOM;
 use profile::{NUMBERS, Profile, SERVICES};
@@ -15,72 +17,43 @@ pub struct Place {
     pub service: u8,
 }
 
-// `count` places.
-#[derive(Clone, Copy)]
-pub(crate) struct Places {
-    pub(crate) count: u8,
-    pub(crate) places: [Place; ROOM],
-}
-
-// `count` services.
-#[derive(Clone, Copy)]
-struct Named {
-    count: usize,
-    services: [u8; SERVICES],
-}
-
 // How many there are in an array of `size` of which so many are counted.
 pub fn stored(count: u8, size: usize) -> usize
     ensures { Stored count size result }
 {
-    let n = count as usize;
-    if n <= size {
-        return n;
-    }
-    size
+    (count as usize).min(size)
 }
 
-// Of so many numbers those that are asked for, each with each of the first `count` services: by number, then service code.
-fn places_named(numbers: usize, asked: u8, services: [u8; SERVICES], count: usize) -> Places
-    requires { (numbers ≤ numbers_most) × (count ≤ services_most) }
-    ensures { result ≡ placed (places_named asked (take count services) numbers 0) }
+// Of so many numbers those that are asked for, each with each of the services: by number, then service code.
+fn places_named(numbers: usize, asked: u8, services: &[u8]) -> Few<Place, ROOM>
+    requires { (numbers ≤ numbers_most) × (length services.now ≤ services_most) }
+    ensures { items_in result ≡ places_named asked services.now numbers 0 }
 {
-    let none = Place {
+    let mut places = Few::none(Place {
         number: 0,
         service: 0,
-    };
-    let mut next = Places {
-        count: 0,
-        places: [none; ROOM],
-    };
-    let mut k: usize = 0;
-    let mut a: usize = 0;
-    while a < numbers {
+    });
+    for a in 0..numbers {
         let number = a as u8;
         if is_named(EVERYNUMBER, asked, number) {
-            let mut b: usize = 0;
-            while b < count {
-                let service = services[b];
-                next.places[k] = Place { number, service };
-                k += 1;
-                b += 1;
+            for service in services {
+                places.push(Place {
+                    number,
+                    service: *service,
+                });
             }
         }
-        a += 1;
     }
-    next.count = k as u8;
-    next
+    places
 }
 
 // The services are gone through once, not for each number, and what is not selected takes no turn.
-pub(crate) fn places_of(p: Profile, sel: Selection) -> Places
-    ensures { result ≡ placed (places_of p sel) }
+pub(crate) fn places_of(p: Profile, sel: Selection) -> Few<Place, ROOM>
+    ensures { items_in result ≡ places_of p sel }
 {
     let numbers = stored(p.numbercount, NUMBERS);
-    let services = p.services;
-    let named = services_named(services, p.servicecount, sel.service);
-    let codes = named.services;
-    places_named(numbers, sel.number, codes, named.count)
+    let named = services_named(&p.services, p.servicecount, sel.service);
+    places_named(numbers, sel.number, named.as_slice())
 }
 
 // How many of so many numbers the selection names.
@@ -98,32 +71,23 @@ fn numbers_named(count: u8, number: u8) -> usize
 }
 
 // Those of the first `count` services that the selection names.
-fn services_named(services: [u8; SERVICES], count: u8, service: u8) -> Named
-    ensures { (result ≡ noted (services_named service (take count services))) × (result.count ≤ services_most) }
+fn services_named(services: &[u8; SERVICES], count: u8, service: u8) -> Few<u8, SERVICES>
+    ensures { items_in result ≡ services_named service (take count services.now) }
 {
-    let n = stored(count, SERVICES);
-    let mut named = [0u8; SERVICES];
-    let mut k: usize = 0;
-    let mut i: usize = 0;
-    while i < n {
-        let code = services[i];
-        if is_named(EVERYSERVICE, service, code) {
-            named[k] = code;
-            k += 1;
+    let codes = &services[..stored(count, SERVICES)];
+    let mut named = Few::none(0);
+    for code in codes {
+        if is_named(EVERYSERVICE, service, *code) {
+            named.push(*code);
         }
-        i += 1;
     }
-    Named {
-        count: k,
-        services: named,
-    }
+    named
 }
 
 // How many places are selected: each named number has each named service.
 pub(crate) fn places_count(p: Profile, sel: Selection) -> usize
     ensures { (result ≡ length (places_of p sel)) × (result ≤ run_most) }
 {
-    let services = p.services;
-    let named = services_named(services, p.servicecount, sel.service);
-    numbers_named(p.numbercount, sel.number) * named.count
+    let named = services_named(&p.services, p.servicecount, sel.service);
+    numbers_named(p.numbercount, sel.number) * named.len()
 }

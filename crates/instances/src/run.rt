@@ -1,13 +1,14 @@
 // A run of instances, ascending by procedure, number and service (document 01, "Profile and table", "Replies").
-ghost use Rattle.std.specs.Prelude.{◌≡◌};
-ghost use Rattle.instances.specs.Run.{served_number, FreshRun, FindsAddress, ChosenCount, Clear, Put, Renew, CountAfter, EntriesOf};
+ghost use Rattle.std.specs.Prelude.{◌≡◌, ◌≤◌, length};
+ghost use Rattle.instances.specs.Places.{run_most};
+ghost use Rattle.instances.specs.Run.{instances_of, served_number, FreshRun, FindsAddress, ChosenCount, Clear, Put, Renew, CountAfter, EntriesOf};
 
 use crate::instance::{
-    Instance, PROCEDURES, Selection, blank_instance, is_at, is_before, is_chosen, is_concerned,
+    Instance, Key, PROCEDURES, Selection, blank_instance, is_at, is_before, is_chosen, is_concerned,
 };
 use crate::places::{places_count, places_of, stored};
 use lists::{Entries, Entry, INSTANCESMOST, no_entries};
-use numbers::{Address, Number, blank_address, blank_number};
+use numbers::{Address, Number, blank_number};
 use profile::{NUMBERS, Profile};
 
 // The most instances: 8 for each procedure. A profile has no more places.
@@ -19,13 +20,6 @@ pub const ROOM: usize = PROCEDURES * INSTANCESMOST;
 pub struct Run {
     pub count: u8,
     pub run: [Instance; ROOM],
-}
-
-// The address of an instance; or `ok` is false.
-#[derive(Clone, Copy)]
-pub struct Found {
-    pub ok: bool,
-    pub address: Address,
 }
 
 // How many instances of a procedure there are after an activation; `renews` where as many are selected as places.
@@ -47,50 +41,44 @@ pub fn fresh_run() -> Run
 }
 
 // The profile's own number.
-pub(crate) fn served_number(numbers: [Number; NUMBERS], number: u8) -> Number
-    ensures { result ≡ served_number numbers number }
+pub(crate) fn served_number(numbers: &[Number; NUMBERS], number: u8) -> Number
+    ensures { result ≡ served_number numbers.now number }
 {
-    let k = number as usize;
-    if k < NUMBERS {
-        return numbers[k];
+    match numbers.get(number as usize) {
+        Some(own) => *own,
+        None => blank_number(),
     }
-    blank_number()
 }
 
 impl Run {
-    // The address of the instance of a procedure, number and service.
-    pub fn find(self, procedure: u8, number: u8, service: u8) -> Found
-        ensures { FindsAddress procedure number service self result }
+    // The instances that it counts.
+    pub(crate) fn instances(&self) -> &[Instance]
+        ensures held { result.now ≡ instances_of self.now }
+        ensures few { length result.now ≤ run_most }
     {
-        let n = stored(self.count, ROOM);
-        let mut i: usize = 0;
-        while i < n {
-            let x = self.run[i];
-            if is_at(procedure, number, service, x) {
-                let address = x.address;
-                return Found { ok: true, address };
+        &self.run[..stored(self.count, ROOM)]
+    }
+
+    // The address of the instance of a procedure, number and service.
+    pub fn find(self, key: Key) -> Option<Address>
+        ensures { FindsAddress key self result }
+    {
+        for x in self.instances() {
+            if is_at(key, *x) {
+                return Some(x.address);
             }
-            i += 1;
         }
-        let address = blank_address();
-        Found { ok: false, address }
+        None
     }
 
     // How many selected instances there are.
     pub fn chosen_count(self, sel: Selection) -> usize
         ensures { ChosenCount sel self result }
     {
-        let n = stored(self.count, ROOM);
-        let mut k: usize = 0;
-        let mut i: usize = 0;
-        while i < n {
-            let x = self.run[i];
-            if is_chosen(sel, x) {
-                k += 1;
-            }
-            i += 1;
-        }
-        k
+        self.instances()
+            .iter()
+            .filter(|x| is_chosen(sel, **x))
+            .count()
     }
 
     // The run without the selected instances.
@@ -98,16 +86,12 @@ impl Run {
         ensures { Clear sel self result }
     {
         let mut next = fresh_run();
-        let n = stored(self.count, ROOM);
         let mut k: usize = 0;
-        let mut i: usize = 0;
-        while i < n {
-            let x = self.run[i];
-            if !is_chosen(sel, x) {
-                next.run[k] = x;
+        for x in self.instances() {
+            if !is_chosen(sel, *x) {
+                next.run[k] = *x;
                 k += 1;
             }
-            i += 1;
         }
         next.count = k as u8;
         next
@@ -118,21 +102,27 @@ impl Run {
         ensures { Put p sel address self result }
     {
         let made = places_of(p, sel);
-        let many = stored(made.count, ROOM);
-        let n = stored(self.count, ROOM);
+        let places = made.as_slice();
+        let held = self.instances();
         let procedure = sel.procedure;
         let mut next = fresh_run();
         let mut k: usize = 0;
         let mut m: usize = 0;
         let mut i: usize = 0;
+        // Two cursors, of which each turn moves one, and the places that are filled: no `for` moves them.
         while k < ROOM {
-            if i < n {
-                let x = self.run[i];
+            if i < held.len() {
+                let x = held[i];
                 if is_chosen(sel, x) {
                     i += 1;
-                } else if m < many {
-                    let w = made.places[m];
-                    if is_before(procedure, w.number, w.service, x) {
+                } else if m < places.len() {
+                    let w = places[m];
+                    let key = Key {
+                        procedure,
+                        number: w.number,
+                        service: w.service,
+                    };
+                    if is_before(key, x) {
                         next.run[k] = x;
                         i += 1;
                     } else {
@@ -150,8 +140,8 @@ impl Run {
                     k += 1;
                     i += 1;
                 }
-            } else if m < many {
-                let w = made.places[m];
+            } else if m < places.len() {
+                let w = places[m];
                 next.run[k] = Instance {
                     procedure,
                     number: w.number,
@@ -161,8 +151,7 @@ impl Run {
                 k += 1;
                 m += 1;
             } else {
-                next.count = k as u8;
-                return next;
+                break;
             }
         }
         next.count = k as u8;
@@ -176,22 +165,15 @@ impl Run {
         let none = blank_instance();
         let n = stored(self.count, ROOM);
         let mut next = self;
-        let mut i: usize = 0;
-        while i < ROOM {
+        for i in 0..ROOM {
             if i < n {
                 let older = next.run[i];
                 if is_chosen(sel, older) {
-                    next.run[i] = Instance {
-                        procedure: older.procedure,
-                        number: older.number,
-                        service: older.service,
-                        address,
-                    };
+                    next.run[i].address = address;
                 }
             } else {
                 next.run[i] = none;
             }
-            i += 1;
         }
         next.count = n as u8;
         next
@@ -201,21 +183,17 @@ impl Run {
     pub fn count_after(self, p: Profile, sel: Selection) -> After
         ensures { CountAfter p sel self result }
     {
-        let n = stored(self.count, ROOM);
         let places = places_count(p, sel);
         let mut found: usize = 0;
         let mut others: usize = 0;
-        let mut i: usize = 0;
-        while i < n {
-            let x = self.run[i];
+        for x in self.instances() {
             if is_concerned(sel, x.procedure) {
-                if is_chosen(sel, x) {
+                if is_chosen(sel, *x) {
                     found += 1;
                 } else {
                     others += 1;
                 }
             }
-            i += 1;
         }
         After {
             count: places + others,
@@ -228,28 +206,20 @@ impl Run {
         ensures { EntriesOf p sel self result }
     {
         let mut list = no_entries();
-        let numbers = p.numbers;
-        let n = stored(self.count, ROOM);
         let mut k: usize = 0;
-        let mut i: usize = 0;
-        while k < INSTANCESMOST {
-            if n <= i {
-                list.count = k as u8;
-                return list;
+        for x in self.instances() {
+            if k == INSTANCESMOST {
+                break;
             }
-            let x = self.run[i];
-            if is_chosen(sel, x) {
-                let served = served_number(numbers, x.number);
-                let address = x.address;
+            if is_chosen(sel, *x) {
                 list.entries[k] = Entry {
-                    served,
+                    served: served_number(&p.numbers, x.number),
                     service: x.service,
                     procedure: x.procedure,
-                    address,
+                    address: x.address,
                 };
                 k += 1;
             }
-            i += 1;
         }
         list.count = k as u8;
         list

@@ -1,9 +1,11 @@
+use mathlib.Core.Path.{◌∙◌}
+use borrow.Author.Tests.{lt-ltb}
 use Rattle.laws.proofs.Picks.{pick_last}
-use Rattle.laws.proofs.Cases.{cases}
+use Rattle.instances.proofs.Choices.{among_any}
 use Rattle.instances.proofs.instance.place_good.Goals as goal
 
-pub returns-then-numbers-x : goal.returns-then-numbers-x
-returns-then-numbers-x c = search cases
-
-pub returns : goal.returns
-returns c = rw (pick_last _) (search (cases, c.is_among.ensures))
+pub returns-then-x-numbers : goal.returns-then-x-numbers
+returns-then-x-numbers c =
+    let a = c.args in
+    rw (lt-ltb a.x.number a.numbers c.if-x-numbers.true, pick_last _)
+    (c.contains.ensures.value ∙ among_any a.x.service a.services.now)

@@ -1,20 +1,18 @@
+use Prim.Native.Nat.{ℕ, ◌≤◌}
 use mathlib.Core.Path.{◌≡◌}
 use native.Mathlib.Nat.{mul-le-mul}
 use native.Mathlib.Omega.{arith}
-use lib.ListN.{length}
+use lib.ListN.{length, length-take}
 use Rattle.laws.proofs.Parts.{unmapped}
-use Rattle.profile.specs.Profile.{numbers_most}
+use Rattle.profile.specs.Profile.{numbers_most, services_most}
 use Rattle.instances.proofs.Placings.{places_counted}
 use borrow.Author.Rules.{rules}
 use Rattle.instances.proofs.places.places_count.Goals as goal
-
-pub overflow_mul-result : goal.overflow_mul-result
-overflow_mul-result c = omega (arith, mul-le-mul c.numbers_named.ensures.1 c.services_named-named.ensures.1)
 
 pub returns : goal.returns
 returns c =
     let a = c.args in
     let numbers = c.numbers_named.ensures in
-    let services = c.services_named-named.ensures in
+    let few : c.len.result ≤ services_most = omega (arith, c.len.ensures, c.services_named-named.result.fits, length-take {A = ℕ}) in
     let many : length a.p.numbers ≡ numbers_most = search (unmapped, rules) in
-    (rw (numbers.0, services.0) (rw many at (places_counted a.p a.sel)), mul-le-mul numbers.1 services.1)
+    (rw (numbers.0, c.len.ensures, c.services_named-named.ensures) (rw many at (places_counted a.p a.sel)), mul-le-mul numbers.1 few)

@@ -1,16 +1,12 @@
-use Prim.Native.Nat.{◌-◌, ◌≤◌, min}
-use mathlib.Core.Path.{◌≡◌}
-use lib.ListN.{length, drop}
+use Prim.Native.Nat.{◌≤◌}
+use lib.ListN.{drop}
 use Rattle.instances.specs.Instance.{blank_instance}
 use Rattle.instances.specs.Places.{run_most}
-use Rattle.instances.specs.Run.{instances_of, deactivated}
+use Rattle.instances.specs.Run.{deactivated}
 use Rattle.laws.proofs.Filled.{Filled}
 use Rattle.instances.proofs.run.Run.clear.Given as goal
 
-abbrev pub invariant-loop-i : goal.invariant-loop-i
-invariant-loop-i l =
-    (l.i ≤ l.n) × (l.n ≡ min l.self.count run_most) × (length l.self.run ≡ run_most) × (l.k ≤ l.i) ×
-    Filled run_most blank_instance (deactivated l.sel (instances_of l.self)) (deactivated l.sel (drop l.i (instances_of l.self))) l.k l.next.run
-
-abbrev pub decreases-loop-i : goal.decreases-loop-i
-decreases-loop-i l = l.n - l.i
+abbrev pub invariant-loop-x : goal.invariant-loop-x
+invariant-loop-x l =
+    (l.k ≤ l.x-index) ×
+    Filled run_most blank_instance (deactivated l.sel l.x-items) (deactivated l.sel (drop l.x-index l.x-items)) l.k l.next.run

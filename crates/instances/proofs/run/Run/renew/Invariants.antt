@@ -1,4 +1,4 @@
-use Prim.Native.Nat.{◌-◌, ◌≤◌, min}
+use Prim.Native.Nat.{min}
 use mathlib.Core.Path.{◌≡◌}
 use lib.ListN.{length}
 use Rattle.instances.specs.Instance.{blank_instance}
@@ -8,8 +8,5 @@ use Rattle.instances.proofs.run.Run.renew.Given as goal
 
 abbrev pub invariant-loop-i : goal.invariant-loop-i
 invariant-loop-i l =
-    (l.i ≤ run_most) × (l.n ≡ min l.initial.next.count run_most) × (length l.initial.next.run ≡ run_most) × (l.none ≡ blank_instance) ×
+    (l.n ≡ min l.initial.next.count run_most) × (length l.initial.next.run ≡ run_most) × (l.none ≡ blank_instance) ×
     (l.next.run ≡ renewed_to l.sel l.address l.n l.initial.next.run l.i)
-
-abbrev pub decreases-loop-i : goal.decreases-loop-i
-decreases-loop-i l = run_most - l.i
