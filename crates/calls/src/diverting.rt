@@ -9,7 +9,7 @@ ghost use Rattle.calls.specs.Coming.{Becomes, DivertsTo};
 use crate::call::{Call, call_good, call_of};
 use crate::onward::{Reason, option_after, options_for, original_shown, preference_after};
 use exchange::Table;
-use instances::Run;
+use instances::{Key, Run};
 use numbers::{Address, Number, blank_number};
 use profile::{Profile, read_access};
 use refusals::Refusal;
@@ -115,14 +115,18 @@ fn divert_by(p: Profile, run: Run, c: Call) -> Result<Option<Diversion>, Refusal
     if p.inuse == 0 {
         return Ok(None);
     }
-    let found = run.find(c.event.procedure(), c.number, c.service);
-    if !found.ok {
+    let key = Key {
+        procedure: c.event.procedure(),
+        number: c.number,
+        service: c.service,
+    };
+    let Some(address) = run.find(key) else {
         return Ok(None);
-    }
+    };
     if p.limit <= c.counter {
         return Err(Refusal::LimitReached);
     }
-    Ok(Some(go_on(p, c, found.address)))
+    Ok(Some(go_on(p, c, address)))
 }
 
 // What becomes of a call that comes to the access; None where it is not diverted.

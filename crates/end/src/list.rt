@@ -48,11 +48,11 @@ fn settle(instances: &mut [Instance])
     ensures { instances.new ≡ merged (take 1 instances.old) (drop 1 instances.old) }
 {
     let x = instances[0];
-    let key = key_of(x.procedure, x.number, x.service);
+    let key = key_of(x.key());
     let others = &instances[1..];
     let lower = others
         .iter()
-        .position(|y| key <= key_of(y.procedure, y.number, y.service))
+        .position(|y| key <= key_of(y.key()))
         .unwrap_or(others.len());
     instances[..=lower].rotate_left(1);
 }
@@ -94,7 +94,7 @@ pub(crate) fn list_good(p: Profile, procedure: u8, run: &Run) -> bool
         if !subscribed {
             return false;
         }
-        let key = key_of(x.procedure, x.number, x.service);
+        let key = key_of(x.key());
         if key <= below {
             return false;
         }

@@ -1,4 +1,5 @@
 -- Each promise of the crate instances admits one answer, and one lent output afterwards. Assumes nothing.
+use Rattle.std.specs.Prelude.{Option}
 use Prim.Native.Nat.{ℕ}
 use mathlib.Core.Path.{◌≡◌, ap, ◌∙◌}
 use mathlib.Core.Bool.{Bool}
@@ -9,14 +10,14 @@ use Rattle.laws.proofs.Over.{only_puts}
 use Rattle.numbers.specs.declared.address.Address.{Address}
 use Rattle.profile.specs.declared.profile.Profile.{Profile}
 use Rattle.lists.specs.declared.entries.Entries.{Entries}
-use Rattle.instances.specs.Instance.{KeyOf, BlankInstance}
+use Rattle.instances.specs.Instance.{KeyFor, KeyOf, BlankInstance, IsNamed}
 use Rattle.instances.specs.Places.{Stored}
 use Rattle.instances.specs.Run.{FreshRun, FindsAddress, ChosenCount, Clear, Ordered, RunGood, Put, Renew, CountAfter, EntriesOf, PutListed}
 use Rattle.instances.specs.declared.instance.Instance.{Instance}
+use Rattle.instances.specs.declared.instance.Key.{Key}
 use Rattle.instances.specs.declared.instance.Selection.{Selection}
 use Rattle.instances.specs.declared.run.Run.{Run}
 use Rattle.instances.specs.declared.run.After.{After}
-use Rattle.instances.specs.declared.run.Found.{Found}
 
 pub only_blank_instance : {a b : Instance} → BlankInstance a → BlankInstance b → a ≡ b
 only_blank_instance = both
@@ -25,10 +26,8 @@ pub only_fresh_run : {a b : Run} → FreshRun a → FreshRun b → a ≡ b
 only_fresh_run = both
 
 pub only_instances_find :
-    (procedure number service : ℕ) (run : Run) {a b : Found} → FindsAddress procedure number service run a →
-    FindsAddress procedure number service run b →
-    a ≡ b
-only_instances_find procedure number service run = both
+    (key : Key) (run : Run) {a b : Option Address} → FindsAddress key run a → FindsAddress key run b → a ≡ b
+only_instances_find key run = both
 
 pub only_chosen_count : (sel : Selection) (run : Run) {a b : ℕ} → ChosenCount sel run a → ChosenCount sel run b → a ≡ b
 only_chosen_count sel run = both
@@ -72,9 +71,14 @@ pub only_put_listed :
     (m ≡ n) × (ys ≡ zs)
 only_put_listed xs identifier p sel run = only_puts
 
-pub only_key_of :
-    (procedure number service : ℕ) {a b : ℕ} → KeyOf procedure number service a → KeyOf procedure number service b → a ≡ b
-only_key_of procedure number service = both
+pub only_key : (x : Instance) {a b : Key} → KeyFor x a → KeyFor x b → a ≡ b
+only_key x = both
+
+pub only_key_of : (key : Key) {a b : ℕ} → KeyOf key a → KeyOf key b → a ≡ b
+only_key_of key = both
+
+pub only_is_named : (every asked is : ℕ) {a b : Bool} → IsNamed every asked is a → IsNamed every asked is b → a ≡ b
+only_is_named every asked is = both
 
 pub only_stored : (count size : ℕ) {a b : ℕ} → Stored count size a → Stored count size b → a ≡ b
 only_stored count size = both

@@ -42,7 +42,7 @@ returns-then-key-below c =
     let is = c.held-x-items.ensures in
     let few = few_held a.run.now _ is c.requires.0 in
     rw (← is)
-    (sym (judged_low a.p a.procedure _ l.x-index l.below few l.invariant.1 c.loop-x-test.true (omega (arith, c.key_of-key.ensures, c.if-key-below.true))))
+    (sym (judged_low a.p a.procedure _ l.x-index l.below few l.invariant.1 c.loop-x-test.true (omega (arith, (rw c.key.ensures at c.key_of-key.ensures), c.if-key-below.true))))
 
 pub returns-then-p-x : goal.returns-then-p-x
 returns-then-p-x c =
@@ -72,7 +72,7 @@ loop-x-preserved c =
     let three : length a.p.subscribed ≡ procedures = search (rules, c.well_formed) in
     let own = c.if-x-procedure.false in
     let subscribes = eqb-true _ _ (sym c.is_subscribed-subscribed.ensures ∙ c.if-not-subscribed.false) in
-    let key = c.key_of-key.ensures in (
+    let key = (rw c.key.ensures at c.key_of-key.ensures) in (
       l.invariant.0,
       rw (← key) at
           (judged_on a.p a.procedure _ l.x-index l.below few l.invariant.1 c.loop-x-test.true (omega (arith, key, c.if-key-below.false)) own record {

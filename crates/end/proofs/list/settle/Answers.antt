@@ -13,5 +13,5 @@ returns c =
     let others = take (length s - 1) (drop 1 s) in
     let ends : c.unwrap_or-lower.result ≡ place_for x others =
     c.unwrap_or-lower.ensures ∙ found_at (not_below x) others c.position.result
-    (position_from_yields_List (not_below x) _ _ _ c.position.ensures.ran (YieldsList-from_slice others cc) (λ y b q k. search (rules, tests, c.key_of-key.ensures))) in
+    (position_from_yields_List (not_below x) _ _ _ c.position.ensures.ran (YieldsList-from_slice others cc) (λ y b q k. search (rules, tests, rw c.key.ensures at c.key_of-key.ensures))) in
     settled s outside _ _ c.requires ends c.rotate_left.ensures.after
