@@ -1,4 +1,5 @@
 -- What arrives is taken, or refused, and so is giving up: each refusal by its test. Assumes nothing.
+use Rattle.std.specs.Prelude.{Result, Ok, Err}
 use Prim.Native.Nat.{ℕ, ◌<◌, ◌≤◌}
 use mathlib.Core.Path.{◌≡◌, sym, ap, ◌∙◌}
 use mathlib.Core.Bool.{Bool, true, false}
@@ -18,8 +19,7 @@ use Rattle.answers.specs.declared.reply.Reply.{Reply}
 use Rattle.answers.proofs.Numbers.{reply_same}
 use Rattle.instances.specs.Run.{instances_of}
 use Rattle.rules.specs.Judge.{verdict_no, judge, applied}
-use Rattle.rules.specs.declared.verdict.Verdict.{Verdict}
-use Rattle.rules.specs.declared.verdict.Verdict.TheVariants.{Passes}
+use Rattle.rules.specs.declared.error.RequestError.{RequestError}
 use Rattle.end.specs.End.{closed, end_good}
 use Rattle.end.specs.Taking.{doubted, applied_by, took_by, took, gave_up, Moves, moved, not_moved, takes, gives_up, MovesBy}
 use Rattle.end.specs.inner.Refused.{move_refused}
@@ -81,10 +81,10 @@ all_moves d e next is made = record { end = rw (is, made); told = rw is }
 
 -- ---- a result of an activation or a deactivation
 
-module _ (p : Profile) (e : End) (v : Verdict)
+module _ (p : Profile) (e : End) (v : Result Bool RequestError)
     (judged : verdict_no v ≡ judge instances_most p e.operation e.request (instances_of e.picture)) where
   pub applied_passes :
-      (renews : Bool) → v ≡ Passes renews →
+      (renews : Bool) → v ≡ Ok renews →
       closed e.before (applied p e.operation e.request e.picture) e
       ≡ applied_by p e (judge instances_most p e.operation e.request (instances_of e.picture))
   applied_passes renews is = ap (applied_by p e) (sym (ap verdict_no is) ∙ judged)

@@ -16,7 +16,7 @@ use lists::entries_at;
 use profile::{Profile, read_access};
 use refusals::Refusal;
 use requests::blank_request;
-use rules::{Verdict, apply_request, judge_request};
+use rules::{apply_request, judge_request};
 
 // The next end, and the refusal where it is refused.
 #[derive(Clone, Copy)]
@@ -56,8 +56,8 @@ fn applied(p: Profile, e: &mut End)
     ensures { e.new ≡ applied_by p e.old (judge instances_most p e.old.operation e.old.request (instances_of e.old.picture)) }
 {
     match judge_request(p, e.operation, e.request, e.picture) {
-        Verdict::Fails { error: _ } => doubted(e),
-        Verdict::Passes { renews: _ } => {
+        Err(_) => doubted(e),
+        Ok(_) => {
             e.picture = apply_request(p, e.operation, e.request, e.picture);
             restored(e);
         }

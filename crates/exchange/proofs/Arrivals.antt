@@ -1,9 +1,10 @@
 -- What arrives: its refusals, lowest first, and its step, whose reply fits the least output. Assumes nothing.
+use Rattle.std.specs.Prelude.{Result, Ok, Err}
 use Prim.Native.Nat.{ℕ, ◌≤◌, ◌<◌}
 use mathlib.Core.Path.{◌≡◌, refl, sym, ap, ◌∙◌}
 use mathlib.Core.Bool.{Bool, true, false}
 use mathlib.Core.List.{List}
-use mathlib.Core.Option.{none}
+use mathlib.Core.Option.{none, some}
 use native.Mathlib.Nat.{zero-add}
 use native.Mathlib.Omega.{arith}
 use lib.IntN.{ℤ}
@@ -30,8 +31,8 @@ use Rattle.instances.proofs.Goods.{run_good_lem}
 use Rattle.instances.proofs.Listeds.{listed_most, listed_good}
 use Rattle.rules.specs.Selection.{selection_of}
 use Rattle.rules.specs.Judge.{verdict_no, applied, JudgeRequest, RenewRequest}
-use Rattle.rules.specs.declared.verdict.Verdict.{Verdict}
-use Rattle.rules.specs.declared.verdict.Verdict.TheVariants.{Passes, Fails}
+use Rattle.rules.specs.Error.{error_no}
+use Rattle.rules.specs.declared.error.RequestError.{RequestError}
 use Rattle.rules.proofs.Selections.{selection_procedure}
 use Rattle.rules.proofs.Judges.{judge_errors, passes_none}
 use Rattle.rules.proofs.Changes.{renew_applied}
@@ -158,8 +159,8 @@ read_good access p read = rw read.1 at (access_good access read.0)
 -- a request that only renews the instances of a good run
 pub renews_applied :
     (p : Profile) → profile_good p ≡ true → (run : Run) → run_good instances_most p run ≡ true →
-    (operation : ℕ) (r : Request) (v : Verdict) → JudgeRequest p operation r run v →
-    (renews : Bool) → v ≡ Passes renews → renews ≡ true →
+    (operation : ℕ) (r : Request) (v : Result Bool RequestError) → JudgeRequest p operation r run v →
+    (renews : Bool) → v ≡ Ok renews → renews ≡ true →
     (next : Run) → RenewRequest p r run next → next ≡ applied p operation r run
 renews_applied p profile run good operation r v judged renews is h next e =
     renew_applied p operation r run next (selection_of p r) refl (good_profile p profile) instances_most
@@ -201,17 +202,17 @@ module _
         asked = step_asks p t s q.identifier q.operation q.request (read_asks (question p t.last s) r q told h)
 
         pub fails_arrives :
-            (v : Verdict) → verdict_no v ≡ verdict p t q.identifier q.operation q.request → (error : ℕ) → v ≡ Fails error →
-            PutAnswer xs (answer.Error q.identifier error) n ys →
+            (v : Result Bool RequestError) → verdict_no v ≡ verdict p t q.identifier q.operation q.request → (error : RequestError) → v ≡ Err error →
+            (number : ℕ) → number ≡ error_no error → PutAnswer xs (answer.Error q.identifier number) n ys →
             Arrives access t s xs
-            (arrived_answered (table_of last t.run) (answer.Error q.identifier error) n) ys
-        fails_arrives v judged error is put =
+            (arrived_answered (table_of last t.run) (answer.Error q.identifier number) n) ys
+        fails_arrives v judged error is number told put =
             rw moved
-            (step_arrives (fails p t q.identifier q.operation q.request error) n ys
-            (asked ∙ handled_fails p t q.identifier q.operation q.request error (sym judged ∙ ap verdict_no is))
+            (step_arrives (fails p t q.identifier q.operation q.request number) n ys
+            (asked ∙ handled_fails p t q.identifier q.operation q.request number (sym judged ∙ ap verdict_no is ∙ ap some (sym told)))
             put)
 
-        module _ (v : Verdict) (judged : JudgeRequest p q.operation q.request t.run v) (renews : Bool) (is : v ≡ Passes renews) where
+        module _ (v : Result Bool RequestError) (judged : JudgeRequest p q.operation q.request t.run v) (renews : Bool) (is : v ≡ Ok renews) where
           passes : verdict p t q.identifier q.operation q.request ≡ none
           passes = (passes_none _ _ v judged renews is).0
 

@@ -12,7 +12,7 @@ use codes::INTERROGATION;
 use instances::Run;
 use profile::{Profile, read_access};
 use refusals::{COMPONENTMOST, OUTPUTLEAST, Refusal};
-use rules::{Verdict, apply_request, judge_request, renew_request, selection_of};
+use rules::{apply_request, judge_request, renew_request, selection_of};
 
 // What an arriving component is answered, and how many octets the reply has.
 #[derive(Clone, Copy)]
@@ -94,15 +94,15 @@ impl Table {
         };
         let last = last_after(p, identifier, self.last);
         match judge_request(p, operation, r, self.run) {
-            Verdict::Fails { error } => {
+            Err(error) => {
                 let answer = Answer::Error {
                     identifier,
-                    value: error,
+                    value: u8::from(error),
                 };
                 let count = put_answer(out, answer);
                 return answers(last, self.run, answer, count);
             }
-            Verdict::Passes { renews } => {
+            Ok(renews) => {
                 if operation == INTERROGATION {
                     let sel = selection_of(p, r);
                     let answer = Answer::Listing { identifier };

@@ -1,6 +1,8 @@
 -- Each promise of the crate rules admits one answer. Assumes nothing.
+use Rattle.std.specs.Prelude.{Result}
 use Prim.Native.Nat.{ℕ}
 use mathlib.Core.Path.{◌≡◌}
+use mathlib.Core.Bool.{Bool}
 use Rattle.laws.proofs.Picks.{both}
 use Rattle.profile.specs.declared.profile.Profile.{Profile}
 use Rattle.requests.specs.declared.request.Request.{Request}
@@ -8,14 +10,14 @@ use Rattle.instances.specs.declared.instance.Selection.{Selection}
 use Rattle.instances.specs.declared.run.Run.{Run}
 use Rattle.rules.specs.Selection.{SelectionOf}
 use Rattle.rules.specs.Judge.{JudgeRequest, ApplyRequest, RenewRequest}
-use Rattle.rules.specs.declared.verdict.Verdict.{Verdict}
+use Rattle.rules.specs.declared.error.RequestError.{RequestError}
 use Rattle.rules.proofs.Judges.{verdict_same}
 
 pub only_selection_of : (p : Profile) (r : Request) {a b : Selection} → SelectionOf p r a → SelectionOf p r b → a ≡ b
 only_selection_of p r = both
 
 pub only_judge_request :
-    (p : Profile) (operation : ℕ) (r : Request) (run : Run) {a b : Verdict} → JudgeRequest p operation r run a →
+    (p : Profile) (operation : ℕ) (r : Request) (run : Run) {a b : Result Bool RequestError} → JudgeRequest p operation r run a →
     JudgeRequest p operation r run b →
     a ≡ b
 only_judge_request p operation r run {a = a} {b = b} h k = verdict_same a b h k

@@ -1,4 +1,5 @@
 -- Laws of the verdict on a request, over plain values: what judging needs, and all that a caller needs of it. Assumes nothing.
+use Rattle.std.specs.Prelude.{Result, Ok, Err}
 use Prim.Native.Nat.{ℕ, ◌+◌, ◌≤◌, ◌<◌}
 use mathlib.Core.Path.{◌≡◌, refl, sym, ap, subst, ◌∙◌}
 use mathlib.Core.Bool.{Bool, true, false, not, false≢true}
@@ -28,8 +29,11 @@ use Rattle.rules.specs.Selection.{number_asked, selection_of}
 use Rattle.rules.specs.Judge.{first_error, verdict_no, not_in_use, is_subscribed, served_invalid, not_provided, user_specified, other_kind}
 use Rattle.rules.specs.Judge.{selected_same, fits, afterwards, every_tests, activation_tests, deactivation_tests, tests_of, judge}
 use Rattle.rules.specs.Judge.{renews_by, passing, only_renews, JudgedBy}
-use Rattle.rules.specs.declared.verdict.Verdict.{Verdict}
-use Rattle.rules.specs.declared.verdict.Verdict.TheVariants.{Passes, Fails}
+use Rattle.rules.specs.Error.{error_no}
+use Rattle.rules.specs.declared.error.RequestError.{RequestError}
+use Rattle.rules.specs.declared.error.RequestError.TheVariants.{NotSubscribed, NotAvailable, InvalidServedUserNr, BasicServiceNotProvided}
+use Rattle.rules.specs.declared.error.RequestError.TheVariants.{ResourceUnavailable, InvalidDivertedToNr, SpecialServiceNr}
+use Rattle.rules.specs.declared.error.RequestError.TheVariants.{DiversionToServedUserNr, NotActivated}
 use Rattle.rules.proofs.Selections.{selection_procedure, selection_number}
 
 -- ---- tests one after the other
@@ -79,31 +83,55 @@ first_below limit (t ∷ ts) h =
 
 -- ---- verdicts
 
--- the verdict of an error or none, and of whether it renews
-abbrev verdict_by : Option ℕ → Bool → Verdict
-verdict_by none renews = Passes renews
-verdict_by (some error) renews = Fails error
+-- the error of a number
+error_of : ℕ → RequestError
+error_of n =
+    pick (eqb n 0) NotSubscribed
+    (pick (eqb n 3) NotAvailable
+    (pick (eqb n 6) InvalidServedUserNr
+    (pick (eqb n 8) BasicServiceNotProvided
+    (pick (eqb n 11) ResourceUnavailable
+    (pick (eqb n 12) InvalidDivertedToNr
+    (pick (eqb n 14) SpecialServiceNr (pick (eqb n 15) DiversionToServedUserNr NotActivated)))))))
 
-verdict_by_lem : (v : Verdict) → verdict_by (verdict_no v) (renews_by v) ≡ v
-verdict_by_lem (Passes renews) = refl
-verdict_by_lem (Fails error) = refl
+error_back : (e : RequestError) → error_of (error_no e) ≡ e
+unfolding error_of
+error_back NotSubscribed = refl
+error_back NotAvailable = refl
+error_back InvalidServedUserNr = refl
+error_back BasicServiceNotProvided = refl
+error_back ResourceUnavailable = refl
+error_back InvalidDivertedToNr = refl
+error_back SpecialServiceNr = refl
+error_back DiversionToServedUserNr = refl
+error_back NotActivated = refl
+
+-- the verdict of an error or none, and of whether it renews
+abbrev verdict_by : Option ℕ → Bool → Result Bool RequestError
+verdict_by none renews = Ok renews
+verdict_by (some number) renews = Err (error_of number)
+
+verdict_by_lem : (v : Result Bool RequestError) → verdict_by (verdict_no v) (renews_by v) ≡ v
+verdict_by_lem (Ok renews) = refl
+verdict_by_lem (Err error) = ap (λ (e : RequestError). Err e) (error_back error)
 
 -- verdicts of the same error, which renew alike, are the same
-pub verdict_same : {error : Option ℕ} {renews : Bool} (a b : Verdict) → JudgedBy error renews a → JudgedBy error renews b → a ≡ b
+pub verdict_same :
+    {error : Option ℕ} {renews : Bool} (a b : Result Bool RequestError) → JudgedBy error renews a → JudgedBy error renews b → a ≡ b
 verdict_same a b h k =
     sym (verdict_by_lem a)
     ∙ rw (h.verdict ∙ sym k.verdict, h.renewal ∙ sym k.renewal) (verdict_by_lem b)
 
 -- the two cases
-pub judged_fails : (error : ℕ) (renews : Bool) → JudgedBy (some error) renews (Fails error)
+pub judged_fails : (error : RequestError) (renews : Bool) → JudgedBy (some (error_no error)) renews (Err error)
 judged_fails error renews = record { verdict = refl; renewal = refl }
 
-pub judged_passes : (renews : Bool) → JudgedBy none renews (Passes renews)
+pub judged_passes : (renews : Bool) → JudgedBy none renews (Ok renews)
 judged_passes renews = record { verdict = refl; renewal = refl }
 
 -- what passes has no error, and tells whether it renews
 pub passes_none :
-    (error : Option ℕ) (renews : Bool) (v : Verdict) → JudgedBy error renews v → (b : Bool) → v ≡ Passes b →
+    (error : Option ℕ) (renews : Bool) (v : Result Bool RequestError) → JudgedBy error renews v → (b : Bool) → v ≡ Ok b →
     (error ≡ none) × (b ≡ renews)
 passes_none error renews v h b is =
     let free : error ≡ none = sym h.verdict ∙ ap verdict_no is in
@@ -234,7 +262,7 @@ module _
         (after : After) → operation ≡ activation →
         after.count ≡ length (places_of p sel) + count_of sel.procedure (deactivated sel is) →
         after.renews ≡ renews p sel is →
-        (v : Verdict) → JudgedBy (first_error (activation_tests most p r sel.number after.count)) after.renews v →
+        (v : Result Bool RequestError) → JudgedBy (first_error (activation_tests most p r sel.number after.count)) after.renews v →
         JudgedBy (judge most p operation r is) (only_renews p operation r is) v
     unfolding only_renews
     judged_put after activates e n v h =
@@ -254,7 +282,7 @@ module _
 
     pub judged_clear :
         (count : ℕ) → (operation ≡ activation → ⊥) → operation ≡ deactivation → count ≡ length (listed sel is) →
-        (v : Verdict) → JudgedBy (first_error (deactivation_tests count)) false v →
+        (v : Result Bool RequestError) → JudgedBy (first_error (deactivation_tests count)) false v →
         JudgedBy (judge most p operation r is) (only_renews p operation r is) v
     judged_clear count activates deactivates e v h =
         rw (← judge_clear count activates deactivates e, renews_other p operation r is activates) h

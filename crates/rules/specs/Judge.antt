@@ -1,6 +1,6 @@
 -- The rules of registration: tests in their order, each with its error; the first that holds decides. One list for the exchange and
 -- for the end's picture (document 01, "Replies, in the order checked").
-use Rattle.std.specs.Prelude.{ℕ, ◌+◌, ◌≡◌, Bool, false, not, List, [], ◌∷◌, ◌++◌, map, length, get_or, ltb, leb, eqb}
+use Rattle.std.specs.Prelude.{ℕ, ◌+◌, ◌≡◌, Bool, false, Result, Ok, Err, not, List, [], ◌∷◌, ◌++◌, map, length, get_or, ltb, leb, eqb}
 use Rattle.std.proofs.Math.Option.{Option, none, some}
 use Rattle.laws.specs.Pick.{pick}
 use Rattle.laws.specs.Tests.{all, any, Test, test, first}
@@ -17,22 +17,22 @@ use Rattle.instances.specs.Run.{instances_of, packed, listed, count_of, deactiva
 use Rattle.instances.specs.declared.instance.Instance.{Instance}
 use Rattle.instances.specs.declared.run.Run.{Run}
 use Rattle.rules.specs.Selection.{number_asked, selection_of}
-use Rattle.rules.specs.declared.verdict.Verdict.{Verdict}
-use Rattle.rules.specs.declared.verdict.Verdict.TheVariants.{Passes, Fails}
+use Rattle.rules.specs.Error.{error_no}
+use Rattle.rules.specs.declared.error.RequestError.{RequestError}
 
 -- the error of the first test that holds; none where none does, and the request passes
 abbrev pub first_error : List (Test ℕ) → Option ℕ
 first_error tests = first tests some none
 
--- a verdict: it passes, or the number of the error that it earns
-abbrev pub verdict_no : Verdict → Option ℕ
-verdict_no (Passes renews) = none
-verdict_no (Fails error) = some error
+-- a verdict: the request passes, or the number of the error that it earns
+abbrev pub verdict_no : {A : Type 0} → Result A RequestError → Option ℕ
+verdict_no (Ok passes) = none
+verdict_no (Err error) = some (error_no error)
 
 -- and whether it says that the request only renews instances
-abbrev pub renews_by : Verdict → Bool
-renews_by (Passes renews) = renews
-renews_by (Fails error) = false
+abbrev pub renews_by : Result Bool RequestError → Bool
+renews_by (Ok renews) = renews
+renews_by (Err error) = false
 
 -- a request that earns an error renews nothing
 abbrev pub passing : Option ℕ → Bool → Bool
@@ -159,12 +159,12 @@ unfoldable pub only_renews : Profile → ℕ → Request → List Instance → B
 only_renews p operation r is = all (eqb operation activation ∷ renews p (selection_of p r) is ∷ [])
 
 -- the verdict of an error or none, and whether the request renews where there is none
-pub record JudgedBy (error : Option ℕ) (renews : Bool) (v : Verdict) : Type 0 where
+pub record JudgedBy (error : Option ℕ) (renews : Bool) (v : Result Bool RequestError) : Type 0 where
   pub verdict : verdict_no v ≡ error
   pub renewal : renews_by v ≡ passing error renews
 
 -- what `judge_request` promises
-abbrev pub JudgeRequest : Profile → ℕ → Request → Run → Verdict → Type 0
+abbrev pub JudgeRequest : Profile → ℕ → Request → Run → Result Bool RequestError → Type 0
 JudgeRequest p operation r run v =
     JudgedBy (judge instances_most p operation r (instances_of run)) (only_renews p operation r (instances_of run)) v
 

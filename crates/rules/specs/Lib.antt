@@ -1,3 +1,4 @@
 pub mod Selection
+pub mod Error
 pub mod Judge
 pub mod Prefix

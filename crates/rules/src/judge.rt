@@ -1,46 +1,44 @@
 // A request is judged, and applied to the instances of a table or a picture (document 01, "Replies, in the order checked").
-ghost use Rattle.std.specs.Prelude.{◌≡◌, false};
+ghost use Rattle.std.specs.Prelude.{◌≡◌};
 ghost use Rattle.lists.specs.Entries.{instances_most};
-ghost use Rattle.rules.specs.Judge.{is_subscribed, fits, first_error, verdict_no, every_tests, activation_tests, deactivation_tests, JudgedBy, JudgeRequest, ApplyRequest, RenewRequest};
+ghost use Rattle.rules.specs.Judge.{is_subscribed, fits, first_error, verdict_no, every_tests, activation_tests, deactivation_tests, JudgeRequest, ApplyRequest, RenewRequest};
 
+use crate::error::RequestError;
 use crate::prefix::begins_any;
 use crate::selection::selection_of;
 use crate::tests::{not_provided, other_kind, selected_same, served_invalid};
-use crate::verdict::Verdict;
 use codes::{ACTIVATION, DEACTIVATION, PROCEDURES};
-use instances::{After, Run};
+use instances::Run;
 use lists::INSTANCESMOST;
 use profile::Profile;
 use requests::Request;
 
 // Whether the profile has the procedure.
+#[tactic(auto, unfolding(crate::specs::Judge::is_subscribed))]
 fn is_subscribed(p: Profile, procedure: u8) -> bool
     ensures { result ≡ is_subscribed p procedure }
 {
-    let subscribed = p.subscribed;
-    if procedure < PROCEDURES {
-        return subscribed[procedure as usize] != 0;
-    }
-    false
+    procedure < PROCEDURES && p.subscribed[procedure as usize] != 0
 }
 
 // The tests of every request.
-fn judge_every(p: Profile, r: Request) -> Verdict
+fn judge_every(p: Profile, r: Request) -> Result<(), RequestError>
     ensures { verdict_no result ≡ first_error (every_tests p r) }
 {
     if p.inuse == 0 {
-        return Verdict::Fails { error: 3 };
+        return Err(RequestError::NotAvailable);
     }
     if !is_subscribed(p, r.procedure) {
-        return Verdict::Fails { error: 0 };
+        return Err(RequestError::NotSubscribed);
     }
     if served_invalid(p, r) {
-        return Verdict::Fails { error: 6 };
+        return Err(RequestError::InvalidServedUserNr);
     }
-    Verdict::Passes { renews: false }
+    Ok(())
 }
 
 // Whether so many instances of a procedure may be.
+#[tactic(auto, unfolding(crate::specs::Judge::fits))]
 fn fits(p: Profile, count: usize) -> bool
     ensures { result ≡ fits instances_most p count }
 {
@@ -48,63 +46,56 @@ fn fits(p: Profile, count: usize) -> bool
 }
 
 // The tests of an activation that selects the number `asked`, or all, and after which there are so many instances of its procedure.
-fn judge_activation(p: Profile, r: Request, asked: u8, after: After) -> Verdict
-    ensures { JudgedBy (first_error (activation_tests instances_most p r asked after.count)) after.renews result }
+fn judge_activation(p: Profile, r: Request, asked: u8, count: usize) -> Result<(), RequestError>
+    ensures { verdict_no result ≡ first_error (activation_tests instances_most p r asked count) }
 {
     if not_provided(p, r) {
-        return Verdict::Fails { error: 8 };
+        return Err(RequestError::BasicServiceNotProvided);
     }
-    let to = r.to;
-    if to.user == 1 {
-        return Verdict::Fails { error: 11 };
+    if r.to.user == 1 {
+        return Err(RequestError::ResourceUnavailable);
     }
-    let number = to.address.number;
+    let number = r.to.address.number;
     if other_kind(number) {
-        return Verdict::Fails { error: 12 };
+        return Err(RequestError::InvalidDivertedToNr);
     }
     if begins_any(p, number) {
-        return Verdict::Fails { error: 14 };
+        return Err(RequestError::SpecialServiceNr);
     }
     if selected_same(p, asked, number) {
-        return Verdict::Fails { error: 15 };
+        return Err(RequestError::DiversionToServedUserNr);
     }
-    if !fits(p, after.count) {
-        return Verdict::Fails { error: 11 };
+    if !fits(p, count) {
+        return Err(RequestError::ResourceUnavailable);
     }
-    Verdict::Passes {
-        renews: after.renews,
-    }
+    Ok(())
 }
 
 // The test of a deactivation of so many instances.
-fn judge_deactivation(count: usize) -> Verdict
-    ensures { JudgedBy (first_error (deactivation_tests count)) false result }
+fn judge_deactivation(count: usize) -> Result<(), RequestError>
+    ensures { verdict_no result ≡ first_error (deactivation_tests count) }
 {
     if count == 0 {
-        return Verdict::Fails { error: 46 };
+        return Err(RequestError::NotActivated);
     }
-    Verdict::Passes { renews: false }
+    Ok(())
 }
 
-// The first test that holds decides.
-pub fn judge_request(p: Profile, operation: u8, r: Request, run: Run) -> Verdict
+// The first test that holds decides. A request that passes may be an activation that makes no further instance, and only renews.
+pub fn judge_request(p: Profile, operation: u8, r: Request, run: Run) -> Result<bool, RequestError>
     ensures { JudgeRequest p operation r run result }
 {
-    match judge_every(p, r) {
-        Verdict::Fails { error } => Verdict::Fails { error },
-        Verdict::Passes { renews: _ } => {
-            let sel = selection_of(p, r);
-            if operation == ACTIVATION {
-                let after = run.count_after(p, sel);
-                return judge_activation(p, r, sel.number, after);
-            }
-            if operation == DEACTIVATION {
-                let count = run.chosen_count(sel);
-                return judge_deactivation(count);
-            }
-            Verdict::Passes { renews: false }
-        }
+    judge_every(p, r)?;
+    let sel = selection_of(p, r);
+    if operation == ACTIVATION {
+        let after = run.count_after(p, sel);
+        judge_activation(p, r, sel.number, after.count)?;
+        return Ok(after.renews);
     }
+    if operation == DEACTIVATION {
+        judge_deactivation(run.chosen_count(sel))?;
+    }
+    Ok(false)
 }
 
 // What the instances become.
@@ -113,9 +104,7 @@ pub fn apply_request(p: Profile, operation: u8, r: Request, run: Run) -> Run
 {
     if operation == ACTIVATION {
         let sel = selection_of(p, r);
-        let to = r.to;
-        let address = to.address;
-        return run.put(p, sel, address);
+        return run.put(p, sel, r.to.address);
     }
     if operation == DEACTIVATION {
         let sel = selection_of(p, r);
@@ -129,7 +118,5 @@ pub fn renew_request(p: Profile, r: Request, run: Run) -> Run
     ensures { RenewRequest p r run result }
 {
     let sel = selection_of(p, r);
-    let to = r.to;
-    let address = to.address;
-    run.renew(sel, address)
+    run.renew(sel, r.to.address)
 }

@@ -1,14 +1,8 @@
-use Rattle.rules.proofs.Begins.{Tried}
-use Rattle.numbers.specs.Number.{digits_of}
-use Rattle.profile.specs.Profile.{prefixes_most}
-use lib.ListN.{length}
-use Prim.Native.Nat.{◌-◌, ◌≤◌}
 use mathlib.Core.Path.{◌≡◌}
+use lib.ListN.{drop}
+use Rattle.numbers.specs.Number.{digits_of}
+use Rattle.rules.specs.Prefix.{begins_any}
 use Rattle.rules.proofs.prefix.begins_any.Given as goal
 
-abbrev pub invariant-loop-k : goal.invariant-loop-k
-invariant-loop-k l =
-    (l.k ≤ prefixes_most) × (length l.prefixes ≡ prefixes_most) × Tried l.count l.prefixes (digits_of l.n) l.k
-
-abbrev pub decreases-loop-k : goal.decreases-loop-k
-decreases-loop-k l = prefixes_most - l.k
+abbrev pub invariant-loop-f : goal.invariant-loop-f
+invariant-loop-f l = begins_any l.f-items (digits_of l.n) ≡ begins_any (drop l.f-index l.f-items) (digits_of l.n)

@@ -1,46 +1,18 @@
-use Rattle.rules.proofs.Begins.{begun_next, begun_other, begun_all, begun_short}
-use Rattle.numbers.specs.Number.{most}
 use borrow.Author.Rules.{rules}
-use native.Mathlib.Omega.{arith}
-use lib.ListN.{length}
-use mathlib.Core.Path.{◌≡◌, refl}
+use mathlib.Core.Path.{◌≡◌, ◌∙◌}
+use lib.ListN.{take}
+use lib.Dec.{eqb}
+use Rattle.std.specs.List.{starts_with}
+use Rattle.instances.proofs.Runs.{stored_is}
+use Rattle.rules.proofs.Begins.{begins_starts}
 use Rattle.rules.proofs.prefix.begins_with.Goals as goal
-
-pub loop-i-init : goal.loop-i-init
-loop-i-init c = (omega arith, refl)
-
-pub returns-then-count-i : goal.returns-then-count-i
-returns-then-count-i c =
-    let s = c.args in
-    begun_all s.f.count s.n.count s.f.digits s.n.digits c.loop-i.i (omega arith) c.loop-i.invariant.1
-
-pub returns-then-long-i : goal.returns-then-long-i
-returns-then-long-i c =
-    let s = c.args in
-    let room : length s.f.digits ≡ most = search rules in
-    begun_short s.f.count s.n.count s.f.digits s.n.digits c.loop-i.i (omega arith) (omega arith) (omega arith)
-    c.loop-i.invariant.1
-
-pub returns-then-prefix-i : goal.returns-then-prefix-i
-returns-then-prefix-i c =
-    let s = c.args in
-    let room : length s.f.digits ≡ most = search rules in
-    let other : length s.n.digits ≡ most = search rules in
-    begun_other s.f.count s.n.count s.f.digits s.n.digits c.loop-i.i (omega arith) (omega arith) (omega arith)
-    (omega arith) c.if-prefix-i.true c.loop-i.invariant.1
-
-pub loop-i-preserved : goal.loop-i-preserved
-loop-i-preserved c =
-    let s = c.args in
-    let room : length s.f.digits ≡ most = search rules in
-    let other : length s.n.digits ≡ most = search rules in (
-      omega arith,
-      begun_next s.f.count s.n.count s.f.digits s.n.digits c.loop-i.i (omega arith) (omega arith) (omega arith)
-          (omega arith) c.if-prefix-i.false c.loop-i.invariant.1,
-    )
 
 pub returns : goal.returns
 returns c =
-    let s = c.args in
-    let room : length s.f.digits ≡ most = search rules in
-    begun_all s.f.count s.n.count s.f.digits s.n.digits c.loop-i.i (omega arith) c.loop-i.invariant.1
+    let f = c.args.f.now in
+    let n = c.args.n.now in
+    let prefix = stored_is _ f.count _ f.digits c.stored.ensures (search rules) in
+    let digits = stored_is _ n.count _ n.digits c.stored-2.ensures (search rules) in
+    let same : starts_with eqb (take c.stored-2.result n.digits) (take c.stored.result f.digits) ≡ starts_with eqb (take n.count n.digits) (take f.count f.digits) =
+    rw (prefix, digits) in
+    c.starts_with.ensures.value ∙ same ∙ begins_starts _ _

@@ -11,10 +11,10 @@ use Rattle.rules.proofs.selection.number_asked.Goals as goal
 pub returns-then-p-eq0 : goal.returns-then-p-eq0
 returns-then-p-eq0 c = let s = c.args in sym (number_ignored s.p s.r.served c.if-p-eq0.true)
 
-pub returns-then-served-eq1 : goal.returns-then-served-eq1
-returns-then-served-eq1 c =
+pub returns-then-r-eq1 : goal.returns-then-r-eq1
+returns-then-r-eq1 c =
     let s = c.args in
-    sym (number_all s.p s.r.served c.if-p-eq0.false c.if-served-eq1.true)
+    sym (number_all s.p s.r.served c.if-p-eq0.false c.if-r-eq1.true)
 
 pub overflow_cast-result : goal.overflow_cast-result
 overflow_cast-result c =
@@ -26,4 +26,4 @@ overflow_cast-result c =
 pub returns : goal.returns
 returns c =
     let s = c.args in
-    c.number_place.ensures ∙ sym (number_one s.p s.r.served c.if-p-eq0.false c.if-served-eq1.false)
+    c.number_place.ensures ∙ sym (number_one s.p s.r.served c.if-p-eq0.false c.if-r-eq1.false)

@@ -3,4 +3,4 @@ use Rattle.rules.proofs.selection.selection_of.Goals as goal
 
 pub returns : goal.returns
 unfolding selection_of
-returns c = rw (← c.number_asked-number.ensures)
+returns c = rw (← c.number_asked.ensures)

@@ -77,11 +77,11 @@ returns-in-Err c =
     c.question_of.result c.question_of.ensures _ _
     _ c.in-Err.is c.put_answer-count.ensures)
 
-pub returns-in-Fails : goal.returns-in-Fails
-returns-in-Fails c =
+pub returns-in-Err-judge_request : goal.returns-in-Err-judge_request
+returns-in-Err-judge_request c =
     let a = c.args in
     let id : SFits w16 c.in-Ok.asked.identifier = search rules in
-    rw (c.answers-in-Fails.ensures, to_z-of_z id)
+    rw (c.answers-in-Err-judge_request.ensures, to_z-of_z id)
     (fails_arrives a.access.now a.self a.component.now a.out.now c.in-Some.p
     (read_some a.access.now _ _ c.read_access.ensures c.in-Some.is)
     (omega (arith, c.if-out-lt-OUTPUTLEAST.false))
@@ -91,8 +91,8 @@ returns-in-Fails c =
     c.in-Ok.asked c.in-Ok.is _
     (rw (to_z-of_z id) at c.last_after-last.ensures)
     _ c.judge_request.ensures.verdict _
-    c.in-Fails.is
-    (rw (to_z-of_z id) at c.put_answer-count-in-Fails.ensures))
+    c.in-Err-judge_request.is _ c.from.ensures
+    (rw (to_z-of_z id) at c.put_answer-count-in-Err-judge_request.ensures))
 
 pub returns-then-operation-eq-INTERROGATION : goal.returns-then-operation-eq-INTERROGATION
 returns-then-operation-eq-INTERROGATION c =
@@ -107,13 +107,13 @@ returns-then-operation-eq-INTERROGATION c =
     c.question_of.result c.question_of.ensures _ _
     c.in-Ok.asked c.in-Ok.is _ (rw (to_z-of_z id) at c.last_after-last.ensures)
     _ c.judge_request.ensures _
-    c.in-Passes.is
+    c.in-Ok-judge_request.is
     c.if-operation-eq-INTERROGATION.true
     (rw c.selection_of-sel.ensures at
     (rw (to_z-of_z id) at c.put_listed-count.ensures)))
 
-pub returns-in-Passes : goal.returns-in-Passes
-returns-in-Passes c =
+pub returns-in-Ok-judge_request : goal.returns-in-Ok-judge_request
+returns-in-Ok-judge_request c =
     let a = c.args in
     let id : SFits w16 c.in-Ok.asked.identifier = search rules in
     let good = sym c.good.ensures ∙ c.if-not-good.false in
@@ -122,10 +122,10 @@ returns-in-Passes c =
     elim c.if-renews.branch [
       | then-renews v ↦ v.next-is ∙ renews_applied c.in-Some.p
           (read_good a.access.now c.in-Some.p read) a.self.run good _ _ _ c.judge_request.ensures _
-          c.in-Passes.is v.if-renews.true _ v.renew_request-next.ensures
+          c.in-Ok-judge_request.is v.if-renews.true _ v.renew_request-next.ensures
       | else-renews v ↦ v.next-is ∙ v.apply_request-next.ensures
     ] in
-    rw (c.answers-in-Passes.ensures, to_z-of_z id)
+    rw (c.answers-in-Ok-judge_request.ensures, to_z-of_z id)
     (changes_arrives a.access.now a.self a.component.now a.out.now c.in-Some.p read
     (omega (arith, c.if-out-lt-OUTPUTLEAST.false))
     (omega (arith, c.if-component-gt-COMPONENTMOST.false))
@@ -133,6 +133,6 @@ returns-in-Passes c =
     c.question_of.result c.question_of.ensures _ _
     c.in-Ok.asked c.in-Ok.is _ (rw (to_z-of_z id) at c.last_after-last.ensures)
     _ c.judge_request.ensures _
-    c.in-Passes.is
+    c.in-Ok-judge_request.is
     c.if-operation-eq-INTERROGATION.false _ applies
-    (rw (to_z-of_z id) at c.put_answer-count-in-Passes.ensures))
+    (rw (to_z-of_z id) at c.put_answer-count-in-Ok-judge_request.ensures))

@@ -1,0 +1,36 @@
+// The errors of registration (document 01, "Replies, in the order checked"), by the names that EN 300 207-1 gives them.
+ghost use Rattle.std.specs.Prelude.{◌≡◌};
+ghost use Rattle.rules.specs.Error.{error_no};
+
+// The error that a request earns.
+#[derive(Clone, Copy, PartialEq, Eq, Debug)]
+pub enum RequestError {
+    NotSubscribed,
+    NotAvailable,
+    InvalidServedUserNr,
+    BasicServiceNotProvided,
+    ResourceUnavailable,
+    InvalidDivertedToNr,
+    SpecialServiceNr,
+    DiversionToServedUserNr,
+    NotActivated,
+}
+
+// Its value in a return error component.
+impl From<RequestError> for u8 {
+    ghost from_gives = { λ error number. number ≡ error_no error };
+
+    fn from(error: RequestError) -> u8 {
+        match error {
+            RequestError::NotSubscribed => 0,
+            RequestError::NotAvailable => 3,
+            RequestError::InvalidServedUserNr => 6,
+            RequestError::BasicServiceNotProvided => 8,
+            RequestError::ResourceUnavailable => 11,
+            RequestError::InvalidDivertedToNr => 12,
+            RequestError::SpecialServiceNr => 14,
+            RequestError::DiversionToServedUserNr => 15,
+            RequestError::NotActivated => 46,
+        }
+    }
+}
