@@ -48,7 +48,6 @@ use Rattle.exchange.specs.Arrive.{refused, answered, done, Arrives}
 use Rattle.exchange.specs.inner.Question.{question_read}
 use Rattle.exchange.specs.inner.Arrived.{arrived_refused, arrived_answered}
 use Rattle.exchange.specs.declared.table.Table.{Table}
-use Rattle.std.specs.Prelude.{Result, Ok, Err}
 use Rattle.answers.specs.declared.answer.Answer.{Answer}
 use Rattle.exchange.specs.declared.question.Asked.{Asked}
 use Rattle.exchange.specs.declared.arrive.Arrived.{Arrived}
