@@ -186,11 +186,16 @@ def in_full(function, names):
 
 
 def function_of(path, fact, unproved):
-    """The function whose fact it is. Functions that call one another have one proof, where each fact begins with its function's name."""
+    """The function whose fact it is. Functions that call one another have one proof, where each fact begins with its function's name; no fact
+    does where one function calls itself alone."""
     *module, last = path
-    if last.startswith("+") and not fact:
-        return next((function for function in unproved if is_in(function, tuple(path))), "::".join(path))
-    return "::".join([*module, fact.partition("-")[0] if last.startswith("+") else last])
+    if not last.startswith("+"):
+        return "::".join(path)
+    circle = tuple(path)
+    named = "::".join([*module, fact.partition("-")[0]])
+    if fact and is_in(named, circle):
+        return named
+    return next((function for function in unproved if is_in(function, circle)), "::".join(path))
 
 
 def is_in(function, circle):
