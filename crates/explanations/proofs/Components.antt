@@ -16,8 +16,8 @@ use Rattle.refusals.specs.declared.refusal.Refusal.TheVariants.{ShortOutput, Lon
 use Rattle.skip.specs.Depth.{component_depth}
 use Rattle.explanations.specs.Elements.{lines_in}
 use Rattle.explanations.specs.Explained.{said, explained, explanation_most, explained_in, Explains}
-use Rattle.explanations.specs.inner.Pen.{Penned}
-use Rattle.explanations.proofs.Pens.{pen_then}
+use Rattle.texts.specs.Pen.{Penned}
+use Rattle.texts.proofs.Pens.{pen_then}
 use Rattle.explanations.proofs.Longest.{explained_most}
 
 module _ (s xs : List ℕ) where

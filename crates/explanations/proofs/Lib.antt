@@ -1,4 +1,3 @@
-pub mod Pens
 pub mod Words
 pub mod Lines
 pub mod Rows

@@ -16,8 +16,8 @@ use Rattle.std.specs.Prelude.{Option, Some, None}
 use Rattle.octets.proofs.Within.{Within, within}
 use Rattle.refusals.specs.Refusal.{component_most}
 use Rattle.skip.specs.Depth.{component_depth}
-use Rattle.listings.specs.Listing.{hex_text}
-use Rattle.listings.proofs.Words.{hex_length}
+use Rattle.texts.specs.Word.{hex_text}
+use Rattle.texts.proofs.Words.{hex_length}
 use Rattle.explanations.specs.Text.{chars}
 use Rattle.explanations.specs.Elements.{blanks, indent, contents_text, element_line, unread_line, Lines, lines_of, siblings, element_lines, lines_in}
 use Rattle.explanations.specs.Explained.{said, explained, octet_most, explanation_most}

@@ -25,8 +25,8 @@ use Rattle.requests.specs.declared.heard.Heard.TheVariants.{NotOne, Silent, Othe
 use Rattle.requests.specs.declared.heard.Operation.{Operation}
 use Rattle.requests.specs.declared.request.Request.{Request}
 use Rattle.requests.specs.declared.request.Served.{Served}
-use Rattle.listings.specs.Listing.{decimal, procedure_name, kind_text, hex_text, ended_by}
-use Rattle.listings.proofs.Words.{decimal_ten, hex_length, kind_unknown, kind_public, name_cfu, name_cfb, name_cfnr}
+use Rattle.texts.specs.Word.{decimal, procedure_name, kind_text, hex_text, ended_by}
+use Rattle.texts.proofs.Words.{decimal_ten, hex_length, kind_unknown, kind_public, name_cfu, name_cfb, name_cfnr}
 use Rattle.explanations.specs.Text.{chars, signed_text, counted_places, number_text, served_text, octets_word, sub_word}
 use Rattle.explanations.specs.Text.{to_text, operation_text, argument_text, request_line}
 use Rattle.explanations.specs.Explained.{reply_word, value_word, value_text, own_text, reply_text, reply_found, reply_of, reply_line}

@@ -7,7 +7,7 @@ use Rattle.octets.specs.Head.{head_at}
 use Rattle.octets.specs.declared.head.Head.{Head}
 use Rattle.std.specs.Prelude.{Option, Some, None}
 use Rattle.skip.specs.Depth.{component_depth}
-use Rattle.listings.specs.Listing.{hex_text}
+use Rattle.texts.specs.Word.{hex_text}
 use Rattle.explanations.specs.Text.{chars}
 
 -- two blanks for each of n levels

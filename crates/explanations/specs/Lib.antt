@@ -1,4 +1,3 @@
 pub mod Text
 pub mod Elements
 pub mod Explained
-pub mod inner

@@ -4,7 +4,7 @@ use Prim.Native.Char.{code}
 use Prim.Native.String.{String, [] as end, ◌∷◌ as ◌then◌}
 use Rattle.laws.specs.Pick.{pick}
 use Rattle.codes.specs.Codes.{activation, deactivation}
-use Rattle.listings.specs.Listing.{decimal, procedure_name, kind_text, hex_text, ended_by}
+use Rattle.texts.specs.Word.{decimal, procedure_name, kind_text, hex_text, ended_by}
 use Rattle.numbers.specs.Number.{most, other}
 use Rattle.numbers.specs.declared.number.Number.{Number}
 use Rattle.numbers.specs.declared.address.Forwarded.{Forwarded}

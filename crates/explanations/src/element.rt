@@ -1,12 +1,11 @@
 // The elements of a component, a line each.
 ghost use Rattle.std.specs.Prelude.{◌≡◌, ◌+◌, ◌≤◌, ◌<◌, length};
+ghost use Rattle.texts.specs.Pen.{Penned};
 ghost use Rattle.explanations.specs.Elements.{indent, contents_text, element_line, unread_line, element_lines, lines_in};
-ghost use Rattle.explanations.specs.inner.Pen.{Penned};
 
-use crate::pen::write_text;
-use crate::word::write_hex;
 use octets::{Head, head_at};
 use skip::COMPONENTDEPTH;
+use texts::{write_hex, write_text};
 
 // Where the text of an element ends, and where what follows it begins.
 #[derive(Clone, Copy)]
@@ -20,10 +19,8 @@ fn write_indent(out: &mut [u8], at: usize, depth: u8) -> usize
     ensures { Penned out.old at (indent depth) result out.new }
 {
     let mut p = at;
-    let mut d = depth;
-    while d < COMPONENTDEPTH {
+    for _ in depth..COMPONENTDEPTH {
         p = write_text(out, p, b"  ");
-        d += 1;
     }
     p
 }
@@ -117,6 +114,7 @@ pub(crate) fn write_elements(
 {
     let mut place = p;
     let mut here = at;
+    // No index is counted: where the next element begins, the one before it says.
     while here < end {
         let line = write_element(depth, out, place, s, here, end);
         place = line.place;

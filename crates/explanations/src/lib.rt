@@ -3,7 +3,6 @@
 
 mod component;
 mod element;
-mod pen;
 mod request;
 mod row;
 mod word;

@@ -1,19 +1,20 @@
 // What a component is: a request, a reply, or the row of document 01's table at which reading stops.
 ghost use Rattle.std.specs.Prelude.{◌≡◌};
+ghost use Rattle.texts.specs.Pen.{Penned};
 ghost use Rattle.explanations.specs.Explained.{reply_word, value_text, own_identifier, reply_of, reply_line, row_line, operation_no, is_operation, asked_text, said};
-ghost use Rattle.explanations.specs.inner.Pen.{Penned};
 
-use crate::pen::write_text;
 use crate::request::{ACTIVATIONNO, DEACTIVATIONNO, write_request};
 use crate::word::write_signed;
 use codes::INTERROGATION;
 use octets::head_at;
 use requests::{Heard, Operation, argument_at, hear};
 use skip::{COMPONENTDEPTH, INSIDEDEPTH};
+use texts::write_text;
 use values::ident_at;
 
 const INTERROGATIONNO: usize = INTERROGATION as usize;
 
+#[tactic(auto, unfolding(crate::specs::Explained::reply_word))]
 fn write_reply_word(out: &mut [u8], at: usize, tag: u8) -> usize
     ensures { Penned out.old at (reply_word tag) result out.new }
 {
@@ -90,6 +91,7 @@ fn operation_no(value: i16) -> usize
     value as usize
 }
 
+#[tactic(auto, unfolding(crate::specs::Explained::is_operation))]
 fn is_operation(operation: usize) -> bool
     ensures { result ≡ is_operation operation }
 {

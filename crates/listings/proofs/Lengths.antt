@@ -16,8 +16,7 @@ use Rattle.instances.proofs.Counts.{count_cons}
 use Rattle.forms.specs.Form.{form1}
 use Rattle.forms.proofs.Fits.{FieldsFit}
 use Rattle.listings.specs.Listing.{instance_line, instance_lines, line_most, lines_most}
-use Rattle.listings.proofs.Lines.{line_most_lem}
-use Rattle.listings.proofs.Listings.{lines_none, lines_more}
+use Rattle.listings.proofs.Lines.{line_most_lem, lines_none, lines_more}
 
 -- over fewer of each of the procedures below n
 pub more_most :

@@ -1,21 +1,19 @@
 -- Laws of a night sheet that is listed, over plain values: how long its listing is, and what is answered. Assumes nothing.
-use Prim.Native.Nat.{ℕ, zero, suc, ◌+◌, ◌≤◌, ◌<◌}
+use Prim.Native.Nat.{ℕ, zero, suc, min, ◌+◌, ◌≤◌, ◌<◌}
 use mathlib.Core.Path.{◌≡◌, refl, sym, ap, ◌∙◌}
 use mathlib.Core.Bool.{true, false}
 use mathlib.Core.List.{List, [], ◌∷◌, ◌++◌}
 use native.Mathlib.Nat.{zero-add}
 use native.Mathlib.Omega.{arith}
-use lib.ListN.{length, length-append, length-take}
-use lib.Seq.{length-take-le}
+use lib.ListN.{length, take, length-append, length-take}
 use lib.Dec.{ltb}
 use borrow.Author.Tests.{lt-ltb, le-ltb, ltb-false}
 use Rattle.std.specs.Prelude.{Ok, Err}
 use Rattle.laws.specs.Got.{Got, got, wrong}
-use Rattle.laws.specs.Over.{Wrote, Puts}
-use Rattle.laws.proofs.Over.{wrote, length_over, over_nil, then, room_then}
+use Rattle.laws.specs.Over.{Wrote}
+use Rattle.laws.proofs.Over.{length_over, over_nil}
 use Rattle.laws.proofs.Gots.{found_is}
 use Rattle.laws.proofs.Picks.{pick_ind}
-use Rattle.laws.proofs.Eaches.{Each}
 use Rattle.refusals.specs.declared.refusal.Refusal.TheVariants.{ShortOutput, BadSheet}
 use Rattle.instances.specs.Places.{run_most}
 use Rattle.instances.specs.Run.{instances_of, count_of}
@@ -26,12 +24,14 @@ use Rattle.forms.specs.Form.{form1}
 use Rattle.forms.specs.Sheet.{Sheet, sheet_in}
 use Rattle.forms.specs.Formed.{ReadForm}
 use Rattle.forms.specs.declared.sheet.FormRead.{FormRead}
-use Rattle.forms.proofs.Fits.{FieldsFit, held_small, order_of, form1_short}
+use Rattle.forms.proofs.Fits.{order_of, form1_short}
 use Rattle.forms.proofs.Sheets.{Allowed, sheet_allowed_lem, allowed_room, FormFound, form_found, form_none}
-use Rattle.listings.specs.Listing.{procedure_name, line_of, header_line, instance_lines, header_most, lines_most, listing}
+use Rattle.texts.specs.Pen.{Penned}
+use Rattle.texts.proofs.Words.{decimal_one, name_lengths, counted}
+use Rattle.texts.proofs.Pens.{pen_wrote}
+use Rattle.listings.specs.Listing.{line_of, header_line, instance_lines, header_most, lines_most, listing}
 use Rattle.listings.specs.Listing.{listing_most, listing_in, listed_sheet, ListsSheet, refused_line, printed_as, printed_sheet, PrintsSheet}
-use Rattle.listings.specs.inner.Write.{AllCounted, sheet_of}
-use Rattle.listings.proofs.Words.{decimal_one}
+use Rattle.listings.specs.inner.Write.{sheet_of}
 use Rattle.listings.proofs.Lines.{header_most_lem}
 use Rattle.listings.proofs.Lengths.{lines_most_lem, more_most}
 
@@ -44,8 +44,7 @@ unfolding listing
 listing_parts sheet = refl
 
 pub listing_octets_lem : listing_most form1 ≡ 1811
-unfolding procedure_name
-listing_octets_lem = refl
+listing_octets_lem = omega (arith, name_lengths)
 
 few_each : (is : List Instance) → Few 8 is → (procedure : ℕ) → procedure < 3 → count_of procedure is ≤ 8
 few_each is few zero h = few.0
@@ -89,36 +88,18 @@ listing_fits s = each (sheet_in form1 s) refl
 
 -- ---- the listing of a run
 
-module _ (last : ℕ) (run : Run) (few : run.count ≤ run_most) (long : length run.run ≡ run_most) where
-  abbrev header : List ℕ
-  header = header_line 1 last run.count
-
-  abbrev lines : List ℕ
-  lines = instance_lines (instances_of run)
-
-  run_parts : listing form1 (sheet_of last run) ≡ header ++ lines
-  run_parts =
-      let count : length (instances_of run) ≡ run.count = length-take-le run.count run.run (omega arith) in
-      listing_parts (sheet_of last run) ∙ ap (λ (n : ℕ). header_line 1 last n ++ lines) count
-
-  module _ (xs : List ℕ) (fits : length (listing form1 (sheet_of last run)) ≤ length xs) where
-    pub header_room : length header ≤ length xs
-    header_room = omega (arith, ap length run_parts, length-append header lines)
-
-    module _ {p : ℕ} {ys : List ℕ} (head : Wrote xs 0 header p ys) where
-      pub lines_room : p + length lines ≤ length ys
-      lines_room = room_then lines (omega (arith, ap length run_parts)) head
-
-      pub listing_wrote : {q : ℕ} {zs : List ℕ} → Wrote ys p lines q zs → Wrote xs 0 (listing form1 (sheet_of last run)) q zs
-      listing_wrote rest = rw run_parts (then head rest)
+-- by the instances that its array holds
+pub run_parts :
+    (last : ℕ) (run : Run) (few : ℕ) → length run.run ≡ run_most → few ≡ min run.count run_most →
+    listing form1 (sheet_of last run) ≡ header_line 1 last few ++ instance_lines (take few run.run)
+run_parts last run few long is =
+    let same : take few run.run ≡ instances_of run = counted run.count run.run long is in
+    let count : length (instances_of run) ≡ few = omega (arith, length-take run.count run.run) in
+    listing_parts (sheet_of last run)
+    ∙ ap (λ (n : ℕ). header_line 1 last n ++ instance_lines (instances_of run)) count
+    ∙ ap (λ (is : List Instance). header_line 1 last few ++ instance_lines is) (sym same)
 
 -- ---- a sheet that was read
-
-all_counted : (is : List Instance) → Each (FieldsFit form1) is → AllCounted is
-all_counted [] h = tt
-all_counted (i ∷ is) h =
-    let small = held_small i.address h.0.address in
-    (record { digits = small.digits; sub = small.sub }, all_counted is h.1)
 
 abbrev sheet_for : ℕ → List Instance → Sheet
 sheet_for last is = record { last = last; instances = is }
@@ -132,15 +113,9 @@ module _ (s : List ℕ) (r : FormRead) (told : ReadForm s r) (ok : r.ok ≡ true
       ap (λ (n : ℕ). sheet_of n r.run) found.last
       ∙ ap (λ (is : List Instance). sheet_for found.sheet.last is) found.instances
 
-  -- what its writer asks, in output that has room for the longest listing
-  pub listing_asks :
-      (xs : List ℕ) → listing_most form1 ≤ length xs →
-      (r.run.count ≤ run_most) × (length (listing form1 (sheet_of r.last r.run)) ≤ length xs) × AllCounted (instances_of r.run)
-  listing_asks xs fits = (
-    omega (arith, ap (λ (x : Run). x.count) found.run, length-take run_most found.sheet.instances),
-    rw same_sheet (omega (arith, allowed_fits found.sheet found.allowed)),
-    rw found.instances (all_counted found.sheet.instances found.allowed.each),
-  )
+  -- its listing fits
+  pub read_fits : length (listing form1 (sheet_of r.last r.run)) ≤ listing_most form1
+  read_fits = rw same_sheet (allowed_fits found.sheet found.allowed)
 
 -- ---- what is answered
 
@@ -161,9 +136,9 @@ module _ (s xs : List ℕ) where
       let is = lt-ltb (length xs) (listing_most form1) short in
       record { count = rw is; lent = rw is (sym (over_nil xs 0)) }
 
-  module _ (fits : listing_most form1 ≤ length xs) (r : FormRead) (told : ReadForm s r) where
+  module _ (some : listing_most form1 ≤ length xs) (r : FormRead) (told : ReadForm s r) where
     wide : ltb (length xs) (listing_most form1) ≡ false
-    wide = le-ltb (length xs) (listing_most form1) fits
+    wide = le-ltb (length xs) (listing_most form1) some
 
     module _ (bad : r.ok ≡ false) where
       none : sheet_in form1 s ≡ wrong
@@ -179,20 +154,22 @@ module _ (s xs : List ℕ) where
 
       pub prints_none :
           {n : ℕ} {ys : List ℕ} →
-          Puts xs 0 (114 ∷ 101 ∷ 102 ∷ 117 ∷ 115 ∷ 101 ∷ 100 ∷ 32 ∷ 57 ∷ 10 ∷ []) n ys →
+          Penned xs 0 (114 ∷ 101 ∷ 102 ∷ 117 ∷ 115 ∷ 101 ∷ 100 ∷ 32 ∷ 57 ∷ 10 ∷ []) n ys →
           PrintsSheet s xs n ys
       unfolding printed_sheet
-      prints_none put =
-          let w = wrote (omega arith) put in
+      prints_none pen =
+          let w = pen_wrote (omega (arith, listing_octets_lem)) pen in
           record { count = rw (wide, none, refused_text) (w.moved ∙ zero-add _); lent = rw (wide, none, refused_text) w.holds }
 
     module _ (ok : r.ok ≡ true) {n : ℕ} {ys : List ℕ}
-        (w : Wrote xs 0 (listing form1 (sheet_of r.last r.run)) n ys) where
+        (w : Penned xs 0 (listing form1 (sheet_of r.last r.run)) n ys) where
       is_sheet_lem : sheet_in form1 s ≡ got (found s r told ok).sheet (found s r told ok).next
       is_sheet_lem = (found s r told ok).is
 
       whole : Wrote xs 0 (listing form1 (found s r told ok).sheet) n ys
-      whole = rw (same_sheet s r told ok) at w
+      whole =
+          let fits : length (listing form1 (sheet_of r.last r.run)) ≤ listing_most form1 = read_fits s r told ok in
+          rw (same_sheet s r told ok) at (pen_wrote (omega (arith, fits, some)) w)
 
       pub lists_sheet : ListsSheet s xs (Ok n) ys
       unfolding listed_sheet

@@ -1,6 +1,6 @@
 -- The listing of a night sheet: "prints `form 1 last 2 count 1` then `cfb 0 1 u 24680 -`: procedure, number index, service, u or p with
 -- type (p1), digits, subaddress in lowercase hex or -. Otherwise `refused 9`." (document 01, "Samples")
-use Rattle.std.specs.Prelude.{ℕ, zero, suc, ◌+◌, ◌*◌, ◌/◌, ◌%◌, ◌≡◌, Bool, true, false, not, List, [], ◌∷◌, ◌++◌, length, take, ltb, eqb, Result}
+use Rattle.std.specs.Prelude.{ℕ, zero, suc, ◌+◌, ◌*◌, ◌≡◌, Bool, true, false, not, List, [], ◌∷◌, ◌++◌, length, ltb, Result}
 use Rattle.laws.specs.Pick.{pick}
 use Rattle.laws.specs.Tests.{test, first}
 use Rattle.laws.specs.Got.{Got, got, wrong}
@@ -8,7 +8,8 @@ use Rattle.laws.specs.Over.{over}
 use Rattle.refusals.specs.Refusal.{refusal_no}
 use Rattle.refusals.specs.declared.refusal.Refusal.{Refusal}
 use Rattle.refusals.specs.declared.refusal.Refusal.TheVariants.{ShortOutput, BadSheet}
-use Rattle.numbers.specs.Number.{unknown, digits_of}
+use Rattle.texts.specs.Word.{decimal, procedure_name, kind_text, sub_text, ended_by}
+use Rattle.numbers.specs.Number.{digits_of}
 use Rattle.numbers.specs.declared.address.Address.{Address}
 use Rattle.forms.specs.Form.{form1}
 use Rattle.forms.specs.declared.form.Form.{Form}
@@ -16,48 +17,7 @@ use Rattle.instances.specs.declared.instance.Instance.{Instance}
 use Rattle.forms.specs.Sheet.{Sheet, sheet_in}
 use Rattle.refusals.specs.Handling.{handling_told, written_count, Made, not_made, made}
 
--- ---- words
-
--- a number in decimal digits, none of them a needless zero: at most k
-unfoldable pub decimal_in : ℕ → ℕ → List ℕ
-decimal_in zero n = []
-decimal_in (suc k) n = pick (ltb n 10) ((48 + n) ∷ []) (decimal_in k (n / 10) ++ ((48 + n % 10) ∷ []))
-
--- ten digits hold every number of 32 bits
-unfoldable pub decimal : ℕ → List ℕ
-decimal n = decimal_in 10 n
-
--- "cfu", "cfb" and "cfnr"
-unfoldable pub procedure_name : ℕ → List ℕ
-procedure_name procedure =
-    pick (eqb procedure 0) (99 ∷ 102 ∷ 117 ∷ [])
-    (pick (eqb procedure 1) (99 ∷ 102 ∷ 98 ∷ []) (99 ∷ 102 ∷ 110 ∷ 114 ∷ []))
-
--- "u or p with type (p1)"
-unfoldable pub kind_text : ℕ → ℕ → List ℕ
-kind_text form kind = pick (eqb form unknown) (117 ∷ []) (112 ∷ decimal kind)
-
--- "in lowercase hex": the digit for n % 16, and two digits for an octet
-unfoldable pub hex_of : ℕ → ℕ
-hex_of n = pick (ltb (n % 16) 10) (48 + n % 16) (87 + n % 16)
-
--- what `hex_of` promises
-abbrev pub HexOf : ℕ → ℕ → Type 0
-HexOf n r = r ≡ hex_of n
-
-unfoldable pub hex_text : List ℕ → List ℕ
-hex_text [] = []
-hex_text (o ∷ os) = hex_of (o / 16) ∷ hex_of o ∷ hex_text os
-
--- "subaddress in lowercase hex or -"
-unfoldable pub sub_text : ℕ → List ℕ → List ℕ
-sub_text count sub = pick (eqb count 0) (45 ∷ []) (hex_text (take count sub))
-
 -- ---- lines
-
--- a word and the character after it
-abbrev pub ended_by : List ℕ → ℕ → List ℕ
-ended_by word mark = word ++ (mark ∷ [])
 
 -- words with a space between each two, and a newline at the end
 unfoldable pub line_of : List (List ℕ) → List ℕ

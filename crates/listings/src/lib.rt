@@ -3,7 +3,5 @@
 
 mod line;
 mod list;
-mod word;
 
 pub use list::{list_sheet, print_sheet};
-pub use word::hex_of;

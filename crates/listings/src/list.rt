@@ -1,28 +1,25 @@
 // A night sheet is listed, or refused (document 01, "Samples", "Local refusals").
-ghost use Rattle.std.specs.Prelude.{◌≤◌, length};
-ghost use Rattle.laws.specs.Over.{Wrote};
-ghost use Rattle.instances.specs.Places.{run_most};
-ghost use Rattle.instances.specs.Run.{instances_of};
+ghost use Rattle.texts.specs.Pen.{Penned};
 ghost use Rattle.forms.specs.Form.{form1};
 ghost use Rattle.listings.specs.Listing.{listing, ListsSheet, PrintsSheet};
-ghost use Rattle.listings.specs.inner.Write.{AllCounted, sheet_of};
+ghost use Rattle.listings.specs.inner.Write.{sheet_of};
 
 use crate::line::{write_header, write_lines};
 use forms::read_form;
-use instances::Run;
-use octets::put_all;
+use instances::{ROOM, Run, stored};
 use refusals::Refusal;
+use texts::write_text;
 
 // The most octets of a listing: 27 of its header, and at most 8 lines of each procedure, which have 74 for cfu, 74 for cfb and 75 for cfnr.
 const LISTINGMOST: usize = 27 + 8 * (74 + 74 + 75);
 
-// The listing of a sheet that holds this identifier and these instances, where there is room for it.
+// The listing of a sheet that holds this identifier and these instances.
 fn write_listing(out: &mut [u8], last: u16, run: Run) -> usize
-    requires { (run.count ≤ run_most) × (length (listing form1 (sheet_of last run)) ≤ length out.old) × AllCounted (instances_of run) }
-    ensures { Wrote out.old 0 (listing form1 (sheet_of last run)) result out.new }
+    ensures { Penned out.old 0 (listing form1 (sheet_of last run)) result out.new }
 {
-    let p = write_header(out, last, run.count as u32);
-    write_lines(out, p, run)
+    let few = stored(run.count, ROOM);
+    let p = write_header(out, last, few as u32);
+    write_lines(out, p, &run.run[..few])
 }
 
 // The listing of a sheet at the start of the output, and how many octets that has.
@@ -50,7 +47,7 @@ pub fn print_sheet(s: &[u8], out: &mut [u8]) -> usize
     }
     let form = read_form(s);
     if !form.ok {
-        return put_all(out, 0, b"refused 9\n");
+        return write_text(out, 0, b"refused 9\n");
     }
     let run = form.run;
     write_listing(out, form.last, run)

@@ -9,6 +9,7 @@ pub mod OnlyRequests
 pub mod OnlyExchange
 pub mod OnlyForms
 pub mod OnlyGroups
+pub mod OnlyTexts
 pub mod OnlyListings
 pub mod OnlyExplanations
 pub mod OnlyLists

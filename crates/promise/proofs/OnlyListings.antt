@@ -6,7 +6,7 @@ use Rattle.std.specs.Prelude.{Result}
 use Rattle.laws.proofs.Picks.{both}
 use Rattle.refusals.specs.declared.refusal.Refusal.{Refusal}
 use Rattle.refusals.proofs.Handlings.{written_same}
-use Rattle.listings.specs.Listing.{HexOf, ListsSheet, PrintsSheet}
+use Rattle.listings.specs.Listing.{ListsSheet, PrintsSheet}
 
 pub only_list_sheet :
     (s xs : List ℕ) {r q : Result ℕ Refusal} {ys zs : List ℕ} → ListsSheet s xs r ys → ListsSheet s xs q zs → (r ≡ q) × (ys ≡ zs)
@@ -18,6 +18,3 @@ only_list_sheet s xs {r} {q} a b = (
 pub only_print_sheet :
     (s xs : List ℕ) {r q : ℕ} {ys zs : List ℕ} → PrintsSheet s xs r ys → PrintsSheet s xs q zs → (r ≡ q) × (ys ≡ zs)
 only_print_sheet s xs a b = (both a.count b.count, both a.lent b.lent)
-
-pub only_hex_of : (n : ℕ) {r q : ℕ} → HexOf n r → HexOf n q → r ≡ q
-only_hex_of n a b = both a b

@@ -46,7 +46,7 @@ use Rattle.calls.specs.Call.{call_from, names_good, values_good, original_good, 
 use Rattle.calls.specs.Divert.{procedure_of, applying, served_of, noticed, onward, no_onward, comes}
 use Rattle.forms.specs.Instance.{all_groups, instance_octets, field_at, fields_at, address_from, instance_from}
 use Rattle.forms.specs.Sheet.{instances_octets, sheet_octets, instances_from, in_order, sheet_in}
-use Rattle.listings.specs.Listing.{decimal_in, decimal, procedure_name, kind_text, hex_of, hex_text, sub_text}
+use Rattle.texts.specs.Word.{decimal_in, decimal, procedure_name, kind_text, hex_of, hex_text, sub_text}
 use Rattle.listings.specs.Listing.{line_of, header_line, instance_line, instance_lines, listing, listed_sheet, refused_line, printed_sheet}
 use Rattle.explanations.specs.Text.{signed_text, number_text, served_text, octets_word, sub_word, to_text, operation_text, argument_text, request_line}
 use Rattle.explanations.specs.Elements.{blanks, contents_text, element_line, siblings, element_lines, lines_in}

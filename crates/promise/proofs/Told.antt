@@ -20,7 +20,7 @@ use Rattle.answers.specs.declared.answer.Problem.TheVariants.{Invoke}
 use Rattle.answers.specs.declared.answer.Whose.TheVariants.{Own}
 use Rattle.exchange.specs.Question.{Question, rejects, duplicate, known_operation, code_of, argued, invoked, question_of, question}
 use Rattle.exchange.proofs.Questions.{known_number, known_negative, question_heard, invoked_is}
-use Rattle.listings.proofs.Words.{decimal_one}
+use Rattle.texts.proofs.Words.{decimal_one}
 use Rattle.explanations.specs.Text.{chars}
 use Rattle.explanations.specs.Explained.{reply_of, row_seven, row_line, operation_no, is_operation, argued_text, asked_text, said_text, said}
 use Rattle.explanations.proofs.Rows.{operation_number, operation_negative, said_heard, asked_is, number_pos, number_negsuc}

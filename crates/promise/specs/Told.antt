@@ -7,7 +7,7 @@ use Rattle.answers.specs.declared.answer.Problem.TheVariants.{General, Invoke}
 use Rattle.answers.specs.declared.answer.Whose.{Whose}
 use Rattle.answers.specs.declared.answer.Whose.TheVariants.{Null, Own}
 use Rattle.exchange.specs.Question.{Question, says, asks, rejects}
-use Rattle.listings.specs.Listing.{decimal}
+use Rattle.texts.specs.Word.{decimal}
 use Rattle.explanations.specs.Text.{chars, signed_text, request_line}
 
 abbrev pub problem_words : Problem → List ℕ

@@ -1,7 +1,7 @@
-use Rattle.std.proofs.Common.{arith, refl, sym, ◌∙◌, rules}
+use Rattle.std.proofs.Common.{arith, refl, sym, ◌∙◌}
 use borrow.Author.Tests.{eq-eqb, ne_eqb}
 use Rattle.octets.proofs.Within.{within}
-use Rattle.explanations.proofs.Pens.{pen_none, pen_then, going_next, going_last}
+use Rattle.texts.proofs.Pens.{pen_none, pen_then, going_next, going_last}
 use Rattle.explanations.proofs.Lines.{further, lines_end, lines_step, element_lines_lem}
 use Rattle.explanations.proofs.element.+write_element_write_elements.Goals as goal
 
@@ -56,13 +56,10 @@ pub write_elements-loop-here-preserved : goal.write_elements-loop-here-preserved
 write_elements-loop-here-preserved t c =
     let a = c.args in
     let l = c.loop-here in
-    let line = c.write_element-line.ensures in (
-      search rules,
-      rw line.0
-          (going_next l.invariant.1 _ _ (lines_step a.depth a.s.now l.here a.end c.loop-here-test.true) line.1),
-    )
+    let line = c.write_element-line.ensures in
+    rw line.0 (going_next l.invariant _ _ (lines_step a.depth a.s.now l.here a.end c.loop-here-test.true) line.1)
 
 pub write_elements-returns : goal.write_elements-returns
 write_elements-returns t c =
     let a = c.args in
-    going_last c.loop-here.invariant.1 (lines_end a.depth a.s.now c.loop-here.here a.end c.loop-here-test.false)
+    going_last c.loop-here.invariant (lines_end a.depth a.s.now c.loop-here.here a.end c.loop-here-test.false)

@@ -1,8 +1,6 @@
 use Prim.Native.Nat.{◌+◌, ◌-◌, ◌*◌}
-use mathlib.Core.Path.{◌≡◌}
-use lib.ListN.{length}
 use Rattle.explanations.specs.Elements.{lines_in}
-use Rattle.explanations.proofs.Pens.{Going}
+use Rattle.texts.proofs.Pens.{Going}
 use Rattle.explanations.proofs.element.+write_element_write_elements.Given as goal
 
 -- the depth left falls: twice the depth, and one more for contents, which ask their elements at the same depth
@@ -14,8 +12,7 @@ decreases-write_elements l = l.depth * 2 + 1
 
 abbrev pub invariant-write_elements-loop-here : goal.invariant-write_elements-loop-here
 invariant-write_elements-loop-here l =
-    (length l.out ≡ length l.initial.out)
-    × Going l.initial.out l.p (lines_in l.depth l.s l.at l.end) l.out l.place (lines_in l.depth l.s l.here l.end)
+    Going l.initial.out l.p (lines_in l.depth l.s l.at l.end) l.out l.place (lines_in l.depth l.s l.here l.end)
 
 abbrev pub decreases-write_elements-loop-here : goal.decreases-write_elements-loop-here
 decreases-write_elements-loop-here l = l.end - l.here

@@ -1,7 +1,7 @@
 use Rattle.laws.proofs.Parts.{part_slice}
 use Rattle.explanations.specs.Elements.{contents_text}
 use borrow.Author.Tests.{eq-eqb, ne_eqb}
-use Rattle.explanations.proofs.Pens.{pen_none, pen_then}
+use Rattle.texts.proofs.Pens.{pen_none, pen_then}
 use Rattle.explanations.proofs.element.write_contents.Goals as goal
 
 pub returns-then-tag-ne0 : goal.returns-then-tag-ne0

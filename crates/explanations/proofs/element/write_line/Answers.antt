@@ -1,7 +1,7 @@
 use Prim.Native.Nat.{◌+◌}
 use Rattle.laws.proofs.Parts.{part_slice}
 use Rattle.explanations.specs.Elements.{element_line}
-use Rattle.explanations.proofs.Pens.{pen_then}
+use Rattle.texts.proofs.Pens.{pen_then}
 use Rattle.explanations.proofs.element.write_line.Goals as goal
 
 pub returns : goal.returns

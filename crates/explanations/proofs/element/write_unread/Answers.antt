@@ -1,6 +1,6 @@
 use Rattle.laws.proofs.Parts.{part_slice}
 use Rattle.explanations.specs.Elements.{unread_line}
-use Rattle.explanations.proofs.Pens.{pen_then}
+use Rattle.texts.proofs.Pens.{pen_then}
 use Rattle.explanations.proofs.element.write_unread.Goals as goal
 
 pub returns : goal.returns

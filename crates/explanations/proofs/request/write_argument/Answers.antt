@@ -1,5 +1,5 @@
 use Rattle.explanations.specs.Text.{argument_text}
-use Rattle.explanations.proofs.Pens.{pen_then}
+use Rattle.texts.proofs.Pens.{pen_then}
 use Rattle.explanations.proofs.request.write_argument.Goals as goal
 
 pub returns : goal.returns
@@ -8,7 +8,7 @@ returns c =
     pen_then (pen_then (pen_then (pen_then (pen_then
     c.write_procedure-p.ensures
     c.write_text-q.ensures)
-    c.write_decimal-k.ensures)
+    (rw c.from.ensures at c.write_decimal-k.ensures))
     c.write_text-m.ensures)
     c.write_served-t.ensures)
     c.write_to.ensures

@@ -1,6 +1,6 @@
 use mir.Facts.{to_z-of_z}
 use Rattle.explanations.specs.Text.{request_line}
-use Rattle.explanations.proofs.Pens.{pen_then}
+use Rattle.texts.proofs.Pens.{pen_then}
 use Rattle.explanations.proofs.request.write_request.Goals as goal
 
 pub returns : goal.returns

@@ -1,6 +1,6 @@
 use Rattle.explanations.specs.Text.{to_text}
 use borrow.Author.Tests.{eq-eqb, ne_eqb}
-use Rattle.explanations.proofs.Pens.{pen_none, pen_then}
+use Rattle.texts.proofs.Pens.{pen_none, pen_then}
 use Rattle.explanations.proofs.request.write_to.Goals as goal
 
 pub returns-then-operation-ne-ACTIVATIONNO : goal.returns-then-operation-ne-ACTIVATIONNO
@@ -15,4 +15,4 @@ returns c =
     c.write_text-p.ensures
     c.write_number-q.ensures)
     c.write_text-k.ensures)
-    c.write_sub.ensures)
+    c.write_subaddress.ensures)

@@ -5,7 +5,7 @@ use mathlib.Core.Path.{sym, ◌∙◌}
 use mir.Facts.{to_z-of_z}
 use mir.Val.{SFits}
 use mir.Syntax.{w16}
-use Rattle.explanations.proofs.Pens.{pen_then}
+use Rattle.texts.proofs.Pens.{pen_then}
 use borrow.Author.Rules.{rules}
 use Rattle.explanations.proofs.row.write_own.Goals as goal
 

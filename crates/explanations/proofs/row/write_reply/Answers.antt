@@ -1,6 +1,6 @@
 use mathlib.Core.Path.{sym, ◌∙◌}
 use Rattle.explanations.specs.Explained.{reply_text, reply_of}
-use Rattle.explanations.proofs.Pens.{pen_none, pen_then}
+use Rattle.texts.proofs.Pens.{pen_none, pen_then}
 use Rattle.explanations.proofs.row.write_reply.Goals as goal
 
 pub returns : goal.returns

@@ -1,5 +1,5 @@
 use mir.Facts.{to_z-of_z}
-use Rattle.explanations.proofs.Pens.{pen_then}
+use Rattle.texts.proofs.Pens.{pen_then}
 use Rattle.explanations.proofs.row.write_row.Goals as goal
 
 pub returns : goal.returns

@@ -1,4 +1,4 @@
-use Rattle.explanations.proofs.Pens.{pen_then}
+use Rattle.texts.proofs.Pens.{pen_then}
 use Rattle.explanations.proofs.row.write_silent.Goals as goal
 
 pub returns : goal.returns

@@ -7,7 +7,7 @@ use mir.Val.{SFits}
 use mir.Syntax.{w16}
 use Rattle.explanations.specs.Explained.{value_text}
 use borrow.Author.Tests.{eq-eqb, ne_eqb}
-use Rattle.explanations.proofs.Pens.{pen_none, pen_then}
+use Rattle.texts.proofs.Pens.{pen_none, pen_then}
 use borrow.Author.Rules.{rules}
 use Rattle.explanations.proofs.row.write_value.Goals as goal
 

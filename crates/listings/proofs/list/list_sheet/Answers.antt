@@ -1,7 +1,6 @@
 use native.Mathlib.Omega.{arith}
 use borrow.Author.Tests.{not-true, not-false}
-use Rattle.laws.proofs.Over.{wrote_length}
-use Rattle.listings.proofs.Sheets.{listing_octets_lem, listing_asks, lists_short, lists_none, lists_sheet}
+use Rattle.listings.proofs.Sheets.{listing_octets_lem, lists_short, lists_none, lists_sheet}
 use Rattle.listings.proofs.list.list_sheet.Goals as goal
 
 pub returns-then-out-lt-LISTINGMOST : goal.returns-then-out-lt-LISTINGMOST
@@ -14,16 +13,6 @@ returns-then-not-form c =
     let a = c.args in
     lists_none a.s.now a.out.now (omega (arith, listing_octets_lem, c.if-out-lt-LISTINGMOST.false)) _
     c.read_form-form.ensures (not-true _ c.if-not-form.true)
-
-pub write_listing-count-requires : goal.write_listing-count-requires
-write_listing-count-requires c =
-    let a = c.args in
-    listing_asks a.s.now _ c.read_form-form.ensures (not-false _ c.if-not-form.false)
-    a.out.now
-    (omega (arith, listing_octets_lem, c.if-out-lt-LISTINGMOST.false))
-
-pub shape_of-out : goal.shape_of-out
-shape_of-out c = wrote_length c.write_listing-count.ensures
 
 pub returns : goal.returns
 returns c =

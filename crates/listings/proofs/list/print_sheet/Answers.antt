@@ -1,7 +1,6 @@
 use native.Mathlib.Omega.{arith}
 use borrow.Author.Tests.{not-true, not-false}
-use Rattle.laws.proofs.Over.{wrote_length}
-use Rattle.listings.proofs.Sheets.{listing_octets_lem, listing_asks, prints_short, prints_none, prints_sheet}
+use Rattle.listings.proofs.Sheets.{listing_octets_lem, prints_short, prints_none, prints_sheet}
 use Rattle.listings.proofs.list.print_sheet.Goals as goal
 
 pub returns-then-out-lt-LISTINGMOST : goal.returns-then-out-lt-LISTINGMOST
@@ -16,17 +15,7 @@ returns-then-not-form c =
     (omega (arith, listing_octets_lem, c.if-out-lt-LISTINGMOST.false)) _
     c.read_form-form.ensures
     (not-true _ c.if-not-form.true)
-    c.put_all.ensures
-
-pub write_listing-requires : goal.write_listing-requires
-write_listing-requires c =
-    let a = c.args in
-    listing_asks a.s.now _ c.read_form-form.ensures (not-false _ c.if-not-form.false)
-    a.out.now
-    (omega (arith, listing_octets_lem, c.if-out-lt-LISTINGMOST.false))
-
-pub shape_of-out : goal.shape_of-out
-shape_of-out c = wrote_length c.write_listing.ensures
+    c.write_text.ensures
 
 pub returns : goal.returns
 returns c =
