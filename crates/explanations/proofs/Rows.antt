@@ -4,12 +4,13 @@ use mathlib.Core.Path.{◌≡◌, refl, sym, ap, ◌∙◌}
 use mathlib.Core.Bool.{true, false, false≢true}
 use mathlib.Core.List.{List, [], ◌∷◌}
 use native.Mathlib.Omega.{arith}
-use lib.IntN.{ℤ, pos, negsuc}
-use lib.Signed.{mag, lt_z}
+use lib.IntN.{ℤ, pos, negsuc, nat_abs}
+use Rattle.std.specs.Prelude.{Result, Ok, Err}
+use Rattle.std.specs.Result.{OkIff, result_unwrap_or}
+use Rattle.std.specs.Int.{FitsUnsignedBits}
 use mir.Syntax.{w16}
 use mir.Val.{SFits, to_z, of_z}
 use mir.Facts.{to_z-of_z}
-use borrow.Author.Tests.{ltb-true}
 use lib.Dec.{eqb}
 use Rattle.laws.specs.Pick.{pick}
 use Rattle.laws.specs.Tests.{any}
@@ -23,24 +24,22 @@ use Rattle.octets.proofs.Founds.{Somewhere}
 use Rattle.explanations.specs.Text.{request_line}
 use Rattle.explanations.specs.Explained.{row_seven, row_line, operation_no, is_operation, argued_text, asked_text, said_text, said}
 
--- ---- an operation's number, by the machine's test of its sign
+-- ---- an operation's number, by the machine's conversion, which fails at a negative one
 
-negative : (z : ℤ) → lt_z z (pos 0) ≡ true → 0 ≡ operation_no z
+tried :
+    {E : Type 0} (r : Result ℕ E) (z : ℤ) → SFits w16 z → OkIff r (FitsUnsignedBits 64 z) (nat_abs z) →
+    result_unwrap_or r 0 ≡ operation_no z
 unfolding operation_no
-negative (pos n) e = absurd (omega (arith, ltb-true n 0 e))
-negative (negsuc n) e = refl
+tried (Ok v) (pos n) fits is = is.1
+tried (Ok v) (negsuc n) fits is = absurd is.0
+tried (Err e) (pos n) fits is = absurd (is (omega (arith, fits)))
+tried (Err e) (negsuc n) fits is = refl
 
-positive : (z : ℤ) → lt_z z (pos 0) ≡ false → mag z ≡ operation_no z
-unfolding operation_no
-positive (pos n) e = refl
-positive (negsuc n) e = let z : ◌≡◌ {A = ℕ} 0 1 = cc in absurd (omega arith)
-
-module _ (z : ℤ) (fits : SFits w16 z) where
-  pub number_negative : lt_z (to_z w16 (of_z w16 z)) (pos 0) ≡ true → 0 ≡ operation_no z
-  number_negative e = negative z (rw (to_z-of_z fits) at e)
-
-  pub number_positive : lt_z (to_z w16 (of_z w16 z)) (pos 0) ≡ false → mag z ≡ operation_no z
-  number_positive e = positive z (rw (to_z-of_z fits) at e)
+pub number_tried :
+    {E : Type 0} (r : Result ℕ E) (z : ℤ) → SFits w16 z →
+    OkIff r (FitsUnsignedBits 64 (to_z w16 (of_z w16 z))) (nat_abs (to_z w16 (of_z w16 z))) →
+    result_unwrap_or r 0 ≡ operation_no z
+number_tried r z fits is = tried r z fits (rw (to_z-of_z fits) at is)
 
 pub number_pos : (n : ℕ) → operation_no (pos n) ≡ n
 unfolding operation_no

@@ -85,10 +85,7 @@ fn write_row(out: &mut [u8], at: usize, words: &[u8], identifier: i16) -> usize
 fn operation_no(value: i16) -> usize
     ensures { result ≡ operation_no value }
 {
-    if value < 0 {
-        return 0;
-    }
-    value as usize
+    usize::try_from(value).unwrap_or(0)
 }
 
 #[tactic(auto, unfolding(crate::specs::Explained::is_operation))]
