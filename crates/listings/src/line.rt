@@ -22,7 +22,7 @@ pub(crate) fn write_header(out: &mut [u8], last: u16, count: u32) -> usize
     ensures { Penned out.old 0 (header_line form1.code last count) result out.new }
 {
     let p = write_text(out, 0, b"form 1 last ");
-    let q = write_number(out, p, last as u32);
+    let q = write_number(out, p, u32::from(last));
     let k = write_text(out, q, b"count ");
     let m = write_decimal(out, k, count);
     write_text(out, m, b"\n")
@@ -34,8 +34,8 @@ fn write_line(out: &mut [u8], at: usize, i: Instance) -> usize
     let address = &i.address;
     let number = &address.number;
     let p = write_procedure(out, at, i.procedure);
-    let q = write_number(out, p, i.number as u32);
-    let k = write_number(out, q, i.service as u32);
+    let q = write_number(out, p, u32::from(i.number));
+    let k = write_number(out, q, u32::from(i.service));
     let m = write_kind(out, k, number.form, number.kind);
     let t = write_text(out, m, &number.digits[..stored(number.count, MOST)]);
     let u = write_text(out, t, b" ");

@@ -35,6 +35,6 @@ pub fn write_kind(out: &mut [u8], at: usize, form: u8, kind: u8) -> usize
         return write_text(out, at, b"u ");
     }
     let p = write_text(out, at, b"p");
-    let q = write_decimal(out, p, kind as u32);
+    let q = write_decimal(out, p, u32::from(kind));
     write_text(out, q, b" ")
 }

@@ -12,6 +12,8 @@ returns c =
     let far : length a.sub ≡ most = search (rules, c.well_formed) in
     let digits = rw (counted a.number.count a.number.digits long c.stored.ensures) at c.write_text-t.ensures in
     let sub = rw (sub_counted a.subcount a.sub far (omega arith) c.stored-2.ensures) at c.write_sub-v.ensures in
-    instance_wrote c.args.i c.write_procedure-p.ensures c.write_number-q.ensures c.write_number-k.ensures c.write_kind-m.ensures
+    let number = rw c.from.ensures at c.write_number-q.ensures in
+    let service = rw c.from-2.ensures at c.write_number-k.ensures in
+    instance_wrote c.args.i c.write_procedure-p.ensures number service c.write_kind-m.ensures
     (pen_then digits c.write_text-u.ensures)
     (pen_then sub c.write_text.ensures)

@@ -9,4 +9,4 @@ pub returns : goal.returns
 returns c =
     rw (kind_public _ _ c.if-form-eq-UNKNOWN.false) (pen_then
     c.write_text-p.ensures (pen_then
-    c.write_decimal-q.ensures c.write_text-2.ensures))
+    (rw c.from.ensures at c.write_decimal-q.ensures) c.write_text-2.ensures))
