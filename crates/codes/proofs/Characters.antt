@@ -1,7 +1,7 @@
 -- Laws of digits and of the types of a number, over plain values. Assumes nothing.
 use Prim.Native.Nat.{ℕ, zero, suc, ◌+◌, ◌*◌, ◌≤◌, ◌<◌}
 use mathlib.Core.Path.{◌≡◌, refl, ◌∙◌}
-use mathlib.Core.Bool.{Bool, true, false, ◌&&◌}
+use mathlib.Core.Bool.{Bool, true, false}
 use mathlib.Core.List.{List, [], ◌∷◌, ◌++◌}
 use native.Mathlib.Nat.{zero-mul, suc-mul, add_comm}
 use native.Mathlib.Numerals.{add-one}
@@ -16,6 +16,7 @@ use Rattle.std.proofs.lemmas.List.{take-append-drop, drop-drop}
 use Rattle.std.specs.List.{list_all}
 use Rattle.std.specs.Simd.{first_chunks}
 use Rattle.laws.proofs.Picks.{pick_ind, pick_then, pick_last}
+use Rattle.codes.proofs.Searches.{and_pick}
 use Rattle.codes.specs.Digits.{digit, all_digits, type_good}
 
 -- a character that is refused on either side, or else what is left
@@ -29,7 +30,7 @@ digit_step c rest =
     (λ high. rw (le-leb 48 c (ltb-false c 48 low), le-leb c 57 (ltb-false 57 c high))))
 
 -- what is left of a string decides: one character more
-pub digits_next :
+digits_next :
     (s : List ℕ) (i : ℕ) → i < length s →
     all_digits (drop i s) ≡ pick (digit (get_or s i 0)) (all_digits (drop (i + 1) s)) false
 unfolding all_digits
@@ -47,19 +48,9 @@ pick_both : (a b c : Bool) → pick a (pick b c false) false ≡ pick (pick a b 
 pick_both true b c = refl
 pick_both false b c = refl
 
--- std's `&&` and its test of a character
-and_pick : (a b : Bool) → (a && b) ≡ pick a b false
-and_pick true b = refl
-and_pick false b = refl
-
-digit_is : (c : ℕ) → is_ascii_digit c ≡ digit c
+-- std's test of a character
+pub digit_is : (c : ℕ) → is_ascii_digit c ≡ digit c
 digit_is c = rw (and_pick (leb 48 c) (leb c 57), pick_last (leb c 57))
-
--- std's test of all the characters
-pub digits_tested : (s : List ℕ) → list_all is_ascii_digit s ≡ all_digits s
-unfolding all_digits
-digits_tested [] = refl
-digits_tested (c ∷ cs) = rw (digits_tested cs, and_pick (is_ascii_digit c) (all_digits cs), digit_is c)
 
 -- those of one list and those of another
 digits_joined : (a b : List ℕ) → all_digits (a ++ b) ≡ pick (all_digits a) (all_digits b) false

@@ -1,24 +1,22 @@
 -- The tables of codes: each rule is one computed test, and one law over any list turns the test into the rule.
 -- Assumes nothing.
 use Prim.Native.Nat.{ℕ, zero, suc, ◌+◌, ◌<◌, ◌≤◌}
-use mathlib.Core.Path.{◌≡◌, refl, sym, ap}
-use mathlib.Core.Bool.{true, not, cond}
+use mathlib.Core.Path.{◌≡◌, refl, sym, ap, ◌∙◌}
+use mathlib.Core.Bool.{true, cond}
 use mathlib.Core.List.{List, [], ◌∷◌}
 use mathlib.Core.Logic.{⊎_elim}
 use native.Mathlib.Nat.{eq-or-lt_of_le}
-use native.Mathlib.Numerals.{add-one}
 use native.Mathlib.Omega.{arith}
-use lib.ListN.{length, get_or, drop}
-use lib.Seq.{drop-cons, drop-length}
+use lib.ListN.{length, get_or}
 use lib.Dec.{ltb, eqb}
-use borrow.Author.Tests.{lt-ltb, ltb-true, ltb-false, eqb-true, eq-eqb, ne_eqb}
+use borrow.Author.Tests.{lt-ltb, ltb-true, eqb-true, eq-eqb}
 use Rattle.std.specs.List.{position, position_or_len}
 use Rattle.std.specs.Option.{unwrap_or}
 use Rattle.std.specs.Prelude.{Option}
 use Rattle.std.proofs.lemmas.List.Recursion.{is_position_or_len}
-use Rattle.std.proofs.lemmas.List.Sums.{prefix_len-le-length}
 use Rattle.laws.proofs.Tests.{both_hold}
 use Rattle.laws.proofs.Picks.{pick_ind, pick_last}
+use Rattle.codes.proofs.Searches.{found_or_length}
 use Rattle.codes.specs.Codes.{services, trunk_reasons, place_of, ascends, apart, service_code, procedure_code}
 
 ascends_parts :
@@ -96,52 +94,17 @@ apart_place l h i k =
 
 -- ---- the search for a code
 
--- the place of a code is where std's search for it ends
-place_is : (code : ℕ) (l : List ℕ) → place_of code l ≡ position_or_len (λ x. eqb x code) l
+-- the place of a code is the first place at which it stands
+pub place_is : (code : ℕ) (l : List ℕ) → place_of code l ≡ position_or_len (λ x. eqb x code) l
 unfolding place_of
 place_is code =
     is_position_or_len (place_of code) (λ x. eqb x code) refl
     (λ x xs. pick_ind (λ n. n ≡ cond (eqb x code) 0 (1 + place_of code xs)) (eqb x code) (λ e. rw e) (λ e. rw e (omega arith)))
 
--- what std's search for a code finds is its place, or else the length
+-- what std's search for a code finds
 pub place_found :
     (code : ℕ) (l : List ℕ) (r : Option ℕ) → r ≡ position (λ x. eqb x code) l → unwrap_or r (length l) ≡ place_of code l
-place_found code l r e =
-    let n : ℕ = position_or_len (λ x. eqb x code) l in
-    rw (e, place_is code l)
-    (pick_ind (λ t. unwrap_or t (length l) ≡ n) (ltb n (length l)) (λ _. refl)
-    (λ e. omega (arith, ltb-false n (length l) e, prefix_len-le-length (λ x. not (eqb x code)) l)))
-
--- ---- the search for a code, turn by turn
-
--- a search that has come to i finds the code there
-pub place_here :
-    (code : ℕ) (l : List ℕ) (i : ℕ) → i < length l → get_or l i 0 ≡ code →
-    place_of code l ≡ i + place_of code (drop i l) →
-    i ≡ place_of code l
-unfolding place_of
-place_here code l i h e g =
-    let z : place_of code (drop i l) ≡ 0 = rw (drop-cons l i 0 h, eq-eqb _ _ e) in
-    omega arith
-
--- a search that has come to i, where another code stands, goes on
-pub place_next :
-    (code : ℕ) (l : List ℕ) (i : ℕ) → i < length l → (get_or l i 0 ≡ code → ⊥) →
-    place_of code l ≡ i + place_of code (drop i l) →
-    place_of code l ≡ i + 1 + place_of code (drop (i + 1) l)
-unfolding place_of
-place_next code l i h e g =
-    let z : place_of code (drop i l) ≡ suc (place_of code (drop (suc i) l)) = rw (drop-cons l i 0 h, ne_eqb _ _ e) in
-    rw add-one (omega arith)
-
--- a search that has come to the end finds nothing
-pub place_none :
-    (code : ℕ) (l : List ℕ) → place_of code l ≡ length l + place_of code (drop (length l) l) →
-    length l ≡ place_of code l
-unfolding place_of
-place_none code l g =
-    let z : place_of code (drop (length l) l) ≡ 0 = rw drop-length in
-    omega arith
+place_found code l r e = found_or_length (λ x. eqb x code) l r e ∙ sym (place_is code l)
 
 -- ---- the sixteen services
 

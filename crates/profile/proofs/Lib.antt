@@ -1,7 +1,7 @@
 pub mod Profiles
-pub mod Firsts
+pub mod Places
 pub mod Records
-pub mod Services
 pub mod Diversions
 pub mod Rising
 pub mod Tidied
+pub mod Made

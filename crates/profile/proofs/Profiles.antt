@@ -1,14 +1,18 @@
 -- Laws of profiles, over plain values: what the loops over one need, and what a good one gives. Assumes nothing.
-use Prim.Native.Nat.{ℕ, zero, suc, min, ◌+◌, ◌≤◌, ◌<◌}
-use mathlib.Core.Path.{◌≡◌, refl}
-use mathlib.Core.Bool.{Bool, true, false, false≢true}
-use mathlib.Core.List.{List, [], ◌∷◌}
+use Prim.Native.Nat.{ℕ, zero, suc, ◌+◌, ◌≤◌, ◌<◌}
+use mathlib.Core.Path.{◌≡◌, refl, sym, ap, ◌∙◌}
+use mathlib.Core.Bool.{Bool, true, false, ◌&&◌}
+use mathlib.Core.List.{List, [], ◌∷◌, map, reverse}
 use native.Mathlib.Numerals.{add-one}
 use native.Mathlib.Omega.{arith}
-use lib.ListN.{length, take, drop, get_or, length-take, drop_of_length-le}
-use lib.Seq.{drop-cons, get_or-take, slice, slice-cons, slice_empty, take_all}
+use lib.ListN.{length, take, drop, get_or}
+use lib.Seq.{drop-cons, drop-length}
 use lib.Dec.{ltb, leb, eqb}
 use borrow.Author.Tests.{eq-eqb, le-leb, ltb-true, leb-true, eqb-true}
+use Rattle.std.specs.Bool.{Decides}
+use Rattle.std.proofs.lemmas.Bool.Decides.{same_from_decides}
+use Rattle.std.proofs.lemmas.List.{reverse-reverse}
+use Rattle.std.proofs.lemmas.Slice.Eq.{IsBytesEq, compares_Decides}
 use Rattle.laws.specs.Pick.{pick}
 use Rattle.laws.specs.Tests.{all}
 use Rattle.laws.specs.Places.{every_to}
@@ -16,7 +20,7 @@ use Rattle.laws.proofs.Tests.{all_at}
 use Rattle.laws.proofs.Picks.{pick_ind, pick_last}
 use Rattle.laws.proofs.Walks.{every_at}
 use Rattle.codes.specs.Codes.{service_code}
-use Rattle.numbers.specs.Number.{most, digits_of, number_good, tidy_number}
+use Rattle.numbers.specs.Number.{digits_of, number_good, tidy_number}
 use Rattle.numbers.specs.declared.number.Number.{Number}
 use Rattle.profile.specs.Profile.{numbers_most, services_most, prefixes_most, served_numbers, subscribed_services, same_digits, same_number}
 use Rattle.profile.specs.Profile.{same, place_in, no_number}
@@ -27,64 +31,25 @@ use Rattle.profile.specs.declared.profile.Profile.{Profile}
 
 -- ---- the digits of two numbers
 
--- a test that stands behind another may come first
-swap : (b c d : Bool) → all (b ∷ pick c d false ∷ []) ≡ pick c (all (b ∷ d ∷ [])) false
-swap b true d = refl
-swap true false d = refl
-swap false false d = refl
-
--- the last digits of both, and those before them
-pub same_last :
-    (a b : List ℕ) (n i : ℕ) → n ≡ suc i → n ≤ length a → n ≤ length b →
-    same_digits (take n a) (take n b)
-    ≡ pick (eqb (get_or a i 0) (get_or b i 0)) (same_digits (take i a) (take i b)) false
+-- the test compares head by head, so it holds of equal digits alone
+compares : IsBytesEq same_digits
 unfolding same_digits
-same_last [] b n i e la lb = absurd (omega arith)
-same_last (x ∷ xs) [] n i e la lb = absurd (omega arith)
-same_last (x ∷ xs) (y ∷ ys) n zero e la lb = rw e
-same_last (x ∷ xs) (y ∷ ys) n (suc i) e la lb =
-    rw (e, same_last xs ys (suc i) i refl (omega arith) (omega arith))
-    (swap (eqb x y) (eqb (get_or xs i 0) (get_or ys i 0)) (same_digits (take i xs) (take i ys)))
+compares = record {
+  empty = refl;
+  shorter = λ _ _. refl;
+  longer = λ _ _. refl;
+  heads = λ x y xs ys. pick_ind (λ t. t ≡ (eqb x y && same_digits xs ys)) (eqb x y) (λ e. rw (e, pick_last)) (λ e. rw e);
+}
 
--- a record that counts more digits than it has room for has all of them
-pub same_all :
-    (a b : List ℕ) (n : ℕ) → most < n → length a ≡ most → length b ≡ most →
-    same_digits (take n a) (take n b) ≡ same_digits (take most a) (take most b)
-same_all a b n h la lb =
-    rw (
-      take_all n a (omega arith),
-      take_all n b (omega arith),
-      take_all most a (omega arith),
-      take_all most b (omega arith),
-    )
+digits_decide : (a b : List ℕ) → Decides (same_digits a b) (a ≡ b)
+digits_decide = compares_Decides same_digits compares
 
--- what is left to test of numbers of one form, type and count
-pub same_left :
-    (a b : Number) → a.form ≡ b.form → a.kind ≡ b.kind → a.count ≡ b.count →
-    same_number a b ≡ same_digits (take a.count a.digits) (take a.count b.digits)
-unfolding same_number
-same_left a b form kind count =
-    rw (
-      eq-eqb a.form b.form form,
-      eq-eqb a.kind b.kind kind,
-      eq-eqb a.count b.count count,
-      ← count,
-      pick_last,
-    )
-
-digits_refl : (a : List ℕ) → same_digits a a ≡ true
-unfolding same_digits
-digits_refl [] = refl
-digits_refl (x ∷ xs) = rw (eq-eqb x x refl, digits_refl xs)
-
-digits_same : (a b : List ℕ) → same_digits a b ≡ true → a ≡ b
-unfolding same_digits
-digits_same [] [] h = refl
-digits_same [] (y ∷ ys) h = absurd (false≢true h)
-digits_same (x ∷ xs) [] h = absurd (false≢true h)
-digits_same (x ∷ xs) (y ∷ ys) h =
-    let each = all_at (eqb x y ∷ same_digits xs ys ∷ []) in
-    rw (eqb-true x y (each 0 h), digits_same xs ys (each 1 h))
+-- digits that agree from the last to the first
+pub same_by_ends : (a b : List ℕ) (r : Bool) → Decides r (reverse a ≡ reverse b) → r ≡ same_digits a b
+same_by_ends a b r ends =
+    let d = digits_decide a b in
+    let turned = λ (e : reverse a ≡ reverse b). sym (reverse-reverse a) ∙ ap reverse e ∙ reverse-reverse b in
+    same_from_decides r (same_digits a b) ends (λ e. ap reverse (d.0 e), λ e. d.1 (turned e))
 
 -- a number is the same as itself
 pub same_refl : (p : Profile) (a : Number) → same p a a ≡ true
@@ -94,7 +59,7 @@ same_refl p a =
       eq-eqb a.form a.form refl,
       eq-eqb a.kind a.kind refl,
       eq-eqb a.count a.count refl,
-      digits_refl (digits_of a),
+      (digits_decide (digits_of a) (digits_of a)).1 refl,
     )
 
 -- numbers that are the same differ at most past their digits
@@ -108,7 +73,7 @@ same_tidy a b h =
     rw (
       eqb-true a.form b.form (each 0 h),
       eqb-true a.kind b.kind (each 1 h),
-      digits_same (digits_of a) (digits_of b) (each 3 h),
+      (digits_decide (digits_of a) (digits_of b)).0 (each 3 h),
     )
 
 -- ---- the place of a number
@@ -119,49 +84,6 @@ unfolding place_in
 place_most p n [] = omega arith
 place_most p n (x ∷ xs) =
     pick_ind (λ k. k ≤ length (x ∷ xs)) (same p x n) (λ _. omega arith) (λ _. omega (arith, place_most p n xs))
-
-module _ (p : Profile) (n : Number) (count : ℕ) (numbers : List Number) where
-  -- a search that has come to k
-  abbrev pub Come : ℕ → Type 0
-  Come k = place_in p n (take count numbers) ≡ k + place_in p n (drop k (take count numbers))
-
-  -- meets one number more
-  step :
-      (k : ℕ) → k < count → k < length numbers →
-      place_in p n (drop k (take count numbers))
-      ≡ pick (same p (get_or numbers k no_number) n) 0 (1 + place_in p n (drop (suc k) (take count numbers)))
-  unfolding place_in
-  step k h long =
-      rw (
-        drop-cons (take count numbers) k no_number (omega (arith, length-take count numbers)),
-        get_or-take count numbers k no_number h,
-      )
-
-  -- finds the number there
-  pub number_here :
-      (k : ℕ) → k < count → k < length numbers → same p (get_or numbers k no_number) n ≡ true → Come k →
-      k ≡ place_in p n (take count numbers)
-  number_here k h long e come =
-      let z : place_in p n (drop k (take count numbers)) ≡ 0 = rw (step k h long, e) in
-      omega arith
-
-  -- goes on where another number stands
-  pub number_next :
-      (k : ℕ) → k < count → k < length numbers → same p (get_or numbers k no_number) n ≡ false → Come k →
-      Come (k + 1)
-  number_next k h long e come =
-      let z : place_in p n (drop k (take count numbers)) ≡ 1 + place_in p n (drop (suc k) (take count numbers)) =
-      rw (step k h long, e) in
-      rw add-one (omega arith)
-
-  -- finds nothing where there are no more numbers
-  pub number_none :
-      (k : ℕ) → min count (length numbers) ≤ k → Come k → k ≡ place_in p n (take count numbers)
-  unfolding place_in
-  number_none k h come =
-      let past : length (take count numbers) ≤ k = omega (arith, length-take count numbers) in
-      let z : place_in p n (drop k (take count numbers)) ≡ 0 = rw (drop_of_length-le (take count numbers) past) in
-      omega arith
 
 -- ---- what is left to test where a count keeps its bounds
 
@@ -197,22 +119,36 @@ pub prefixes_fair :
 unfolding prefixes_good
 prefixes_fair p few = rw (le-leb p.prefixcount prefixes_most few, pick_last)
 
+-- the tests of the three subscriptions, one by one
+three_each :
+    (l : List ℕ) → length l ≡ 3 →
+    all (map flag l) ≡ all (flag (get_or l 0 0) ∷ flag (get_or l 1 0) ∷ flag (get_or l 2 0) ∷ [])
+three_each [] h = absurd (omega arith)
+three_each (a ∷ []) h = absurd (omega arith)
+three_each (a ∷ b ∷ []) h = absurd (omega arith)
+three_each (a ∷ b ∷ c ∷ []) h = refl
+three_each (a ∷ b ∷ c ∷ d ∷ l) h = absurd (omega arith)
+
+pub three_flags : (p : Profile) → length p.subscribed ≡ 3 → all (map flag p.subscribed) ≡ subscriptions_good p
+unfolding subscriptions_good
+three_flags p = three_each p.subscribed
+
 -- ---- services that ascend
 
 -- what is left decides: one service more
 pub rising_step :
-    (below : ℕ) (l : List ℕ) (n k : ℕ) → k < n → n ≤ length l →
-    rising below (slice k n l)
+    (below : ℕ) (l : List ℕ) (k : ℕ) → k < length l →
+    rising below (drop k l)
     ≡ pick (ltb below (get_or l k 0))
-    (pick (service_code (get_or l k 0)) (rising (get_or l k 0) (slice (k + 1) n l)) false)
+    (pick (service_code (get_or l k 0)) (rising (get_or l k 0) (drop (k + 1) l)) false)
     false
 unfolding rising
-rising_step below l n k h long = rw (slice-cons k n l 0 h long, add-one, pick_last)
+rising_step below l k h = rw (add-one, drop-cons l k 0 h, pick_last)
 
 -- nothing is left
-pub rising_end : (below : ℕ) (l : List ℕ) (n : ℕ) → rising below (slice n n l) ≡ true
+pub rising_end : (below : ℕ) (l : List ℕ) → rising below (drop (length l) l) ≡ true
 unfolding rising
-rising_end below l n = rw (slice_empty n l)
+rising_end below l = rw drop-length
 
 -- the first of several: it is above `below`, one of the sixteen, and the others rise above it
 pub record First (below code : ℕ) (codes : List ℕ) : Type 0 where

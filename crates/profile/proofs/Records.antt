@@ -3,9 +3,8 @@ use Prim.Native.Nat.{ℕ, ◌+◌, ◌*◌, ◌-◌, ◌≤◌, ◌<◌}
 use mathlib.Core.Path.{◌≡◌, refl, sym, ap, ◌∙◌}
 use mathlib.Core.Bool.{Bool, true, false, false≢true}
 use mathlib.Core.List.{List, [], ◌∷◌}
-use native.Mathlib.Nat.{add_assoc}
 use native.Mathlib.Omega.{arith}
-use lib.ListN.{length, take, drop, get_or, set, replicate, length-set}
+use lib.ListN.{length, take, drop, get_or, replicate}
 use lib.Dec.{eqb}
 use lib.Seq.{take-length, slice, length-slice}
 use borrow.Author.Tests.{eqb-true}
@@ -15,15 +14,15 @@ use Rattle.laws.specs.Over.{Puts, over}
 use Rattle.laws.specs.Pick.{pick}
 use Rattle.laws.specs.Places.{each_from}
 use Rattle.laws.specs.Tests.{all}
-use Rattle.laws.proofs.Each.{get_d_each, spelled, each_spelled, each_set, each_done, slice_each}
+use Rattle.laws.proofs.Each.{get_d_each, spelled, each_spelled, slice_each}
 use Rattle.laws.proofs.Picks.{pick_ind}
 use Rattle.laws.proofs.Over.{wrote, take_over, length_over}
 use Rattle.laws.proofs.Parts.{part_slice}
 use Rattle.numbers.specs.Number.{most}
 use Rattle.numbers.specs.declared.number.Number.{Number}
-use Rattle.profile.specs.Profile.{numbers_most, no_number, services_most, prefixes_most, profile_good}
-use Rattle.profile.specs.Access.{numbers_at, number_size, services_at, subscribed_at, flags_at, prefixes_at, prefix_size}
-use Rattle.profile.specs.Access.{access_size, number_from, prefix_from, prefixes_from, profile_from, AccessRead, no_access, access_read, profile_read}
+use Rattle.profile.specs.Profile.{numbers_most, no_number, services_most, profile_good}
+use Rattle.profile.specs.Access.{numbers_at, number_size, services_at, subscribed_at, flags_at}
+use Rattle.profile.specs.Access.{access_size, number_from, prefixes_from, profile_from, AccessRead, no_access, access_read, profile_read}
 use Rattle.profile.specs.declared.profile.Prefix.{Prefix}
 use Rattle.profile.specs.declared.profile.Profile.{Profile}
 use Rattle.laws.proofs.Tests.{all_at}
@@ -47,57 +46,16 @@ digits_copied s at h p =
     let part = part_slice at (at + most) s in
     (wrote (rw part (omega arith)) p).holds ∙ rw part (whole_over (slice at (at + most) s) long)
 
--- ---- numbers and prefixes, which end with them
-
-pub number_made :
-    (s : List ℕ) (at : ℕ) (digits : List ℕ) → digits ≡ slice (at + 3) (at + 3 + most) s →
-    ◌≡◌ {A = Number}
-    record { form = get_or s at 0; kind = get_or s (at + 1) 0; count = get_or s (at + 2) 0; digits = digits }
-    (number_from s at)
-unfolding number_from
-number_made s at digits e = rw (e, add_assoc)
-
-pub prefix_made :
-    (s : List ℕ) (at : ℕ) (digits : List ℕ) → digits ≡ slice (at + 1) (at + 1 + most) s →
-    ◌≡◌ {A = Prefix} record { count = get_or s at 0; digits = digits } (prefix_from s at)
-unfolding prefix_from
-prefix_made s at digits e = rw (e, add_assoc)
-
--- ---- the prefixes: their array is filled from the front
-
-module _ (s : List ℕ) where
-  -- the prefix at a place
-  abbrev prefix_of : ℕ → Prefix
-  prefix_of k = prefix_from s (prefixes_at + prefix_size * k)
-
-  -- the first k places of the array hold their prefixes
-  abbrev pub Prefixed : List Prefix → ℕ → Type 0
-  Prefixed l k = (length l ≡ prefixes_most) × (take k l ≡ each_from prefix_of k 0)
-
-  pub prefixes_first : (f : Prefix) → f ≡ prefix_of 0 → Prefixed (replicate prefixes_most f) 1
-  prefixes_first f e = (refl, rw (each_spelled, e))
-
-  pub prefixes_next :
-      (l : List Prefix) (k : ℕ) (f : Prefix) → k < prefixes_most → f ≡ prefix_of k → Prefixed l k → Prefixed (set l k f) (k + 1)
-  prefixes_next l k f h e p = (length-set l k f ∙ p.0, each_set prefix_of l k f (omega (arith, p.0)) e p.1)
-
-  pub prefixes_all : (l : List Prefix) → Prefixed l prefixes_most → l ≡ prefixes_from s
-  unfolding prefixes_from
-  prefixes_all l p = each_done prefix_of prefixes_most l p.0 p.1
-
 -- ---- the profile, field by field
 
 pub profile_made :
-    (s : List ℕ) (a b c d : Number) (prefixes : List Prefix) → length s ≡ access_size →
-    a ≡ number_from s numbers_at →
-    b ≡ number_from s (numbers_at + number_size) →
-    c ≡ number_from s (numbers_at + number_size * 2) →
-    d ≡ number_from s (numbers_at + number_size * 3) →
+    (s : List ℕ) (numbers : List Number) (prefixes : List Prefix) → length s ≡ access_size →
+    numbers ≡ each_from (λ k. number_from s (numbers_at + number_size * k)) numbers_most 0 →
     prefixes ≡ prefixes_from s →
     ◌≡◌ {A = Profile}
     record {
       numbercount = get_or s 0 0;
-      numbers = a ∷ b ∷ c ∷ d ∷ [];
+      numbers = numbers;
       servicecount = get_or s 93 0;
       services = spelled (λ k. get_or s k 0) services_most services_at;
       subscribed = spelled (λ k. get_or s k 0) 3 subscribed_at;
@@ -113,15 +71,11 @@ pub profile_made :
     }
     (profile_from s)
 unfolding profile_from
-profile_made s a b c d prefixes long first second third fourth rest =
+profile_made s numbers prefixes long served rest =
     rw (
       slice_each s 0 services_at services_most (omega arith) ∙ each_spelled _ _ _,
       slice_each s 0 subscribed_at 3 (omega arith) ∙ each_spelled _ _ _,
-      each_spelled,
-      first,
-      second,
-      third,
-      fourth,
+      served,
       rest,
     )
 

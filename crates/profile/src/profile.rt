@@ -1,6 +1,5 @@
 // A profile, and whether it breaks a rule (document 01, "Profile and table").
-ghost use Rattle.std.specs.Prelude.{◌≡◌, ◌≤◌, take};
-ghost use Rattle.numbers.specs.Number.{most};
+ghost use Rattle.std.specs.Prelude.{◌≡◌, length};
 ghost use Rattle.profile.specs.Profile.{same_digits, same_number, prefix_good, numbers_good, services_good, subscriptions_good, uses_good, diversion_good, prefixes_good, profile_good, Same, NumberPlace, ServiceSlot};
 
 use codes::service_code;
@@ -22,7 +21,7 @@ pub struct Prefix {
 }
 
 // What the carrier has agreed with the subscriber. Places past a count carry no meaning; the fields from `subscribed` to `release`
-// are 0 or 1, but for `option`.
+// are 0 or 1, but for `option`. They are octets and no `bool`: `profile_from` has the record as it stands, and `profile_good` judges it.
 #[repr(C)]
 #[derive(Clone, Copy)]
 pub struct Profile {
@@ -42,44 +41,28 @@ pub struct Profile {
     pub prefixes: [Prefix; PREFIXES],
 }
 
-// From the last digit to the first: the numbers of an access differ at their ends.
-fn same_digits(a: [u8; MOST], b: [u8; MOST], n: usize) -> bool
-    requires { n ≤ most }
-    ensures { result ≡ same_digits (take n a) (take n b) }
+// From the last digit, since the numbers of an access differ at their ends: by `==`, `number_place` takes 406 instructions, not 273.
+fn same_digits(a: &[u8], b: &[u8]) -> bool
+    requires { length a.now ≡ length b.now }
+    ensures { result ≡ same_digits a.now b.now }
 {
-    let mut i = n;
-    while 0 < i {
-        i -= 1;
-        if a[i] != b[i] {
-            return false;
-        }
-    }
-    true
+    a.iter().rev().zip(b.iter().rev()).all(|(x, y)| x == y)
 }
 
 // Whether form, type and digits agree.
+#[tactic(auto, using(laws::proofs::Cases::cases, laws::proofs::Picks::pick_last), unfolding(crate::specs::Profile::same_number))]
 fn same_number(a: Number, b: Number) -> bool
     ensures { result ≡ same_number a b }
 {
-    if a.form != b.form {
-        return false;
-    }
-    if a.kind != b.kind {
-        return false;
-    }
-    if a.count != b.count {
-        return false;
-    }
-    let mut count = a.count as usize;
-    if MOST < count {
-        count = MOST;
-    }
-    let x = a.digits;
-    let y = b.digits;
-    same_digits(x, y, count)
+    let count = usize::from(a.count).min(MOST);
+    a.form == b.form
+        && a.kind == b.kind
+        && a.count == b.count
+        && same_digits(&a.digits[..count], &b.digits[..count])
 }
 
 // Whether an access takes two numbers for the same.
+#[tactic(auto, unfolding(crate::specs::Profile::same))]
 pub fn same(p: Profile, a: Number, b: Number) -> bool
     ensures { Same p a b result }
 {
@@ -90,98 +73,63 @@ pub fn same(p: Profile, a: Number, b: Number) -> bool
 pub fn number_place(p: Profile, n: Number) -> usize
     ensures { NumberPlace p n result }
 {
-    let count = p.numbercount as usize;
-    let numbers = p.numbers;
-    let mut k: usize = 0;
-    while k < NUMBERS {
-        if count <= k {
-            return k;
-        }
-        let x = numbers[k];
-        if same(p, x, n) {
-            return k;
-        }
-        k += 1;
-    }
-    k
+    let count = usize::from(p.numbercount).min(NUMBERS);
+    p.numbers[..count]
+        .iter()
+        .position(|x| same(p, *x, n))
+        .unwrap_or(count)
 }
 
 // The place of the service among those of the profile; how many there are where it is none of them.
 pub fn service_slot(p: Profile, service: u8) -> usize
     ensures { ServiceSlot p service result }
 {
-    let count = p.servicecount as usize;
-    let services = p.services;
-    let mut k: usize = 0;
-    while k < SERVICES {
-        if count <= k {
-            return k;
-        }
-        if services[k] == service {
-            return k;
-        }
-        k += 1;
-    }
-    k
+    let count = usize::from(p.servicecount).min(SERVICES);
+    p.services[..count]
+        .iter()
+        .position(|x| *x == service)
+        .unwrap_or(count)
 }
 
+// The numbers are copied out of the profile, as the services are below: lent by `p`, a record takes 1,001 instructions to read, not 853.
+#[tactic(auto, using(laws::proofs::Cases::cases), unfolding(crate::specs::Profile::numbers_good))]
 fn numbers_good(p: Profile) -> bool
     ensures { result ≡ numbers_good p }
 {
-    let count = p.numbercount as usize;
+    let count = usize::from(p.numbercount);
     let numbers = p.numbers;
-    if count < 1 {
+    if count < 1 || NUMBERS < count {
         return false;
     }
-    if NUMBERS < count {
-        return false;
-    }
-    let mut k: usize = 0;
-    while k < count {
-        let n = numbers[k];
-        if !number_good(n) {
+    let served = &numbers[..count];
+    for (k, n) in served.iter().enumerate() {
+        if !number_good(*n) || served[..k].iter().any(|x| same(p, *x, *n)) {
             return false;
         }
-        let mut j: usize = 0;
-        while j < k {
-            let x = numbers[j];
-            if same(p, x, n) {
-                return false;
-            }
-            j += 1;
-        }
-        k += 1;
     }
     true
 }
 
+#[tactic(auto, using(laws::proofs::Cases::cases), unfolding(crate::specs::Profile::services_good))]
 fn services_good(p: Profile) -> bool
     ensures { result ≡ services_good p }
 {
-    let count = p.servicecount as usize;
+    let count = usize::from(p.servicecount);
     let services = p.services;
-    if count < 1 {
+    if count < 1 || SERVICES < count {
         return false;
     }
-    if SERVICES < count {
-        return false;
-    }
-    let mut below: u8 = 0;
-    let mut k: usize = 0;
-    while k < count {
-        let code = services[k];
-        if code <= below {
+    let mut below = 0;
+    for code in &services[..count] {
+        if *code <= below || !service_code(*code) {
             return false;
         }
-        if !service_code(code) {
-            return false;
-        }
-        below = code;
-        k += 1;
+        below = *code;
     }
     true
 }
 
+#[tactic(auto, unfolding(crate::specs::Profile::prefix_good))]
 fn prefix_good(f: Prefix) -> bool
     ensures { result ≡ prefix_good f }
 {
@@ -194,11 +142,11 @@ fn prefix_good(f: Prefix) -> bool
     })
 }
 
-// Most profiles have no prefix, and then the array is not copied.
+// Most profiles have no prefix, and then the array is not copied. As one chain over `p`, a record takes 963 instructions to read, not 853.
 fn prefixes_good(p: Profile) -> bool
     ensures { result ≡ prefixes_good p }
 {
-    let count = p.prefixcount as usize;
+    let count = usize::from(p.prefixcount);
     if count == 0 {
         return true;
     }
@@ -206,84 +154,38 @@ fn prefixes_good(p: Profile) -> bool
         return false;
     }
     let prefixes = p.prefixes;
-    let mut k: usize = 0;
-    while k < count {
-        let f = prefixes[k];
-        if !prefix_good(f) {
-            return false;
-        }
-        k += 1;
-    }
-    true
+    prefixes[..count].iter().all(|f| prefix_good(*f))
 }
 
 fn subscriptions_good(p: Profile) -> bool
     ensures { result ≡ subscriptions_good p }
 {
-    let subscribed = p.subscribed;
-    if 1 < subscribed[0] {
-        return false;
-    }
-    if 1 < subscribed[1] {
-        return false;
-    }
-    subscribed[2] <= 1
+    p.subscribed.iter().all(|flag| *flag <= 1)
 }
 
+#[tactic(auto, using(laws::proofs::Cases::cases, laws::proofs::Picks::pick_last), unfolding(crate::specs::Profile::uses_good))]
 fn uses_good(p: Profile) -> bool
     ensures { result ≡ uses_good p }
 {
-    if 1 < p.all {
-        return false;
-    }
-    if 1 < p.inuse {
-        return false;
-    }
-    if 1 < p.counted {
-        return false;
-    }
-    if 1 < p.msn {
-        return false;
-    }
-    if p.msn == 1 {
-        return true;
-    }
-    p.numbercount == 1
+    p.all <= 1 && p.inuse <= 1 && p.counted <= 1 && p.msn <= 1 && (p.msn == 1 || p.numbercount == 1)
 }
 
+#[tactic(auto, using(laws::proofs::Cases::cases, laws::proofs::Picks::pick_last), unfolding(crate::specs::Profile::diversion_good))]
 fn diversion_good(p: Profile) -> bool
     ensures { result ≡ diversion_good p }
 {
-    if 2 < p.option {
-        return false;
-    }
-    if 1 < p.release {
-        return false;
-    }
-    if p.limit < 1 {
-        return false;
-    }
-    p.limit <= 5
+    p.option <= 2 && p.release <= 1 && 1 <= p.limit && p.limit <= 5
 }
 
 // Whether a profile breaks no rule.
+#[tactic(auto, using(laws::proofs::Cases::cases, laws::proofs::Picks::pick_last), unfolding(crate::specs::Profile::profile_good))]
 pub(crate) fn profile_good(p: Profile) -> bool
     ensures { result ≡ profile_good p }
 {
-    if !numbers_good(p) {
-        return false;
-    }
-    if !services_good(p) {
-        return false;
-    }
-    if !subscriptions_good(p) {
-        return false;
-    }
-    if !uses_good(p) {
-        return false;
-    }
-    if !diversion_good(p) {
-        return false;
-    }
-    prefixes_good(p)
+    numbers_good(p)
+        && services_good(p)
+        && subscriptions_good(p)
+        && uses_good(p)
+        && diversion_good(p)
+        && prefixes_good(p)
 }

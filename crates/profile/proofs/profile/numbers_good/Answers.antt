@@ -1,79 +1,52 @@
-use Rattle.laws.proofs.Cases.{cases}
-use Rattle.profile.proofs.Profiles.{number_fits, numbers_fit, numbers_fair}
-use Rattle.profile.proofs.Firsts.{same_at, first_here, later_not}
-use Rattle.profile.specs.Profile.{numbers_most, numbers_good}
-use Rattle.laws.specs.Places.{count_to}
 use Rattle.laws.proofs.Parts.{unmapped}
-use Rattle.laws.proofs.Walks.{count_none, count_skip, every_none, every_more, every_fails}
-use borrow.Author.Tests.{eq-eqb, ne_eqb}
-use borrow.Author.Rules.{rules}
-use native.Mathlib.Omega.{arith}
-use lib.ListN.{length}
-use mathlib.Core.Path.{◌≡◌, sym, ap, ◌∙◌}
+use Rattle.laws.proofs.Walks.{every_none, every_more, every_fails}
+use Rattle.numbers.specs.declared.number.Number.{Number}
+use Rattle.profile.proofs.Places.{fits_bad, fits_own}
+use Rattle.profile.proofs.Profiles.{number_fits, numbers_fit, numbers_fair}
+use Rattle.profile.specs.Profile.{numbers_most, no_number, same}
+use Rattle.std.proofs.Common.{rules, arith, length, length-take, take, get_or, ◌<◌, ◌≡◌, ◌∙◌, sym, ap, not}
+use Rattle.std.proofs.lemmas.Iterator.{YieldsList-from_slice}
+use Rattle.std.proofs.lemmas.Iterator.Search.{any_from_yields_List}
 use Rattle.profile.proofs.profile.numbers_good.Goals as goal
-
-pub returns-then-count-lt1 : goal.returns-then-count-lt1
-unfolding numbers_good
-returns-then-count-lt1 c = search cases
-
-pub returns-then-count-gt-NUMBERS : goal.returns-then-count-gt-NUMBERS
-unfolding numbers_good
-returns-then-count-gt-NUMBERS c = search cases
+use Rattle.profile.proofs.profile.numbers_good.Goals.{then-not-number_good-via-then-not-number_good, then-not-number_good-via-else-not-number_good+then-any}
 
 pub loop-k-init : goal.loop-k-init
-loop-k-init c =
-    let s = c.args.p in
-    (omega arith, every_none (number_fits s s.numbercount s.numbers))
+loop-k-init c = every_none (number_fits c.args.p c.args.p.numbercount c.args.p.numbers)
 
 pub returns-then-not-number_good : goal.returns-then-not-number_good
 returns-then-not-number_good c =
-    let s = c.args.p in
-    sym
-    (numbers_fair s (omega arith) (omega arith)
-    ∙ every_fails (number_fits s s.numbercount s.numbers) s.numbercount c.loop-k.k (omega arith)
-    (rw (sym c.number_good.ensures ∙ c.if-not-number_good.true)))
-
-pub loop-j-init : goal.loop-j-init
-loop-j-init c =
-    let s = c.args.p in
-    (omega arith, sym (count_none (same_at s s.numbers _)))
-
-pub returns-then-same : goal.returns-then-same
-returns-then-same c =
-    let s = c.args.p in
-    let long : length s.numbers ≡ numbers_most = search (unmapped, rules, c.well_formed) in
+    let p = c.args.p in
+    let long : length p.numbers ≡ numbers_most = search (unmapped, rules) in
     let k = c.loop-k.k in
-    let same = sym c.same.ensures ∙ c.if-same.true in
-    sym (numbers_fair s (omega arith) (omega arith)
-    ∙ every_fails (number_fits s s.numbercount s.numbers) s.numbercount k (omega arith)
-    (rw (
-      sym c.number_good.ensures ∙ c.if-not-number_good.false,
-      ne_eqb _ _ (later_not s s.numbers s.numbercount k (omega arith) (omega arith) c.loop-j.j (omega arith) same),
-    )))
-
-pub loop-j-preserved : goal.loop-j-preserved
-loop-j-preserved c =
-    let s = c.args.p in
-    let other = sym c.same.ensures ∙ c.if-same.false in
-    (omega arith, count_skip (same_at s s.numbers _) c.loop-j.j 0 other c.loop-j.invariant.1)
+    let m = c.from-count.result in
+    let good = rw c.from-count.ensures at c.number_good.ensures in
+    let lt : k < p.numbercount = omega (arith, length-take m p.numbers) in
+    let fails = every_fails (number_fits p p.numbercount p.numbers) p.numbercount k lt in
+    sym (numbers_fair p (omega arith) (omega arith) ∙ elim c.then-not-number_good.branch [
+      | then-not-number_good-via-then-not-number_good w ↦ fails (fits_bad p p.numbercount p.numbers k lt (omega arith) (sym good ∙ w.if-not-number_good.true))
+      | then-not-number_good-via-else-not-number_good+then-any w ↦
+          let met = any_from_yields_List (λ (x : Number). same p x (get_or (take m p.numbers) k no_number)) _ _ w.any.result w.any.ensures.ran (YieldsList-from_slice (take k (take m p.numbers)) cc) (λ x b q j. search rules) in
+          fails
+          (fits_own p p.numbercount p.numbers k lt (omega arith) (sym good ∙ w.if-not-number_good.false)
+          ∙ ap not (sym (rw c.from-count.ensures at met) ∙ w.if-any.true))
+    ])
 
 pub loop-k-preserved : goal.loop-k-preserved
 loop-k-preserved c =
-    let s = c.args.p in
-    let long : length s.numbers ≡ numbers_most = search (unmapped, rules, c.well_formed) in
+    let p = c.args.p in
+    let long : length p.numbers ≡ numbers_most = search (unmapped, rules) in
     let k = c.loop-k.k in
-    let all : c.loop-j.j ≡ k = omega arith in
-    let none = ap (count_to (same_at s s.numbers _)) (sym all) ∙ sym c.loop-j.invariant.1 in (
-      omega arith,
-      every_more (number_fits s s.numbercount s.numbers) k c.loop-k.invariant.1
-          (rw (
-            sym c.number_good.ensures ∙ c.if-not-number_good.false,
-            eq-eqb _ _ (first_here s s.numbers s.numbercount k (omega arith) (omega arith) none),
-          )),
-    )
+    let m = c.from-count.result in
+    let good = rw c.from-count.ensures at c.number_good.ensures in
+    let lt : k < p.numbercount = omega (arith, length-take m p.numbers) in
+    let met = any_from_yields_List (λ (x : Number). same p x (get_or (take m p.numbers) k no_number)) _ _ c.any.result c.any.ensures.ran (YieldsList-from_slice (take k (take m p.numbers)) cc) (λ x b q j. search rules) in
+    every_more (number_fits p p.numbercount p.numbers) k c.loop-k.invariant
+    (fits_own p p.numbercount p.numbers k lt (omega arith) (sym good ∙ c.if-not-number_good.false)
+    ∙ ap not (sym (rw c.from-count.ensures at met) ∙ c.if-any.false))
 
 pub returns : goal.returns
 returns c =
-    let s = c.args.p in
-    let e : c.loop-k.k ≡ s.numbercount = omega arith in
-    sym (numbers_fair s (omega arith) (omega arith) ∙ ap (numbers_fit s) (sym e) ∙ c.loop-k.invariant.1)
+    let p = c.args.p in
+    let long : length p.numbers ≡ numbers_most = search (unmapped, rules) in
+    let e : c.loop-k.k ≡ p.numbercount = omega (arith, length-take c.from-count.result p.numbers) in
+    sym (numbers_fair p (omega arith) (omega arith) ∙ ap (numbers_fit p) (sym e) ∙ c.loop-k.invariant)

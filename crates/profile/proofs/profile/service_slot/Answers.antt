@@ -1,36 +1,15 @@
-use Rattle.profile.proofs.Services.{slot_here, slot_next, slot_none}
+use Rattle.profile.proofs.Places.{slot_found}
 use Rattle.profile.specs.Profile.{services_most}
-use borrow.Author.Rules.{rules}
-use native.Mathlib.Omega.{arith}
-use lib.ListN.{length}
-use mathlib.Core.Path.{◌≡◌}
+use Rattle.std.proofs.Common.{rules, tests, eqb, arith, length, take, ◌≡◌, ◌∙◌}
+use Rattle.std.proofs.lemmas.Iterator.{YieldsList-from_slice}
+use Rattle.std.proofs.lemmas.Iterator.Search.{position_from_yields_List}
+use Prim.Native.Nat.{ℕ, min}
 use Rattle.profile.proofs.profile.service_slot.Goals as goal
-
-pub loop-k-init : goal.loop-k-init
-loop-k-init c = (omega arith, omega arith)
-
-pub returns-then-count-k : goal.returns-then-count-k
-returns-then-count-k c =
-    let s = c.args in
-    slot_none s.service s.p.servicecount s.p.services c.loop-k.k (omega arith) c.loop-k.invariant.1
-
-pub returns-then-services-k : goal.returns-then-services-k
-returns-then-services-k c =
-    let s = c.args in
-    let long : length s.p.services ≡ services_most = search rules in
-    slot_here s.service s.p.servicecount s.p.services c.loop-k.k (omega arith) (omega arith) c.if-services-k.true c.loop-k.invariant.1
-
-pub loop-k-preserved : goal.loop-k-preserved
-loop-k-preserved c =
-    let s = c.args in
-    let long : length s.p.services ≡ services_most = search rules in (
-      omega arith,
-      slot_next s.service s.p.servicecount s.p.services c.loop-k.k (omega arith) (omega arith) c.if-services-k.false
-          c.loop-k.invariant.1,
-    )
 
 pub returns : goal.returns
 returns c =
-    let s = c.args in
-    let long : length s.p.services ≡ services_most = search rules in
-    slot_none s.service s.p.servicecount s.p.services c.loop-k.k (omega arith) c.loop-k.invariant.1
+    let p = c.args.p in
+    let long : length p.services ≡ services_most = search rules in
+    let count : c.min-count.result ≡ min p.servicecount services_most = omega arith in
+    let found = position_from_yields_List (λ (x : ℕ). eqb x c.args.service) _ _ c.position.result c.position.ensures.ran (YieldsList-from_slice (take c.min-count.result p.services) cc) (λ x b q k. search (rules, tests)) in
+    c.unwrap_or.ensures ∙ rw count (slot_found c.args.service p.servicecount services_most p.services c.position.result long (rw count at found))
