@@ -1,17 +1,14 @@
 -- What the writers of instances and of a night sheet leave, from what each of their steps leaves. Assumes nothing.
 use Prim.Native.Nat.{ℕ, zero, suc, ◌+◌, ◌≤◌, ◌<◌}
-use mathlib.Core.Path.{◌≡◌}
 use mathlib.Core.List.{List, [], ◌∷◌}
 use native.Mathlib.Numerals.{add-one}
 use native.Mathlib.Omega.{arith}
 use lib.ListN.{length, take, get_or, length-append, length-take}
-use lib.Seq.{take-suc, take_all, get_or-take}
+use lib.Seq.{take-suc, take_all}
 use Rattle.laws.specs.Over.{Wrote}
 use Rattle.laws.proofs.Over.{wrote_length, then, wrote_none}
 use Rattle.groups.specs.Groups.{PutGroups}
-use Rattle.instances.specs.Run.{instances_of}
 use Rattle.instances.specs.declared.instance.Instance.{Instance}
-use Rattle.instances.specs.declared.run.Run.{Run}
 use Rattle.forms.specs.declared.form.Form.{Form}
 use Rattle.forms.specs.Size.{instance_most}
 use Rattle.forms.specs.Instance.{all_groups, address_fields, instance_fields}
@@ -70,27 +67,19 @@ module _ (l : List Instance) (xs : List ℕ) (at : ℕ) where
     run_all h = rw (take_all i l h) at so
 
     -- there is space for one more, which is written
-    module _ (more : i < length l) (x d : Instance) (is : get_or l i d ≡ x) where
-      pub run_space : Space xs at l → Space ys p (x ∷ [])
+    module _ (more : i < length l) (d : Instance) where
+      abbrev here : Instance
+      here = get_or l i d
+
+      pub run_space : Space xs at l → Space ys p (here ∷ [])
       run_space fits = omega (arith, fits, so.within, wrote_length so.holds, length-take i l)
 
-      pub run_next : {q : ℕ} {zs : List ℕ} → WroteInstances ys p (x ∷ []) q zs → WroteInstances xs at (take (i + 1) l) q zs
+      pub run_next : {q : ℕ} {zs : List ℕ} → WroteInstances ys p (here ∷ []) q zs → WroteInstances xs at (take (i + 1) l) q zs
       run_next next =
-          rw (add-one i, take-suc l i d more, is) (record {
-            holds = rw (octets_both (take i l) (x ∷ [])) (then so.holds next.holds);
-            within = omega (arith, so.within, next.within, length-append (take i l) (x ∷ []));
+          rw (add-one i, take-suc l i d more) (record {
+            holds = rw (octets_both (take i l) (here ∷ [])) (then so.holds next.holds);
+            within = omega (arith, so.within, next.within, length-append (take i l) (here ∷ []));
           })
-
--- what a run counts is in its array
-module _ (run : Run) (i : ℕ) where
-  pub met : (d : Instance) → i < run.count → i < length run.run → (i < length (instances_of run)) × (get_or (instances_of run) i d ≡ get_or run.run i d)
-  met d more long = (omega (arith, length-take run.count run.run), get_or-take run.count run.run i d more)
-
-  pub met_all : run.count ≤ i → length (instances_of run) ≤ i
-  met_all h = omega (arith, length-take run.count run.run)
-
-  pub met_whole : length run.run ≤ i → length (instances_of run) ≤ i
-  met_whole h = omega (arith, length-take run.count run.run)
 
 -- ---- the sheet
 

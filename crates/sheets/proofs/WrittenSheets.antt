@@ -94,6 +94,7 @@ pub record Ready (t : Table) (xs : List ℕ) : Type 0 where
   pub last : t.last ≤ last_most
   pub count : length (instances_of t.run) ≡ t.run.count
   pub few : length (instances_of t.run) < 128
+  pub most : t.run.count ≤ run_most
   pub space : Space xs 5 (instances_of t.run)
   pub writable : AllWritable (instances_of t.run)
 
@@ -109,6 +110,7 @@ ready access t xs enough ok good long =
       last = (table_good_lem instances_most p t good).0;
       count = instances_count p t good long;
       few = omega (arith, few);
+      most = omega (arith, few, instances_count p t good long);
       space = omega (arith, few, enough);
       writable = table_writable p t good (access_good access ok);
     }

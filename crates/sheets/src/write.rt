@@ -1,8 +1,8 @@
 // A table is written as a night sheet (document 01, "Night sheet").
 ghost use Rattle.std.specs.Prelude.{◌≡◌, true, [], ◌∷◌, ◌≤◌};
 ghost use Rattle.laws.specs.Over.{Wrote};
-ghost use Rattle.numbers.specs.Number.{most};
 ghost use Rattle.numbers.specs.Address.{address_good};
+ghost use Rattle.instances.specs.Places.{run_most};
 ghost use Rattle.instances.specs.Run.{instances_of};
 ghost use Rattle.forms.specs.Instance.{all_groups, address_fields};
 ghost use Rattle.sheets.specs.Sheets.{WritesSheet};
@@ -12,7 +12,7 @@ use exchange::Table;
 use forms::form_one;
 use groups::put_groups;
 use instances::{Instance, ROOM, Run};
-use numbers::{Address, MOST};
+use numbers::Address;
 use profile::read_access;
 use refusals::Refusal;
 
@@ -26,17 +26,14 @@ const DIGITZERO: u8 = 48;
 
 const OCTETZERO: u8 = 0;
 
-// The first `count` of the octets, each by how far it is above `base`.
-fn write_above(out: &mut [u8], at: usize, octets: [u8; MOST], count: usize, base: u8) -> usize
-    requires { (count ≤ most) × NoneBelow base count octets × Room out.old at (all_groups (above base count octets)) }
-    ensures { Wrote out.old at (all_groups (above base count octets)) result out.new }
+// Octets, each by how far it is above `base`.
+fn write_above(out: &mut [u8], at: usize, octets: &[u8], base: u8) -> usize
+    requires { NoneBelow base octets.now × Room out.old at (all_groups (above base octets.now)) }
+    ensures { Wrote out.old at (all_groups (above base octets.now)) result out.new }
 {
     let mut p = at;
-    let mut i: usize = 0;
-    while i < count {
-        let value = octets[i] - base;
-        p = put_groups(out, p, value as u32);
-        i += 1;
+    for octet in octets {
+        p = put_groups(out, p, (*octet - base) as u32);
     }
     p
 }
@@ -46,42 +43,32 @@ fn write_address(out: &mut [u8], at: usize, address: Address) -> usize
     ensures { Wrote out.old at (all_groups (address_fields address)) result out.new }
 {
     let number = address.number;
-    let digits = number.digits;
-    let sub = address.sub;
     let p = put_groups(out, at, number.form as u32);
     let q = put_groups(out, p, number.kind as u32);
     let k = put_groups(out, q, number.count as u32);
-    let m = write_above(out, k, digits, number.count as usize, DIGITZERO);
+    let m = write_above(out, k, &number.digits[..number.count as usize], DIGITZERO);
     let t = put_groups(out, m, address.subcount as u32);
-    write_above(out, t, sub, address.subcount as usize, OCTETZERO)
+    write_above(out, t, &address.sub[..address.subcount as usize], OCTETZERO)
 }
 
 fn write_instance(out: &mut [u8], at: usize, x: Instance) -> usize
     requires { Writable x × Space out.old at (x ∷ []) }
     ensures { WroteInstances out.old at (x ∷ []) result out.new }
 {
-    let address = x.address;
     let p = put_groups(out, at, x.procedure as u32);
     let q = put_groups(out, p, x.number as u32);
     let k = put_groups(out, q, x.service as u32);
-    write_address(out, k, address)
+    write_address(out, k, x.address)
 }
 
 // The instances of a run, one after the other.
-fn write_run(out: &mut [u8], at: usize, run: Run) -> usize
-    requires { AllWritable (instances_of run) × Space out.old at (instances_of run) }
-    ensures { WroteInstances out.old at (instances_of run) result out.new }
+fn write_run(out: &mut [u8], at: usize, run: &Run) -> usize
+    requires { (run.now.count ≤ run_most) × AllWritable (instances_of run.now) × Space out.old at (instances_of run.now) }
+    ensures { WroteInstances out.old at (instances_of run.now) result out.new }
 {
-    let n = run.count as usize;
     let mut p = at;
-    let mut i: usize = 0;
-    while i < ROOM {
-        if n <= i {
-            return p;
-        }
-        let x = run.run[i];
-        p = write_instance(out, p, x);
-        i += 1;
+    for x in &run.run[..run.count as usize] {
+        p = write_instance(out, p, *x);
     }
     p
 }
@@ -100,11 +87,10 @@ pub fn write_sheet(table: Table, access: &[u8], out: &mut [u8]) -> Result<usize,
     if !table.good(profile) {
         return Err(Refusal::BadTable);
     }
-    let run = table.run;
     let f = form_one();
     let p = put_groups(out, 0, f.code as u32);
     let q = put_groups(out, p, table.last as u32);
-    let k = put_groups(out, q, run.count as u32);
-    let count = write_run(out, k, run);
+    let k = put_groups(out, q, table.run.count as u32);
+    let count = write_run(out, k, &table.run);
     Ok(count)
 }

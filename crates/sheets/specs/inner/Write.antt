@@ -1,5 +1,5 @@
 -- What the private functions under `write_sheet` ask and promise.
-use Rattle.std.specs.Prelude.{ℕ, ◌+◌, ◌-◌, ◌*◌, ◌<◌, ◌≤◌, ◌≡◌, true, List, [], ◌∷◌, map, length, take, get_or}
+use Rattle.std.specs.Prelude.{ℕ, ◌+◌, ◌-◌, ◌*◌, ◌<◌, ◌≤◌, ◌≡◌, true, List, [], ◌∷◌, map, length, get_or}
 use Rattle.laws.specs.Over.{Wrote}
 use Rattle.numbers.specs.Address.{address_good}
 use Rattle.instances.specs.declared.instance.Instance.{Instance}
@@ -14,12 +14,12 @@ use Rattle.forms.specs.Sheet.{instances_octets}
 abbrev pub Room : List ℕ → ℕ → List ℕ → Type 0
 Room xs at ws = at + length ws ≤ length xs
 
--- the first `count` octets, each by how far it is above `base`; none of them is below it
-abbrev pub above : ℕ → ℕ → List ℕ → List ℕ
-above base count octets = map (λ c. c - base) (take count octets)
+-- octets, each by how far it is above `base`; none of them is below it
+abbrev pub above : ℕ → List ℕ → List ℕ
+above base octets = map (λ c. c - base) octets
 
-abbrev pub NoneBelow : ℕ → ℕ → List ℕ → Type 0
-NoneBelow base count octets = (i : ℕ) → i < count → base ≤ get_or octets i 0
+abbrev pub NoneBelow : ℕ → List ℕ → Type 0
+NoneBelow base octets = (i : ℕ) → i < length octets → base ≤ get_or octets i 0
 
 -- ---- instances
 

@@ -26,6 +26,7 @@ write_run-count-requires c = let a = c.args in
     ready a.access.now a.table a.out.now (omega (arith, c.if-out-lt-SHEETMOST.false)) read.0
     (rw read.1 (sym c.good.ensures ∙ c.if-not-good.false)) long in
     let t = a.table in (
+      f.most,
       f.writable,
       sheet_space form1 t.last (instances_of t.run) (omega arith) f.last f.few f.space
           (rw c.form_one-f.ensures at c.put_groups-p.ensures) c.put_groups-q.ensures
