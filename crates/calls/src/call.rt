@@ -4,6 +4,7 @@ ghost use Rattle.calls.specs.Call.{call_size, call_from, names_good, values_good
 
 use crate::event::Event;
 use codes::{all_digits, service_code};
+use numbers::MOST;
 use profile::Profile;
 
 // Where the event and the digits of the original number stand, and the size of the record.
@@ -13,12 +14,10 @@ pub(crate) const ORIGINALAT: usize = 8;
 
 const CALLSIZE: usize = 28;
 
-// The most digits of the original number.
-const DIGITSMOST: u8 = 20;
-
 // The highest octet that is an event: no reply.
 const EVENTMOST: u8 = 2;
 
+// Option, presentation and preference stay the numbers that C's record of the call that goes on has.
 #[derive(Clone, Copy)]
 pub struct Call {
     pub number: u8,
@@ -67,7 +66,7 @@ fn original_good(s: &[u8], count: u8) -> bool
     requires { length s.now ≡ call_size }
     ensures { result ≡ original_good s.now count }
 {
-    count <= DIGITSMOST && all_digits(&s[ORIGINALAT..ORIGINALAT + count as usize])
+    count as usize <= MOST && all_digits(&s[ORIGINALAT..ORIGINALAT + count as usize])
 }
 
 // Whether a call's record breaks no rule.

@@ -7,7 +7,7 @@ use instances::{PROCEDURES, Run, fresh_run};
 use profile::Profile;
 use requests::{Request, blank_request, is_sendable};
 
-// A mark: the procedure is known, or in doubt.
+// A mark, by the number that C's record has: the procedure is known, or in doubt.
 pub(crate) const KNOWN: u8 = 1;
 
 pub(crate) const DOUBT: u8 = 0;
@@ -15,7 +15,7 @@ pub(crate) const DOUBT: u8 = 0;
 pub(crate) const USEDMOST: u16 = 32767;
 
 // `used` is the last used identifier. Where `outstanding` is 1 the request of that identifier has not been answered, and `before` is its
-// procedure's mark from before sending; else operation, request and `before` carry no meaning.
+// procedure's mark from before sending; else operation, request and `before` carry no meaning. C has the record, so all of them are numbers.
 #[repr(C)]
 #[derive(Clone, Copy)]
 pub struct End {
