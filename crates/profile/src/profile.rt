@@ -21,7 +21,8 @@ pub struct Prefix {
 }
 
 // What the carrier has agreed with the subscriber. Places past a count carry no meaning; the fields from `subscribed` to `release`
-// are 0 or 1, but for `option`. They are octets and no `bool`: `profile_from` has the record as it stands, and `profile_good` judges it.
+// are 0 or 1, but for `option`. The arrays are counted, since nothing is on the heap; the flags are octets and no `bool`, since
+// `profile_from` has the record as it stands, and `profile_good` judges it.
 #[repr(C)]
 #[derive(Clone, Copy)]
 pub struct Profile {
