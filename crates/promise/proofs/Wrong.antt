@@ -6,6 +6,7 @@ use mathlib.Core.Bool.{true}
 use mathlib.Core.List.{List, []}
 use native.Mathlib.Omega.{arith}
 use lib.ListN.{length, get_or}
+use Rattle.std.specs.Prelude.{Option, Some, None, Result, Ok, Err}
 use lib.Dec.{ltb}
 use borrow.Author.Tests.{ltb-true, ltb-false, le-leb}
 use Rattle.std.specs.Prelude.{Ok, Err}
@@ -24,6 +25,9 @@ use Rattle.exchange.specs.Arrive.{arriving_count, Done, done, Arrives}
 use Rattle.exchange.specs.declared.table.Table.{Table}
 use Rattle.exchange.specs.declared.arrive.Arrived.{Arrived}
 use Rattle.exchange.proofs.Arrivals.{done_long, done_profile, done_table, done_answers}
+use Rattle.calls.specs.Divert.{no_onward}
+use Rattle.calls.specs.Coming.{onward_in}
+use Rattle.calls.specs.declared.diverting.Diversion.{Diversion}
 use Rattle.calls.specs.declared.diverting.Onward.{Onward}
 use Rattle.end.specs.Sending.{sends}
 use Rattle.end.specs.Taking.{Moves, took, takes, MovesBy}
@@ -39,7 +43,7 @@ use Rattle.promise.specs.Samples.{arrives, Says, sample_access, access_with, cal
 use Rattle.promise.specs.Samples.{activation_octets, activated_octets, duplicate_octets, fresh_octets, activation_of_cfb}
 use Rattle.promise.specs.Samples.{end_at, interrogating_end, activating_end, activated_instances}
 use Rattle.promise.specs.Wrong.{ExchangeStep, ArrivesBy, refuses_all, one_reply, table_untouched}
-use Rattle.promise.specs.Wrong.{Diverter, DivertsBy, invented_counter, fixed_counter}
+use Rattle.promise.specs.Wrong.{Diverter, DivertsBy, with_counter, invented_counter, fixed_counter}
 use Rattle.promise.specs.Demand.{machine, asked_by, entries_held}
 use Rattle.promise.specs.Wrong.{Taker, TakesBy, Keeps, all_marked, doubts_all, FirstReplyBy, result_for, pretends}
 use Rattle.promise.specs.Wrong.{first_sent, first_answer, first_heard, second_sent, second_heard, cfb, KnownWrong}
@@ -127,20 +131,32 @@ shut_out_table_untouched x xs room k =
 
 -- ---- calls
 
+-- a counter above 0 that goes on is the one that was made up
+made_up :
+    (counter more : ℕ) (r : Result (Option Diversion) Refusal) → (onward_in (with_counter counter r)).counter ≡ more + 1 →
+    counter ≡ more + 1
+unfolding no_onward
+made_up counter more (Err refusal) h = absurd (omega (arith, h))
+made_up counter more (Ok None) h = absurd (omega (arith, h))
+made_up counter more (Ok (Some d)) h = h
+
 -- "an invented counter": any but one more, at the sample "counter 4, limit 5: diverted, counter 5"
 pub shut_out_invented_counter :
     (invents : List ℕ → Table → List ℕ → ℕ) (x : Diverter) → (invents sample_access activated_table (call_with 4 0) ≡ 4 + 1 → ⊥) →
     DivertsBy (invented_counter invents x) sample_access activated_table (call_with 4 0) → ⊥
 shut_out_invented_counter invents x differs k =
-    differs (ap (λ (c : Onward). c.counter) k.call ∙ (row 31).0.1)
+    differs
+    (made_up _ 4 (x sample_access activated_table (call_with 4 0)) (ap (λ (c : Onward). c.counter) k.call ∙ (row 31).0.1))
 
 -- any that is always the same, at that sample and the one of counter 1
 pub shut_out_fixed_counter :
     (counter : ℕ) (x : Diverter) → DivertsBy (fixed_counter counter x) sample_access activated_table (call_with 4 0) →
     DivertsBy (fixed_counter counter x) (access_with 1) activated_table (call_with 1 2) → ⊥
 shut_out_fixed_counter counter x a b =
-    let five : counter ≡ 5 = ap (λ (c : Onward). c.counter) a.call ∙ (row 31).0.1 in
-    let two : counter ≡ 2 = ap (λ (c : Onward). c.counter) b.call ∙ (row 34).0.1 in
+    let five : counter ≡ 5 =
+    made_up counter 4 (x sample_access activated_table (call_with 4 0)) (ap (λ (c : Onward). c.counter) a.call ∙ (row 31).0.1) in
+    let two : counter ≡ 2 =
+    made_up counter 1 (x (access_with 1) activated_table (call_with 1 2)) (ap (λ (c : Onward). c.counter) b.call ∙ (row 34).0.1) in
     omega (arith, five, two)
 
 -- ---- the customer end

@@ -1,7 +1,7 @@
 -- The wrong programs that document 01 shuts out by name ("How tight the promises are"), written out. Each is proved in
 -- crates/promise/proofs/Wrong.antt to break the promise that document 01 names for it. Where document 01 says one thing that a program does
 -- wrong, the program is made of any other, which does the rest as it likes, rightly too.
-use Rattle.std.specs.Prelude.{ℕ, ◌≡◌, List, [], ◌∷◌, pos, leb, Ok, Err}
+use Rattle.std.specs.Prelude.{ℕ, ◌≡◌, List, [], ◌∷◌, pos, leb, Option, Some, None, Result, Ok, Err}
 use Rattle.laws.specs.Pick.{pick}
 use Rattle.laws.specs.Over.{over}
 use Rattle.laws.specs.Mark.{known, doubt, mark_no}
@@ -15,7 +15,7 @@ use Rattle.exchange.specs.Table.{fresh_table}
 use Rattle.exchange.specs.Arrive.{Done, done, Arrives}
 use Rattle.exchange.specs.declared.table.Table.{Table}
 use Rattle.exchange.specs.declared.arrive.Arrived.{Arrived}
-use Rattle.calls.specs.Divert.{DivertsTo}
+use Rattle.calls.specs.Coming.{DivertsTo}
 use Rattle.calls.specs.declared.diverting.Diversion.{Diversion}
 use Rattle.end.specs.End.{fresh_end}
 use Rattle.end.specs.Sending.{Sends, sends}
@@ -63,27 +63,36 @@ table_untouched x access t s xs = record {
 
 -- what is made of an access record, a table and a call
 abbrev pub Diverter : Type 0
-Diverter = List ℕ → Table → List ℕ → Diversion
+Diverter = List ℕ → Table → List ℕ → Result (Option Diversion) Refusal
 
 -- whether it keeps the promise of `divert` there
 abbrev pub DivertsBy : Diverter → List ℕ → Table → List ℕ → Type 0
 DivertsBy x access t s = DivertsTo access t s (x access t s)
 
+-- the same call that goes on, if any does, but for its counter
+abbrev pub with_counter : ℕ → Result (Option Diversion) Refusal → Result (Option Diversion) Refusal
+with_counter counter (Err refusal) = Err refusal
+with_counter counter (Ok None) = Ok None
+with_counter counter (Ok (Some d)) =
+    Ok
+    (Some (record {
+      reason = d.reason;
+      notice = d.notice;
+      call = record {
+        counter = counter;
+        called = d.call.called;
+        redirecting = d.call.redirecting;
+        redirectingshown = d.call.redirectingshown;
+        originalshown = d.call.originalshown;
+        preference = d.call.preference;
+        option = d.call.option;
+        noticed = d.call.noticed;
+      };
+    }))
+
 -- "an invented counter": the diversion that another makes, but the counter is made up
 abbrev pub invented_counter : (List ℕ → Table → List ℕ → ℕ) → Diverter → Diverter
-invented_counter invents x access t s = record {
-  outcome = (x access t s).outcome;
-  call = record {
-    counter = invents access t s;
-    called = (x access t s).call.called;
-    redirecting = (x access t s).call.redirecting;
-    redirectingshown = (x access t s).call.redirectingshown;
-    originalshown = (x access t s).call.originalshown;
-    preference = (x access t s).call.preference;
-    option = (x access t s).call.option;
-    noticed = (x access t s).call.noticed;
-  };
-}
+invented_counter invents x access t s = with_counter (invents access t s) (x access t s)
 
 -- a counter that is always the same
 abbrev pub fixed_counter : ℕ → Diverter → Diverter
