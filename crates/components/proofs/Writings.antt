@@ -8,7 +8,7 @@ use lib.IntN.{ℤ}
 use lib.Signed.{mag}
 use lib.ListN.{length}
 use borrow.Author.Tests.{lt-ltb, le-ltb}
-use Rattle.std.specs.Prelude.{Result, Ok, Err}
+use Rattle.std.specs.Prelude.{Ok, Err}
 use Rattle.laws.specs.Over.{Puts}
 use Rattle.laws.proofs.Over.{wrote_none, puts_all}
 use Rattle.refusals.specs.Refusal.{output_least}
