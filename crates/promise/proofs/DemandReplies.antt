@@ -13,7 +13,7 @@ use Rattle.laws.specs.Got.{Got, got, wrong}
 use Rattle.laws.specs.Mark.{known, mark_no}
 use Rattle.laws.proofs.Eaches.{Up}
 use Rattle.octets.specs.Part.{Part, part_at}
-use Rattle.values.specs.Ident.{signed_at}
+use Rattle.values.specs.Ident.{ident_at}
 use Rattle.skip.specs.Depth.{inside_depth, component_depth}
 use Rattle.codes.specs.Codes.{activation, deactivation, interrogation}
 use Rattle.profile.specs.Access.{access_read}
@@ -64,7 +64,7 @@ one_identifier a b o q s other own = in_part (part_at component_depth s 0 (lengt
   where
     in_value :
         (component : Part) (next : ℕ) → part_at component_depth s 0 (length s) ≡ got component next → (g : Got ℤ) →
-        signed_at inside_depth s component.start component.stop ≡ g → reply b q s ≡ Dropped
+        ident_at inside_depth s component.start component.stop ≡ g → reply b q s ≡ Dropped
     in_value component next is wrong h = absurd (own (no_identifier a o s component next is h))
     in_value component next is (got value place) h =
         other_identifier b q s component next is value place h
@@ -73,7 +73,7 @@ one_identifier a b o q s other own = in_part (part_at component_depth s 0 (lengt
     in_part : (g : Got Part) → part_at component_depth s 0 (length s) ≡ g → reply b q s ≡ Dropped
     in_part wrong is = absurd (own (no_element a o s is))
     in_part (got component next) is =
-        in_value component next is (signed_at inside_depth s component.start component.stop) refl
+        in_value component next is (ident_at inside_depth s component.start component.stop) refl
 
 -- ---- what a reply says
 

@@ -8,10 +8,10 @@ use Rattle.laws.proofs.Over.{only_puts}
 use Rattle.lists.specs.Entries.{EntriesAt, NoEntries}
 use Rattle.lists.specs.Listed.{PutList, PutListHead}
 use Rattle.lists.specs.declared.entries.Entries.{Entries}
-use Rattle.lists.specs.declared.entries.EntriesRead.{EntriesRead}
+use Rattle.std.specs.Prelude.{Option}
 
 pub only_entries_at :
-    (s : List ℕ) (at end : ℕ) {a b : EntriesRead} → EntriesAt s at end a → EntriesAt s at end b → a ≡ b
+    (s : List ℕ) (at end : ℕ) {a b : Option Entries} → EntriesAt s at end a → EntriesAt s at end b → a ≡ b
 only_entries_at s at end = both
 
 pub only_put_list :

@@ -10,7 +10,7 @@ use Rattle.requests.specs.Heard.{Hears, ReplyTag}
 use Rattle.requests.specs.Request.{ArgumentAt, BlankRequest}
 use Rattle.requests.specs.declared.heard.Heard.{Heard}
 use Rattle.requests.specs.declared.heard.Operation.{Operation}
-use Rattle.requests.specs.declared.request.RequestRead.{RequestRead}
+use Rattle.std.specs.Prelude.{Option}
 use Rattle.requests.specs.declared.request.Request.{Request}
 use Rattle.requests.specs.Sending.{IsSendable, PutRequest}
 
@@ -18,7 +18,7 @@ pub only_hear : (s : List ℕ) {a b : Heard} → Hears s a → Hears s b → a �
 only_hear s a b = both (hears_is a) (hears_is b)
 
 pub only_argument_at :
-    (operation : Operation) (s : List ℕ) (at end : ℕ) {a b : RequestRead} → ArgumentAt operation s at end a →
+    (operation : Operation) (s : List ℕ) (at end : ℕ) {a b : Option Request} → ArgumentAt operation s at end a →
     ArgumentAt operation s at end b →
     a ≡ b
 only_argument_at operation s at end = both

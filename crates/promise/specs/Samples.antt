@@ -1,17 +1,13 @@
 -- The samples of document 01 that are marked P, its night sheet, the longest listing, a dialogue of the end, the longest reply and sheet, and
 -- components in words, as one table. `Each samples` is the one statement about them.
-use Rattle.std.specs.Prelude.{ℕ, ◌+◌, ◌/◌, ◌%◌, ◌≡◌, true, List, [], ◌∷◌, ◌++◌, ℤ, pos, negsuc, length, replicate}
-use Rattle.laws.specs.Got.{got}
+use Rattle.std.specs.Prelude.{ℕ, ◌+◌, ◌/◌, ◌%◌, ◌≡◌, true, List, [], ◌∷◌, ◌++◌, ℤ, pos, negsuc, length, replicate, Option, Some}
+use Rattle.laws.specs.Got.{Got, got, wrong}
 use Rattle.laws.specs.Places.{gathered}
 use Rattle.laws.specs.Mark.{known, doubt, mark_no}
 use Rattle.refusals.specs.Refusal.{Told, refuses, tells, output_least}
 use Rattle.values.specs.Ident.{ident_at, ident_octets}
 use Rattle.groups.specs.Groups.{groups_at, groups}
-use Rattle.values.specs.declared.ident.Ident.{Ident}
-use Rattle.values.specs.declared.ident.Ident.TheVariants as ident
 use Rattle.codes.specs.Codes.{activation, interrogation}
-use Rattle.groups.specs.declared.groups.Groups.{Groups}
-use Rattle.groups.specs.declared.groups.Groups.TheVariants as groups
 use Rattle.numbers.specs.Number.{unknown, number_of}
 use Rattle.numbers.specs.Address.{sub_of, forwarded_of}
 use Rattle.profile.specs.Access.{access_read}
@@ -52,9 +48,9 @@ use Rattle.end.specs.declared.end.End.{End}
 use Rattle.promise.specs.Longest.{wide_access, full_table, last_interrogation}
 
 pub data Sample : Type 0 where
-  reads_identifier : List ℕ → Ident → Sample
+  reads_identifier : List ℕ → Got ℤ → Sample
   writes_identifier : ℤ → List ℕ → Sample
-  reads_groups : List ℕ → Groups → Sample
+  reads_groups : List ℕ → Got (Option ℕ) → Sample
   writes_groups : ℕ → List ℕ → Sample
   hears_component : List ℕ → Heard → Sample
   reads_request : (operation : ℕ) → List ℕ → (at : ℕ) → Request → Sample
@@ -231,15 +227,15 @@ activating_end = waiting_at 2 activation activation_of_cfb (mark_no doubt)
 abbrev pub samples : List Sample
 samples =
     -- "identifier 128 is `02 02 00 80`, −128 is `02 01 80`"; "`02 02 00 7F` is unreadable"
-    reads_identifier (0x02 ∷ 0x02 ∷ 0x00 ∷ 0x80 ∷ []) (ident.Is (pos 128) 4)
+    reads_identifier (0x02 ∷ 0x02 ∷ 0x00 ∷ 0x80 ∷ []) (got (pos 128) 4)
     ∷ writes_identifier (pos 128) (0x02 ∷ 0x02 ∷ 0x00 ∷ 0x80 ∷ [])
-    ∷ reads_identifier (0x02 ∷ 0x01 ∷ 0x80 ∷ []) (ident.Is (negsuc 127) 3)
+    ∷ reads_identifier (0x02 ∷ 0x01 ∷ 0x80 ∷ []) (got (negsuc 127) 3)
     ∷ writes_identifier (negsuc 127) (0x02 ∷ 0x01 ∷ 0x80 ∷ [])
-    ∷ reads_identifier (0x02 ∷ 0x02 ∷ 0x00 ∷ 0x7F ∷ []) ident.Unreadable
+    ∷ reads_identifier (0x02 ∷ 0x02 ∷ 0x00 ∷ 0x7F ∷ []) wrong
     -- "300 in groups: `AC 02`"; "`80 00` refused"
-    ∷ reads_groups (0xAC ∷ 0x02 ∷ []) (groups.Is 300 2)
+    ∷ reads_groups (0xAC ∷ 0x02 ∷ []) (got (Some 300) 2)
     ∷ writes_groups 300 (0xAC ∷ 0x02 ∷ [])
-    ∷ reads_groups (0x80 ∷ 0x00 ∷ []) groups.Bad
+    ∷ reads_groups (0x80 ∷ 0x00 ∷ []) wrong
     -- the two requests, heard, read and written
     ∷ hears_component interrogation_octets (heard.Asks (pos 1) (local (pos interrogation)) 8 18)
     ∷ reads_request interrogation interrogation_octets 8 interrogation_of_cfb
