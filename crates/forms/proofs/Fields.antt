@@ -1,7 +1,7 @@
 -- Laws of the fields of a night sheet, over plain values: a field within its bound, and fields one after the other. Assumes nothing.
 use Prim.Native.Nat.{ℕ, zero, suc, ◌+◌, ◌-◌, ◌≤◌, ◌<◌}
 use mathlib.Core.Path.{◌≡◌, refl, sym, ap, ◌∙◌}
-use mathlib.Core.Bool.{Bool, true, false, false≢true}
+use mathlib.Core.Bool.{Bool, true, false≢true}
 use mathlib.Core.List.{List, [], ◌∷◌, ◌++◌, map, map-append, append_assoc, append-nil}
 use native.Mathlib.Nat.{sub-zero, zero-add}
 use native.Mathlib.Omega.{arith}
@@ -13,43 +13,17 @@ use Rattle.laws.specs.Got.{Got, got, wrong, and_then}
 use Rattle.laws.proofs.Gots.{Something, found_then, found_is}
 use Rattle.laws.proofs.Picks.{pick_ind}
 use Rattle.laws.proofs.Walks.{store_next}
+use Rattle.octets.specs.Found.{found}
+use Rattle.octets.specs.declared.found.Found.{Found}
 use Rattle.groups.specs.Groups.{groups_at}
 use Rattle.std.specs.Prelude.{Option, Some, None}
-use Rattle.numbers.specs.Number.{most, padded}
+use Rattle.numbers.specs.Number.{most}
 use Rattle.forms.specs.Instance.{field_of, field_at, fields_at}
-use Rattle.forms.specs.inner.Reading.{any_field, field_below, fields_below, field_read, fields_read}
-use Rattle.forms.specs.declared.field.FieldRead.{FieldRead}
-use Rattle.forms.specs.declared.field.FieldsRead.{FieldsRead}
-
--- ---- what the reader of a field answers
-
--- an answer with `ok` names the field that was found
-pub field_found :
-    (g : Got ℕ) (r : FieldRead) → r ≡ field_read g → r.ok ≡ true → g ≡ got r.value r.next
-field_found (got value next) r e h = rw e
-field_found wrong r e h = absurd (false≢true (sym (ap (λ (x : FieldRead). x.ok) e) ∙ h))
-
--- an answer without says that there is none
-pub field_none : (g : Got ℕ) (r : FieldRead) → r ≡ field_read g → r.ok ≡ false → g ≡ wrong
-field_none (got value next) r e h = absurd (false≢true (sym h ∙ ap (λ (x : FieldRead). x.ok) e))
-field_none wrong r e h = refl
+use Rattle.forms.specs.inner.Reading.{any_field, field_below, fields_below, kept, octets_on}
 
 -- ---- one field
 
 module _ (s : List ℕ) (at : ℕ) where
-  -- a number, one that 32 bits do not hold, and none
-  pub field_is : (value next : ℕ) → groups_at s at (length s) ≡ got (Some value) next → any_field s at ≡ got value next
-  unfolding field_at
-  field_is value next e = rw e
-
-  pub field_large : (next : ℕ) → groups_at s at (length s) ≡ got None next → any_field s at ≡ wrong
-  unfolding field_at
-  field_large next e = rw e
-
-  pub field_bad : groups_at s at (length s) ≡ wrong → any_field s at ≡ wrong
-  unfolding field_at
-  field_bad e = rw e
-
   -- tests that agree let in the same fields
   pub field_same : (good other : ℕ → Bool) → ((n : ℕ) → good n ≡ other n) → field_at good s at ≡ field_at other s at
   unfolding field_at
@@ -169,9 +143,9 @@ module _ (below base count : ℕ) (s : List ℕ) (at : ℕ) where
     -- it has read them all
     pub come_all :
         count ≤ i → count ≤ most →
-        ◌≡◌ {A = FieldsRead}
-        record { ok = true; octets = octets; next = here }
-        (fields_read base (fields_below below count s at))
+        ◌≡◌ {A = Option (Found (List ℕ))}
+        (Some (record { value = octets; next = here }))
+        (found (kept (octets_on base) (fields_below below count s at)))
     unfolding fields_at
     come_all h room =
         let none : count - i ≡ 0 = omega arith in
@@ -210,28 +184,6 @@ module _ (below base count : ℕ) (s : List ℕ) (at : ℕ) where
             rw (so.stored, left, map-append f so.read (n ∷ []), ← store_next (map f so.read) (base + n) 0 (most - (i + 1)), ← place);
         decides = come_step ∙ rw (found, ahead_one so.read n (fields_below below (count - (i + 1)) s next));
       }
-
--- ---- what the reader of fields answers
-
--- an answer with `ok` holds the fields that were found
-pub record FieldsFound (base : ℕ) (g : Got (List ℕ)) (r : FieldsRead) : Type 0 where
-  pub fields : List ℕ
-  pub is : g ≡ got fields r.next
-  pub octets : r.octets ≡ padded (map (λ n. base + n) fields)
-
-pub fields_found :
-    (base : ℕ) (g : Got (List ℕ)) (r : FieldsRead) → r ≡ fields_read base g → r.ok ≡ true → FieldsFound base g r
-fields_found base (got ns next) r e h = record {
-  fields = ns;
-  is = rw e;
-  octets = rw e;
-}
-fields_found base wrong r e h = absurd (false≢true (sym (ap (λ (x : FieldsRead). x.ok) e) ∙ h))
-
-pub fields_none :
-    (base : ℕ) (g : Got (List ℕ)) (r : FieldsRead) → r ≡ fields_read base g → r.ok ≡ false → g ≡ wrong
-fields_none base (got ns next) r e h = absurd (false≢true (sym h ∙ ap (λ (x : FieldsRead). x.ok) e))
-fields_none base wrong r e h = refl
 
 -- with nothing on top they are as they were
 pub map_none : (ns : List ℕ) → map (λ n. 0 + n) ns ≡ ns

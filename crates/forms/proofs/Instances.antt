@@ -1,14 +1,17 @@
 -- Instances, one after the other: what is read is such as a sheet may hold, and it is read into a run. Assumes nothing.
 use Prim.Native.Nat.{ℕ, zero, suc, ◌+◌, ◌-◌, ◌≤◌, ◌<◌}
-use mathlib.Core.Path.{◌≡◌, refl, sym, ap, ◌∙◌}
-use mathlib.Core.Bool.{true, false, false≢true}
+use mathlib.Core.Path.{◌≡◌, refl, ap, ◌∙◌}
+use mathlib.Core.Bool.{true}
 use mathlib.Core.List.{List, [], ◌∷◌, ◌++◌, map, append_assoc, append-nil}
 use native.Mathlib.Nat.{sub-zero}
 use native.Mathlib.Omega.{arith}
 use lib.ListN.{length, set, replicate, length-append, length-map, length-replicate}
 use lib.Dec.{ltb, leb}
 use borrow.Author.Tests.{leb-true}
-use Rattle.laws.specs.Got.{Got, got, wrong, and_then}
+use Rattle.laws.specs.Got.{got, wrong, and_then}
+use Rattle.std.specs.Prelude.{Option, Some}
+use Rattle.octets.specs.Found.{found}
+use Rattle.octets.specs.declared.found.Found.{Found}
 use Rattle.laws.proofs.Gots.{Something, found_then, found_is}
 use Rattle.laws.proofs.Filled.{Filled, filled_none, filled_next, filled_done}
 use Rattle.laws.proofs.Eaches.{Each}
@@ -20,12 +23,12 @@ use Rattle.instances.specs.Instance.{blank_instance}
 use Rattle.instances.specs.Places.{run_most}
 use Rattle.instances.specs.Run.{packed}
 use Rattle.instances.specs.declared.instance.Instance.{Instance}
+use Rattle.instances.specs.declared.run.Run.{Run}
 use Rattle.instances.proofs.Runs.{packed_done}
 use Rattle.forms.specs.Instance.{address_of, field_at, fields_at, kind_good, address_from, service_of, instance_from}
 use Rattle.forms.specs.Sheet.{instances_from}
-use Rattle.forms.specs.inner.Reading.{field_below, instances_read}
+use Rattle.forms.specs.inner.Reading.{field_below, kept}
 use Rattle.forms.specs.declared.form.Form.{Form}
-use Rattle.forms.specs.declared.sheet.InstancesRead.{InstancesRead}
 use Rattle.forms.proofs.Fields.{AllPass, Passing, field_passes, below_small, fields_passing, ahead, ahead_none, ahead_one}
 use Rattle.forms.proofs.Readers.{characters, fair_good}
 use Rattle.forms.proofs.Fits.{Held, FieldsFit}
@@ -146,9 +149,9 @@ module _ (f : Form) (s : List ℕ) (at count : ℕ) where
     -- it has read them all
     pub going_all :
         count ≤ i →
-        ◌≡◌ {A = InstancesRead}
-        record { ok = true; run = record { count = count; run = array }; next = here }
-        (instances_read (instances_from f count s at))
+        ◌≡◌ {A = Option (Found Run)}
+        (Some (record { value = record { count = count; run = array }; next = here }))
+        (found (kept packed (instances_from f count s at)))
     going_all h =
         let same : count ≡ i = omega (arith, so.few) in
         let none : count - i ≡ 0 = omega arith in
@@ -180,19 +183,3 @@ module _ (f : Form) (s : List ℕ) (at count : ℕ) where
             (rw (append_assoc so.read (k ∷ []) rest) (so.filled (k ∷ rest)));
         decides = going_step ∙ rw (found, ahead_one so.read k (instances_from f (count - (i + 1)) s next));
       }
-
--- ---- what the reader of instances answers
-
--- an answer with `ok` holds the instances that were found
-pub record InstancesFound (g : Got (List Instance)) (r : InstancesRead) : Type 0 where
-  pub instances : List Instance
-  pub is : g ≡ got instances r.next
-  pub run : r.run ≡ packed instances
-
-pub instances_found : (g : Got (List Instance)) (r : InstancesRead) → r ≡ instances_read g → r.ok ≡ true → InstancesFound g r
-instances_found (got is next) r e h = record { instances = is; is = rw e; run = rw e }
-instances_found wrong r e h = absurd (false≢true (sym (ap (λ (x : InstancesRead). x.ok) e) ∙ h))
-
-pub instances_none : (g : Got (List Instance)) (r : InstancesRead) → r ≡ instances_read g → r.ok ≡ false → g ≡ wrong
-instances_none (got is next) r e h = absurd (false≢true (sym h ∙ ap (λ (x : InstancesRead). x.ok) e))
-instances_none wrong r e h = refl

@@ -1,6 +1,6 @@
 -- Laws of the readers of addresses and instances, over plain values. Assumes nothing.
 use Prim.Native.Nat.{ℕ, zero, suc, ◌+◌, ◌-◌, ◌≤◌, ◌<◌}
-use mathlib.Core.Path.{◌≡◌, refl, sym, ap, ◌∙◌}
+use mathlib.Core.Path.{◌≡◌, refl, sym, ◌∙◌}
 use mathlib.Core.Bool.{true, false, not, false≢true}
 use mathlib.Core.List.{List, [], ◌∷◌, map}
 use native.Mathlib.Omega.{arith}
@@ -13,6 +13,7 @@ use Rattle.laws.specs.Got.{Got, got, wrong, and_then}
 use Rattle.laws.proofs.Gots.{found_is}
 use Rattle.laws.proofs.Picks.{pick_ind, by_bool}
 use Rattle.laws.proofs.Tests.{all_at}
+use Rattle.octets.specs.declared.found.Found.{Found}
 use Rattle.codes.specs.Codes.{service_code}
 use Rattle.numbers.specs.Number.{most, unknown, padded, fair, digits_of, number_good, number_of}
 use Rattle.codes.specs.Digits.{type_good, all_digits}
@@ -23,14 +24,10 @@ use Rattle.codes.proofs.Characters.{digits_step, digits_end, type_most}
 use Rattle.codes.proofs.Tables.{service_most}
 use Rattle.numbers.proofs.Goods.{fair_some, some_fair, good_number, digits_fair}
 use Rattle.numbers.proofs.Readers.{record_good}
-use Rattle.instances.specs.declared.instance.Instance.{Instance}
 use Rattle.forms.specs.Instance.{field_at, fields_at, kind_good, address_from, service_of}
-use Rattle.forms.specs.inner.Reading.{field_below, fields_below, number_from_fields, forwarded_read, instance_read}
-use Rattle.forms.specs.declared.field.FieldsRead.{FieldsRead}
-use Rattle.forms.specs.declared.read.ForwardedRead.{ForwardedRead}
-use Rattle.forms.specs.declared.read.InstanceRead.{InstanceRead}
-use Rattle.forms.proofs.Parts.{test_none, test_then, then_through}
-use Rattle.forms.proofs.Fields.{Passing, AllPass, FieldsFound, field_same, field_narrow, field_passes, below_small, fields_passing, map_none}
+use Rattle.forms.specs.inner.Reading.{field_below, fields_below, octets_on, number_from_fields}
+use Rattle.forms.proofs.Parts.{test_none, test_then, then_through, Keeps}
+use Rattle.forms.proofs.Fields.{Passing, AllPass, field_same, field_narrow, field_passes, below_small, fields_passing, map_none}
 
 -- ---- numbers
 
@@ -138,27 +135,27 @@ module _ (s : List ℕ) (at : ℕ) where
             number_digits ∙ rw (e, test_none {A = Number} (fair count)) (test_none (kind_good form kind))
 
         -- the record that the reader makes of the fields, and whether it is let in
-        module _ (r : FieldsRead) (d : FieldsFound 48 (fields_below 10 count s a) r) where
+        module _ (r : Found (List ℕ)) (d : Keeps (octets_on 48) (fields_below 10 count s a) r) where
           abbrev made : Number
-          made = record { form = form; kind = kind; count = count; digits = r.octets }
+          made = record { form = form; kind = kind; count = count; digits = r.value }
 
           abbrev cs : List ℕ
-          cs = map (λ d. 48 + d) d.fields
+          cs = map (λ d. 48 + d) d.thing
 
-          passing : Passing (λ d. ltb d 10) count d.fields
+          passing : Passing (λ d. ltb d 10) count d.thing
           passing = found_is (Passing (λ d. ltb d 10) count) d.is (fields_passing (λ d. ltb d 10) count s a)
 
           counted : length cs ≡ count
-          counted = length-map d.fields (λ d. 48 + d) ∙ passing.counted
+          counted = length-map d.thing (λ d. 48 + d) ∙ passing.counted
 
           number_made : made ≡ number_of form kind cs
-          number_made = rw (d.octets, ← counted)
+          number_made = rw (d.held, ← counted)
 
           number_judged : number_from_fields s at ≡ pick (number_good made) (got made r.next) wrong
           number_judged =
               let low : form < 2 = below_small s at 2 form p f in
               let few : count < 21 = below_small s q 21 count a c in
-              let j = judged form kind cs low (characters d.fields passing.passes) (omega (arith, counted))
+              let j = judged form kind cs low (characters d.thing passing.passes) (omega (arith, counted))
               (got (number_of form kind cs) r.next) in
               number_digits ∙ rw (number_made, d.is, ← counted) j
 
@@ -200,21 +197,11 @@ module _ (s : List ℕ) (at : ℕ) where
       address_no_octets e = address_parts ∙ rw (n, sub_field, k, e)
 
       pub address_found :
-          (r : FieldsRead) → FieldsFound 0 (fields_below 256 count s c) r →
-          address_from s at ≡ got (record { number = number; subcount = count; sub = r.octets }) r.next
+          (r : Found (List ℕ)) → Keeps (octets_on 0) (fields_below 256 count s c) r →
+          address_from s at ≡ got (record { number = number; subcount = count; sub = r.value }) r.next
       address_found r d =
           let passing = found_is (Passing (λ o. ltb o 256) count) d.is (fields_passing (λ o. ltb o 256) count s c) in
-          address_parts ∙ rw (n, sub_field, k, d.is, d.octets, map_none d.fields, passing.counted)
-
--- an answer with `ok` names the address that was found
-pub forwarded_found :
-    (g : Got Address) (r : ForwardedRead) → r ≡ forwarded_read g → r.ok ≡ true → g ≡ got r.address r.next
-forwarded_found (got address next) r e h = rw e
-forwarded_found wrong r e h = absurd (false≢true (sym (ap (λ (x : ForwardedRead). x.ok) e) ∙ h))
-
-pub forwarded_none : (g : Got Address) (r : ForwardedRead) → r ≡ forwarded_read g → r.ok ≡ false → g ≡ wrong
-forwarded_none (got address next) r e h = absurd (false≢true (sym h ∙ ap (λ (x : ForwardedRead). x.ok) e))
-forwarded_none wrong r e h = refl
+          address_parts ∙ rw (n, sub_field, k, d.is, d.held, map_none d.thing, passing.counted)
 
 -- ---- services
 
@@ -247,15 +234,3 @@ module _ (s : List ℕ) (at : ℕ) where
 pub service_octet : (s : List ℕ) (at code next : ℕ) → field_at service_of s at ≡ got code next → code < 256
 service_octet s at code next e =
     ltb-true code 256 (service_small code (found_is (λ n. service_of n ≡ true) e (field_passes s at service_of)))
-
--- ---- instances
-
--- an answer with `ok` names the instance that was found
-pub instance_found :
-    (g : Got Instance) (r : InstanceRead) → r ≡ instance_read g → r.ok ≡ true → g ≡ got r.instance r.next
-instance_found (got instance next) r e h = rw e
-instance_found wrong r e h = absurd (false≢true (sym (ap (λ (x : InstanceRead). x.ok) e) ∙ h))
-
-pub instance_none : (g : Got Instance) (r : InstanceRead) → r ≡ instance_read g → r.ok ≡ false → g ≡ wrong
-instance_none (got instance next) r e h = absurd (false≢true (sym h ∙ ap (λ (x : InstanceRead). x.ok) e))
-instance_none wrong r e h = refl

@@ -23,7 +23,7 @@ use Rattle.forms.specs.Form.{form1}
 use Rattle.forms.specs.Instance.{field_at}
 use Rattle.forms.specs.Sheet.{Sheet, instances_from, in_order, sheet_in}
 use Rattle.forms.specs.Formed.{form_read, ReadForm}
-use Rattle.forms.specs.inner.Reading.{any_field, field_below, Opened, opening_in, opening_read, Fitting}
+use Rattle.forms.specs.inner.Reading.{any_field, field_below, opening_in, Fitting}
 use Rattle.forms.specs.declared.form.Form.{Form}
 use Rattle.forms.specs.declared.sheet.FormRead.{FormRead}
 use Rattle.forms.specs.declared.sheet.Opening.{Opening}
@@ -71,17 +71,6 @@ module _ (f : Form) (s : List ℕ) where
         unfolding opening_in
         opening_is count next e = rw (form_field, is, eq-eqb f.code code (sym same), last_field_lem, l, e)
 
--- an answer with `ok` names what was found
-pub opening_found :
-    (g : Got Opened) (r : Opening) → r ≡ opening_read g → r.ok ≡ true →
-    g ≡ got (record { last = r.last; count = r.count }) r.next
-opening_found (got o next) r e h = rw e
-opening_found wrong r e h = absurd (false≢true (sym (ap (λ (x : Opening). x.ok) e) ∙ h))
-
-pub opening_none : (g : Got Opened) (r : Opening) → r ≡ opening_read g → r.ok ≡ false → g ≡ wrong
-opening_none (got o next) r e h = absurd (false≢true (sym h ∙ ap (λ (x : Opening). x.ok) e))
-opening_none wrong r e h = refl
-
 -- ---- the sheet, part by part
 
 -- what is made of the instances that an opening counts: nothing after them, and in order
@@ -89,7 +78,7 @@ abbrev whole_of : Form → List ℕ → ℕ → List Instance → ℕ → Got Sh
 whole_of f s last is next =
     pick (all (eqb next (length s) ∷ in_order f is ∷ [])) (got (record { last = last; instances = is }) next) wrong
 
-abbrev rest_from : Form → List ℕ → Opened → ℕ → Got Sheet
+abbrev rest_from : Form → List ℕ → Opening → ℕ → Got Sheet
 rest_from f s o a = and_then (instances_from f o.count s a) (whole_of f s o.last)
 
 module _ (f : Form) (s : List ℕ) where
@@ -103,7 +92,7 @@ module _ (f : Form) (s : List ℕ) where
   pub sheet_no_opening : opening_in f s ≡ wrong → sheet_in f s ≡ wrong
   sheet_no_opening e = sheet_parts ∙ rw e
 
-  module _ (o : Opened) (a : ℕ) (opened : opening_in f s ≡ got o a) where
+  module _ (o : Opening) (a : ℕ) (opened : opening_in f s ≡ got o a) where
     pub sheet_no_instances : instances_from f o.count s a ≡ wrong → sheet_in f s ≡ wrong
     sheet_no_instances e = sheet_parts ∙ rw (opened, e)
 
