@@ -5,7 +5,7 @@ ghost use Rattle.exchange.specs.Step.{last_after};
 ghost use Rattle.exchange.specs.Arrive.{Arrives};
 ghost use Rattle.exchange.specs.inner.Arrived.{arrived_refused, arrived_answered};
 
-use crate::question::{Asked, question_of};
+use crate::question::question_of;
 use crate::table::{LASTMOST, Table};
 use answers::{Answer, put_answer};
 use codes::INTERROGATION;
@@ -81,19 +81,16 @@ impl Table {
         if !self.run.good(p) {
             return refuses(self.last, self.run, Refusal::BadTable);
         }
-        let Asked {
-            identifier,
-            operation,
-            request: r,
-        } = match question_of(p, self.last, component) {
+        let asked = match question_of(p, self.last, component) {
             Ok(asked) => asked,
             Err(answer) => {
                 let count = put_answer(out, answer);
                 return answers(self.last, self.run, answer, count);
             }
         };
+        let identifier = asked.identifier;
         let last = last_after(p, identifier, self.last);
-        match judge_request(p, operation, r, self.run) {
+        match judge_request(p, asked.operation, asked.request, self.run) {
             Err(error) => {
                 let answer = Answer::Error {
                     identifier,
@@ -103,16 +100,16 @@ impl Table {
                 return answers(last, self.run, answer, count);
             }
             Ok(renews) => {
-                if operation == INTERROGATION {
-                    let sel = selection_of(p, r);
+                if asked.operation == INTERROGATION {
+                    let sel = selection_of(p, asked.request);
                     let answer = Answer::Listing { identifier };
                     let count = self.run.put_listed(out, identifier, p, sel);
                     return answers(last, self.run, answer, count);
                 }
                 let next = if renews {
-                    renew_request(p, r, self.run)
+                    renew_request(p, asked.request, self.run)
                 } else {
-                    apply_request(p, operation, r, self.run)
+                    apply_request(p, asked.operation, asked.request, self.run)
                 };
                 let answer = Answer::Result { identifier };
                 let count = put_answer(out, answer);

@@ -11,7 +11,6 @@ use mir.Facts.{to_z-of_z}
 use mir.Syntax.{w16}
 use mir.Val.{SFits}
 use native.Mathlib.Omega.{arith}
-use borrow.Author.Tests.{not-true, not-false}
 use borrow.Author.Rules.{rules}
 use Rattle.exchange.proofs.table.Table.arrive.Goals as goal
 use Rattle.exchange.proofs.table.Table.arrive.Goals.{then-renews, else-renews}
@@ -94,11 +93,11 @@ returns-in-Err-judge_request c =
     c.in-Err-judge_request.is _ c.from.ensures
     (rw (to_z-of_z id) at c.put_answer-count-in-Err-judge_request.ensures))
 
-pub returns-then-operation-eq-INTERROGATION : goal.returns-then-operation-eq-INTERROGATION
-returns-then-operation-eq-INTERROGATION c =
+pub returns-then-asked-eq-INTERROGATION : goal.returns-then-asked-eq-INTERROGATION
+returns-then-asked-eq-INTERROGATION c =
     let a = c.args in
     let id : SFits w16 c.in-Ok.asked.identifier = search rules in
-    rw (c.answers-then-operation-eq-INTERROGATION.ensures, to_z-of_z id)
+    rw (c.answers-then-asked-eq-INTERROGATION.ensures, to_z-of_z id)
     (lists_arrives a.access.now a.self a.component.now a.out.now c.in-Some.p
     (read_some a.access.now _ _ c.read_access.ensures c.in-Some.is)
     (omega (arith, c.if-out-lt-OUTPUTLEAST.false))
@@ -108,7 +107,7 @@ returns-then-operation-eq-INTERROGATION c =
     c.in-Ok.asked c.in-Ok.is _ (rw (to_z-of_z id) at c.last_after-last.ensures)
     _ c.judge_request.ensures _
     c.in-Ok-judge_request.is
-    c.if-operation-eq-INTERROGATION.true
+    c.if-asked-eq-INTERROGATION.true
     (rw c.selection_of-sel.ensures at
     (rw (to_z-of_z id) at c.put_listed-count.ensures)))
 
@@ -134,5 +133,5 @@ returns-in-Ok-judge_request c =
     c.in-Ok.asked c.in-Ok.is _ (rw (to_z-of_z id) at c.last_after-last.ensures)
     _ c.judge_request.ensures _
     c.in-Ok-judge_request.is
-    c.if-operation-eq-INTERROGATION.false _ applies
+    c.if-asked-eq-INTERROGATION.false _ applies
     (rw (to_z-of_z id) at c.put_answer-count-in-Ok-judge_request.ensures))
