@@ -234,5 +234,5 @@ module _ (s : List ℕ) (small : (i : ℕ) → get_or s i 0 < 256) where
   accepted_form1 = accepted_most form1 form1_short
 
   -- and so what `read_form` accepts
-  pub form_accepted : (r : FormRead) → ReadForm s r → r.ok ≡ true → length s ≤ 1613
-  form_accepted r told ok = let found = form_found s r told ok in accepted_form1 found.sheet found.next found.is
+  pub form_accepted : {r : Option FormRead} {f : FormRead} → ReadForm s r → r ≡ Some f → length s ≤ 1613
+  form_accepted told is = let found = form_found s told is in accepted_form1 found.sheet found.next found.is

@@ -1,12 +1,13 @@
 -- A night sheet by its form alone: what stands before the instances, the instances, and what the whole holds. Assumes nothing.
 use Prim.Native.Nat.{ℕ, suc, ◌+◌, ◌≤◌, ◌<◌}
-use mathlib.Core.Path.{◌≡◌, refl, sym, ap, ◌∙◌}
-use mathlib.Core.Bool.{Bool, true, false, false≢true}
+use mathlib.Core.Path.{◌≡◌, refl, sym, ◌∙◌}
+use mathlib.Core.Bool.{Bool, true, false}
 use mathlib.Core.List.{List, [], ◌∷◌}
 use native.Mathlib.Omega.{arith}
 use lib.ListN.{length}
 use lib.Dec.{ltb, leb, eqb, leb-suc-suc}
 use borrow.Author.Tests.{eq-eqb, ne_eqb, leb-true}
+use Rattle.std.specs.Prelude.{Option, Some, None}
 use Rattle.laws.specs.Pick.{pick}
 use Rattle.laws.specs.Tests.{all}
 use Rattle.laws.specs.Got.{Got, got, wrong, and_then}
@@ -139,7 +140,7 @@ module _ (f : Form) (s : List ℕ) where
 
         pub sheet_read :
             next ≡ length s → t ≡ true →
-            ◌≡◌ {A = FormRead} record { ok = true; last = o.last; run = run } (form_read (sheet_in f s))
+            ◌≡◌ {A = Option FormRead} (Some (record { last = o.last; run = run })) (form_read (sheet_in f s))
         sheet_read e h = rw (in_order_lem e (sym order_told ∙ h), held)
 
     pub sheet_many : Fitting f → run_most < o.count → sheet_in f s ≡ wrong
@@ -183,7 +184,7 @@ module _ (f : Form) (short : Short f) (sheet : Sheet) (so : Allowed f sheet) whe
 
 -- ---- what the reader of sheets answers
 
--- an answer with `ok` holds the sheet that was found
+-- it holds the sheet that was found
 pub record FormFound (s : List ℕ) (r : FormRead) : Type 0 where
   pub sheet : Sheet
   pub next : ℕ
@@ -193,28 +194,29 @@ pub record FormFound (s : List ℕ) (r : FormRead) : Type 0 where
   pub run : r.run ≡ packed sheet.instances
   pub instances : instances_of r.run ≡ sheet.instances
 
-pub form_found : (s : List ℕ) (r : FormRead) → ReadForm s r → r.ok ≡ true → FormFound s r
-form_found s r e h = each (sheet_in form1 s) refl
+abbrev FormIf : List ℕ → Option FormRead → Type 0
+FormIf s (Some r) = FormFound s r
+FormIf s None = sheet_in form1 s ≡ wrong
+
+form_if : (s : List ℕ) → FormIf s (form_read (sheet_in form1 s))
+form_if s = each (sheet_in form1 s) refl
   where
-    each : (g : Got Sheet) → sheet_in form1 s ≡ g → FormFound s r
+    each : (g : Got Sheet) → sheet_in form1 s ≡ g → FormIf s (form_read g)
     each (got sheet next) f =
-        let told : r ≡ form_read (got sheet next) = e ∙ ap form_read f in
         let allowed = found_is (Allowed form1) f (sheet_allowed_lem form1 s) in
-        let held : r.run ≡ packed sheet.instances = ap (λ (x : FormRead). x.run) told in
         record {
           sheet = sheet;
           next = next;
           is = f;
           allowed = allowed;
-          last = ap (λ (x : FormRead). x.last) told;
-          run = held;
-          instances = ap instances_of held ∙ allowed_packed form1 form1_short sheet allowed;
+          last = refl;
+          run = refl;
+          instances = allowed_packed form1 form1_short sheet allowed;
         }
-    each wrong f = absurd (false≢true (sym (ap (λ (x : FormRead). x.ok) (e ∙ ap form_read f)) ∙ h))
-
-pub form_none : (s : List ℕ) (r : FormRead) → ReadForm s r → r.ok ≡ false → sheet_in form1 s ≡ wrong
-form_none s r e h = each (sheet_in form1 s) refl
-  where
-    each : (g : Got Sheet) → sheet_in form1 s ≡ g → sheet_in form1 s ≡ wrong
-    each (got sheet next) f = absurd (false≢true (sym h ∙ ap (λ (x : FormRead). x.ok) (e ∙ ap form_read f)))
     each wrong f = f
+
+pub form_found : (s : List ℕ) {r : Option FormRead} {f : FormRead} → ReadForm s r → r ≡ Some f → FormFound s f
+form_found s e h = rw (sym e ∙ h) at (form_if s)
+
+pub form_none : (s : List ℕ) {r : Option FormRead} → ReadForm s r → r ≡ None → sheet_in form1 s ≡ wrong
+form_none s e h = rw (sym e ∙ h) at (form_if s)

@@ -1,6 +1,5 @@
 // A night sheet by the rules of its form alone, in one walk (document 01, "Night sheet").
 ghost use Rattle.std.specs.Prelude.{◌≡◌, ◌≤◌};
-ghost use Rattle.laws.specs.Got.{wrong};
 ghost use Rattle.octets.specs.Found.{found};
 ghost use Rattle.instances.specs.Places.{run_most};
 ghost use Rattle.instances.specs.Run.{packed};
@@ -21,10 +20,9 @@ pub(crate) struct Opening {
     count: u32,
 }
 
-// The last handled identifier and the instances of a sheet; or `ok` is false, and then they say nothing.
+// The last handled identifier and the instances of a sheet.
 #[derive(Clone, Copy)]
 pub struct FormRead {
-    pub ok: bool,
     pub last: u16,
     pub run: Run,
 }
@@ -69,48 +67,32 @@ fn instances_from(f: Form, s: &[u8], at: usize, count: usize) -> Option<Found<Ru
     })
 }
 
-fn no_form() -> FormRead
-    ensures { result ≡ form_read wrong }
-{
-    let run = fresh_run();
-    FormRead {
-        ok: false,
-        last: 0,
-        run,
-    }
-}
-
 // A sheet of a form whose instances a run has room for: one that counts more has too many of a procedure.
-fn form_in(f: Form, s: &[u8]) -> FormRead
+fn form_in(f: Form, s: &[u8]) -> Option<FormRead>
     requires { Fitting f }
     ensures { result ≡ form_read (sheet_in f s.now) }
 {
-    let Some(opening) = opening_of(f, s) else {
-        return no_form();
-    };
+    let opening = opening_of(f, s)?;
     let count = opening.value.count as usize;
     if ROOM < count {
-        return no_form();
+        return None;
     }
-    let Some(read) = instances_from(f, s, opening.next, count) else {
-        return no_form();
-    };
+    let read = instances_from(f, s, opening.next, count)?;
     if read.next != s.len() {
-        return no_form();
+        return None;
     }
     let run = read.value;
     if !run.ordered(f.perprocedure) {
-        return no_form();
+        return None;
     }
-    FormRead {
-        ok: true,
+    Some(FormRead {
         last: opening.value.last,
         run,
-    }
+    })
 }
 
 // A night sheet of form 1, without a profile.
-pub fn read_form(s: &[u8]) -> FormRead
+pub fn read_form(s: &[u8]) -> Option<FormRead>
     ensures { ReadForm s.now result }
 {
     let f = form_one();

@@ -7,7 +7,7 @@ use mathlib.Core.Logic.{⊎_elim}
 use mathlib.Core.Path.{◌∙◌, ◌≡◌, ap, refl, subst, sym}
 use lib.Dec.{ltb}
 use borrow.Author.Tests.{ltb-false, ltb-true}
-use Rattle.std.specs.Prelude.{Err}
+use Rattle.std.specs.Prelude.{Option, Some, None, Err}
 use Rattle.laws.proofs.Eaches.{each_so}
 use Rattle.laws.proofs.Picks.{by_bool}
 use Rattle.refusals.specs.Handling.{made}
@@ -89,12 +89,12 @@ module _ (access s : List ℕ) where
   }
 
   module _ (ok : (access_read access).ok ≡ true) where
-    abbrev form : FormRead
-    form = form_read (sheet_in form1 s)
+    abbrev read_here : Option FormRead
+    read_here = form_read (sheet_in form1 s)
 
-    module _ (formed : form.ok ≡ true) where
+    module _ (form : FormRead) (formed : read_here ≡ Some form) where
       was : FormFound s form
-      was = form_found s form refl formed
+      was = form_found s refl formed
 
       abbrev is : List Instance
       is = was.sheet.instances
@@ -121,7 +121,7 @@ module _ (access s : List ℕ) where
           let read : grid_read_sheet access
           s ≡ record { told = tells tt; table = record { last = was.sheet.last; grid = all_placed p no_grid is } } =
           read_from access s ok ∙ rw (was.is, good_in p whole is so.each) in
-          let reads = reads_table access s p (ok, refl) form refl formed good in
+          let reads = reads_table access s p (ok, refl) read_here refl form formed good in
           record {
             told = ap (λ (x : GridTableRead). x.told) read ∙ reads.told;
             tables = record {
@@ -145,19 +145,21 @@ module _ (access s : List ℕ) where
           let outside : grid_all_in p is ≡ false =
           by_bool (grid_all_in p is ≡ false) (grid_all_in p is) (λ all. absurd (false≢true (sym bad ∙ run_held all))) (λ e. e) in
           let read : grid_read_sheet access s ≡ grid_not_read BadSheet = read_from access s ok ∙ rw (was.is, outside) in
-          rw read (both_refuse BadSheet (reads_outside access s p (ok, refl) form refl formed bad))
+          rw read (both_refuse BadSheet (reads_outside access s p (ok, refl) read_here refl form formed bad))
+
+    -- by what the octets are as a sheet of form 1
+    formed_same : (r : Option FormRead) → read_here ≡ r → Alike (grid_read_sheet access s)
+    formed_same (Some form) formed =
+        by_bool (Alike (grid_read_sheet access s)) (run_good instances_most p form.run) (both_read form formed) (none_read form formed)
+    formed_same None unformed =
+        let read : grid_read_sheet access s ≡ grid_not_read BadSheet = read_from access s ok ∙ rw (form_none s refl unformed) in
+        rw read (both_refuse BadSheet (reads_form access s p (ok, refl) read_here refl unformed))
 
   -- any octets are refused alike, or read as tables that hold the same
   pub read_same : ReadSame (access_read access).profile (grid_read_sheet access s) (read_sheet access s)
   read_same =
       by_bool (Alike (grid_read_sheet access s)) (access_read access).ok
-      (λ ok.
-      by_bool (Alike (grid_read_sheet access s)) (form ok).ok
-      (λ formed.
-      by_bool (Alike (grid_read_sheet access s)) (run_good instances_most p (form ok).run) (both_read ok formed) (none_read ok formed))
-      (λ unformed.
-      let read : grid_read_sheet access s ≡ grid_not_read BadSheet = read_from access s ok ∙ rw (form_none s (form ok) refl unformed) in
-      rw read (both_refuse BadSheet (reads_form access s p (ok, refl) (form ok) refl unformed))))
+      (λ ok. formed_same ok (read_here ok) refl)
       (λ bad.
       rw (read_profile access s bad)
       (both_refuse BadProfile (reads_profile access s bad)))

@@ -1,14 +1,14 @@
 -- Laws of a night sheet that is listed, over plain values: how long its listing is, and what is answered. Assumes nothing.
 use Prim.Native.Nat.{ℕ, zero, suc, min, ◌+◌, ◌≤◌, ◌<◌}
 use mathlib.Core.Path.{◌≡◌, refl, sym, ap, ◌∙◌}
-use mathlib.Core.Bool.{true, false}
+use mathlib.Core.Bool.{false}
 use mathlib.Core.List.{List, [], ◌∷◌, ◌++◌}
 use native.Mathlib.Nat.{zero-add}
 use native.Mathlib.Omega.{arith}
 use lib.ListN.{length, take, length-append, length-take}
 use lib.Dec.{ltb}
 use borrow.Author.Tests.{lt-ltb, le-ltb, ltb-false}
-use Rattle.std.specs.Prelude.{Ok, Err}
+use Rattle.std.specs.Prelude.{Option, Some, None, Ok, Err}
 use Rattle.laws.specs.Got.{Got, got, wrong}
 use Rattle.laws.specs.Over.{Wrote}
 use Rattle.laws.proofs.Over.{length_over, over_nil}
@@ -104,9 +104,9 @@ run_parts last run few long is =
 abbrev sheet_for : ℕ → List Instance → Sheet
 sheet_for last is = record { last = last; instances = is }
 
-module _ (s : List ℕ) (r : FormRead) (told : ReadForm s r) (ok : r.ok ≡ true) where
+module _ (s : List ℕ) (o : Option FormRead) (told : ReadForm s o) (r : FormRead) (ok : o ≡ Some r) where
   found : FormFound s r
-  found = form_found s r told ok
+  found = form_found s told ok
 
   same_sheet : sheet_of r.last r.run ≡ found.sheet
   same_sheet =
@@ -136,13 +136,13 @@ module _ (s xs : List ℕ) where
       let is = lt-ltb (length xs) (listing_most form1) short in
       record { count = rw is; lent = rw is (sym (over_nil xs 0)) }
 
-  module _ (some : listing_most form1 ≤ length xs) (r : FormRead) (told : ReadForm s r) where
+  module _ (some : listing_most form1 ≤ length xs) (o : Option FormRead) (told : ReadForm s o) where
     wide : ltb (length xs) (listing_most form1) ≡ false
     wide = le-ltb (length xs) (listing_most form1) some
 
-    module _ (bad : r.ok ≡ false) where
+    module _ (bad : o ≡ None) where
       none : sheet_in form1 s ≡ wrong
-      none = form_none s r told bad
+      none = form_none s told bad
 
       pub lists_none : ListsSheet s xs (Err BadSheet) xs
       unfolding listed_sheet
@@ -161,15 +161,15 @@ module _ (s xs : List ℕ) where
           let w = pen_wrote (omega (arith, listing_octets_lem)) pen in
           record { count = rw (wide, none, refused_text) (w.moved ∙ zero-add _); lent = rw (wide, none, refused_text) w.holds }
 
-    module _ (ok : r.ok ≡ true) {n : ℕ} {ys : List ℕ}
+    module _ (r : FormRead) (ok : o ≡ Some r) {n : ℕ} {ys : List ℕ}
         (w : Penned xs 0 (listing form1 (sheet_of r.last r.run)) n ys) where
-      is_sheet_lem : sheet_in form1 s ≡ got (found s r told ok).sheet (found s r told ok).next
-      is_sheet_lem = (found s r told ok).is
+      is_sheet_lem : sheet_in form1 s ≡ got (found s o told r ok).sheet (found s o told r ok).next
+      is_sheet_lem = (found s o told r ok).is
 
-      whole : Wrote xs 0 (listing form1 (found s r told ok).sheet) n ys
+      whole : Wrote xs 0 (listing form1 (found s o told r ok).sheet) n ys
       whole =
-          let fits : length (listing form1 (sheet_of r.last r.run)) ≤ listing_most form1 = read_fits s r told ok in
-          rw (same_sheet s r told ok) at (pen_wrote (omega (arith, fits, some)) w)
+          let fits : length (listing form1 (sheet_of r.last r.run)) ≤ listing_most form1 = read_fits s o told r ok in
+          rw (same_sheet s o told r ok) at (pen_wrote (omega (arith, fits, some)) w)
 
       pub lists_sheet : ListsSheet s xs (Ok n) ys
       unfolding listed_sheet

@@ -29,10 +29,9 @@ pub fn list_sheet(s: &[u8], out: &mut [u8]) -> Result<usize, Refusal>
     if out.len() < LISTINGMOST {
         return Err(Refusal::ShortOutput);
     }
-    let form = read_form(s);
-    if !form.ok {
+    let Some(form) = read_form(s) else {
         return Err(Refusal::BadSheet);
-    }
+    };
     let run = form.run;
     let count = write_listing(out, form.last, run);
     Ok(count)
@@ -45,10 +44,9 @@ pub fn print_sheet(s: &[u8], out: &mut [u8]) -> usize
     if out.len() < LISTINGMOST {
         return 0;
     }
-    let form = read_form(s);
-    if !form.ok {
+    let Some(form) = read_form(s) else {
         return write_text(out, 0, b"refused 9\n");
-    }
+    };
     let run = form.run;
     write_listing(out, form.last, run)
 }

@@ -3,7 +3,7 @@ use Prim.Native.Nat.{ℕ}
 use mathlib.Core.Path.{◌≡◌, sym, ap, ◌∙◌}
 use mathlib.Core.Bool.{Bool, true, false, not, false≢true}
 use mathlib.Core.List.{List}
-use Rattle.std.specs.Prelude.{Ok, Err}
+use Rattle.std.specs.Prelude.{Option, Some, None, Ok, Err}
 use Rattle.laws.specs.Pick.{pick}
 use Rattle.laws.specs.Got.{Got, got, wrong}
 use Rattle.laws.proofs.Picks.{by_bool}
@@ -52,18 +52,18 @@ module _ (access s : List ℕ) where
   reads_profile bad = record { told = rw bad; table = rw bad }
 
   module _ (p : Profile) (read : ((access_read access).ok ≡ true) × ((access_read access).profile ≡ p))
-      (f : FormRead) (told : ReadForm s f) where
+      (r : Option FormRead) (told : ReadForm s r) where
     reads_from : (g : Got Sheet) → sheet_in form1 s ≡ g → read_sheet access s ≡ table_from p g
     unfolding read_sheet
     reads_from g e = rw (read.0, e, read.1)
 
     -- no sheet
-    pub reads_form : f.ok ≡ false → ReadsSheet access s (Err BadSheet)
-    reads_form h = let none = reads_from wrong (form_none s f told h) in record { told = rw none; table = rw none }
+    pub reads_form : r ≡ None → ReadsSheet access s (Err BadSheet)
+    reads_form h = let none = reads_from wrong (form_none s told h) in record { told = rw none; table = rw none }
 
-    module _ (whole : f.ok ≡ true) where
+    module _ (f : FormRead) (whole : r ≡ Some f) where
       was : FormFound s f
-      was = form_found s f told whole
+      was = form_found s told whole
 
       abbrev is : List Instance
       is = was.sheet.instances

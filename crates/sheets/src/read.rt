@@ -14,10 +14,9 @@ pub fn read_sheet(access: &[u8], sheet: &[u8]) -> Result<Table, Refusal>
     let Some(p) = read_access(access) else {
         return Err(Refusal::BadProfile);
     };
-    let form = read_form(sheet);
-    if !form.ok {
+    let Some(form) = read_form(sheet) else {
         return Err(Refusal::BadSheet);
-    }
+    };
     let run = form.run;
     if !run.good(p) {
         return Err(Refusal::BadSheet);

@@ -1,4 +1,0 @@
-use Rattle.forms.proofs.sheet.no_form.Goals as goal
-
-pub returns : goal.returns
-returns c = rw c.fresh_run-run.ensures
