@@ -81,13 +81,12 @@ fn form_in(f: Form, s: &[u8]) -> Option<FormRead>
     if read.next != s.len() {
         return None;
     }
-    let run = read.value;
-    if !run.ordered(f.perprocedure) {
+    if !read.value.ordered(f.perprocedure) {
         return None;
     }
     Some(FormRead {
         last: opening.value.last,
-        run,
+        run: read.value,
     })
 }
 

@@ -17,12 +17,11 @@ pub fn read_sheet(access: &[u8], sheet: &[u8]) -> Result<Table, Refusal>
     let Some(form) = read_form(sheet) else {
         return Err(Refusal::BadSheet);
     };
-    let run = form.run;
-    if !run.good(p) {
+    if !form.run.good(p) {
         return Err(Refusal::BadSheet);
     }
     Ok(Table {
         last: form.last,
-        run,
+        run: form.run,
     })
 }
