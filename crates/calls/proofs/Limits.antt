@@ -18,13 +18,13 @@ use Rattle.exchange.specs.Table.{table_good}
 use Rattle.exchange.specs.declared.table.Table.{Table}
 use Rattle.calls.specs.declared.call.Call.{Call}
 use Rattle.calls.specs.Call.{call_from, call_good}
-use Rattle.calls.specs.Divert.{passes, applying, onward, Comes, no_onward, by_instance, by_call, comes}
+use Rattle.calls.specs.Divert.{passes, applying, onward, Comes, by_instance, by_call, comes}
 
 -- ---- the counter: "one more", and "An instance and counter not below the limit: refusal 6"
 
 instance_counter :
     (p : Profile) (c : Call) (o : Option Address) → (by_instance p c o).call.counter ≤ p.limit
-unfolding onward no_onward
+unfolding onward
 instance_counter p c none = omega arith
 instance_counter p c (some called) =
     pick_ind (λ (x : Comes). x.call.counter ≤ p.limit) (not (ltb c.counter p.limit))
@@ -34,7 +34,7 @@ instance_counter p c (some called) =
 -- the counter that goes on never passes the profile's limit
 pub counter_most :
     (access : List ℕ) (t : Table) (s : List ℕ) → (comes access t s).call.counter ≤ (access_read access).profile.limit
-unfolding comes no_onward
+unfolding comes
 counter_most access t s =
     let p : Profile = (access_read access).profile in
     let P : Comes → Type 0 = λ x. x.call.counter ≤ p.limit in

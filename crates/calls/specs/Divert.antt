@@ -87,7 +87,7 @@ pub record Comes : Type 0 where
   pub told : Told Course
   pub call : Onward
 
-unfoldable pub no_onward : Onward
+abbrev pub no_onward : Onward
 no_onward = record {
   counter = 0;
   called = blank_address;

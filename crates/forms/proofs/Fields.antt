@@ -19,7 +19,7 @@ use Rattle.groups.specs.Groups.{groups_at}
 use Rattle.std.specs.Prelude.{Option, Some, None}
 use Rattle.numbers.specs.Number.{most}
 use Rattle.forms.specs.Instance.{field_of, field_at, fields_at}
-use Rattle.forms.specs.inner.Reading.{any_field, field_below, fields_below, kept, octets_on}
+use Rattle.forms.specs.inner.Reading.{any_field, field_below, fields_below, got_as, octets_on}
 
 -- ---- one field
 
@@ -145,7 +145,7 @@ module _ (below base count : ℕ) (s : List ℕ) (at : ℕ) where
         count ≤ i → count ≤ most →
         ◌≡◌ {A = Option (Found (List ℕ))}
         (Some (record { value = octets; next = here }))
-        (found (kept (octets_on base) (fields_below below count s at)))
+        (found (got_as (octets_on base) (fields_below below count s at)))
     unfolding fields_at
     come_all h room =
         let none : count - i ≡ 0 = omega arith in

@@ -27,7 +27,7 @@ use Rattle.instances.specs.declared.run.Run.{Run}
 use Rattle.instances.proofs.Runs.{packed_done}
 use Rattle.forms.specs.Instance.{address_of, field_at, fields_at, kind_good, address_from, service_of, instance_from}
 use Rattle.forms.specs.Sheet.{instances_from}
-use Rattle.forms.specs.inner.Reading.{field_below, kept}
+use Rattle.forms.specs.inner.Reading.{field_below, got_as}
 use Rattle.forms.specs.declared.form.Form.{Form}
 use Rattle.forms.proofs.Fields.{AllPass, Passing, field_passes, below_small, fields_passing, ahead, ahead_none, ahead_one}
 use Rattle.forms.proofs.Readers.{characters, fair_good}
@@ -151,7 +151,7 @@ module _ (f : Form) (s : List ℕ) (at count : ℕ) where
         count ≤ i →
         ◌≡◌ {A = Option (Found Run)}
         (Some (record { value = record { count = count; run = array }; next = here }))
-        (found (kept packed (instances_from f count s at)))
+        (found (got_as packed (instances_from f count s at)))
     going_all h =
         let same : count ≡ i = omega (arith, so.few) in
         let none : count - i ≡ 0 = omega arith in

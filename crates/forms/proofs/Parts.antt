@@ -7,7 +7,7 @@ use Rattle.laws.specs.Got.{Got, got, wrong, and_then}
 use Rattle.std.specs.Prelude.{Option, Some, None}
 use Rattle.octets.specs.Found.{found}
 use Rattle.octets.specs.declared.found.Found.{Found}
-use Rattle.forms.specs.inner.Reading.{kept}
+use Rattle.forms.specs.inner.Reading.{got_as}
 
 -- ---- a thing that a test lets in, and what is made of it
 
@@ -40,15 +40,15 @@ abbrev KeepsIf : {A B : Type 0} → (A → B) → Got A → Option (Found B) →
 KeepsIf f g (Some r) = Keeps f g r
 KeepsIf f g None = g ≡ wrong
 
-keeps_if : {A B : Type 0} (f : A → B) (g : Got A) → KeepsIf f g (found (kept f g))
+keeps_if : {A B : Type 0} (f : A → B) (g : Got A) → KeepsIf f g (found (got_as f g))
 keeps_if f (got a place) = record { thing = a; is = refl; held = refl }
 keeps_if f wrong = refl
 
 -- what its answer says of what was found
-pub kept_got :
+pub got_as_got :
     {A B : Type 0} (f : A → B) (g : Got A) {r : Option (Found B)} {b : Found B} →
-    r ≡ found (kept f g) → r ≡ Some b → Keeps f g b
-kept_got f g e s = rw (sym e ∙ s) at (keeps_if f g)
+    r ≡ found (got_as f g) → r ≡ Some b → Keeps f g b
+got_as_got f g e s = rw (sym e ∙ s) at (keeps_if f g)
 
-pub kept_wrong : {A B : Type 0} (f : A → B) (g : Got A) {r : Option (Found B)} → r ≡ found (kept f g) → r ≡ None → g ≡ wrong
-kept_wrong f g e s = rw (sym e ∙ s) at (keeps_if f g)
+pub got_as_wrong : {A B : Type 0} (f : A → B) (g : Got A) {r : Option (Found B)} → r ≡ found (got_as f g) → r ≡ None → g ≡ wrong
+got_as_wrong f g e s = rw (sym e ∙ s) at (keeps_if f g)

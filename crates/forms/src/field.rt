@@ -2,7 +2,7 @@
 ghost use Rattle.std.specs.Prelude.{◌≡◌, ◌+◌, ◌≤◌};
 ghost use Rattle.octets.specs.Found.{found};
 ghost use Rattle.numbers.specs.Number.{most};
-ghost use Rattle.forms.specs.inner.Reading.{any_field, field_below, fields_below, kept, octets_on};
+ghost use Rattle.forms.specs.inner.Reading.{any_field, field_below, fields_below, got_as, octets_on};
 
 use groups::groups_at;
 use numbers::MOST;
@@ -41,7 +41,7 @@ pub(crate) fn fields_below(
     base: u32,
 ) -> Option<Found<[u8; MOST]>>
     requires { (count ≤ most) × (base + below ≤ 256) }
-    ensures { result ≡ found (kept (octets_on base) (fields_below below count s.now at)) }
+    ensures { result ≡ found (got_as (octets_on base) (fields_below below count s.now at)) }
 {
     let mut octets = [0u8; MOST];
     let mut here = at;

@@ -5,7 +5,7 @@ ghost use Rattle.instances.specs.Places.{run_most};
 ghost use Rattle.instances.specs.Run.{packed};
 ghost use Rattle.forms.specs.Sheet.{instances_from, sheet_in};
 ghost use Rattle.forms.specs.Formed.{form_read, ReadForm};
-ghost use Rattle.forms.specs.inner.Reading.{kept, opening_in, Fitting};
+ghost use Rattle.forms.specs.inner.Reading.{got_as, opening_in, Fitting};
 
 use crate::field::{field_at, field_below};
 use crate::form::{Form, form_one};
@@ -51,7 +51,7 @@ fn opening_of(f: Form, s: &[u8]) -> Option<Found<Opening>>
 // `count` instances from `at` on, one after the other.
 fn instances_from(f: Form, s: &[u8], at: usize, count: usize) -> Option<Found<Run>>
     requires { count ≤ run_most }
-    ensures { result ≡ found (kept packed (instances_from f count s.now at)) }
+    ensures { result ≡ found (got_as packed (instances_from f count s.now at)) }
 {
     let mut run = fresh_run();
     let mut here = at;

@@ -81,7 +81,7 @@ unfolding fewest_from word_at word_octets span_of length_at head_at length_holds
     ascending each_good few_of_each run_good is_subscribed has_all_numbers served_invalid not_provided other_kind begins begins_any selected_same
     fits afterwards judge changed applied number_asked selection_of table_good not_above duplicate known_operation invoked question last_after
     result_of handled step done reason_of options_of option_after preference_after original_shown call_from names_good values_good original_good
-    call_good procedure_of applying served_of noticed onward no_onward comes all_groups instance_octets field_at fields_at address_from instance_from
+    call_good procedure_of applying served_of noticed onward comes all_groups instance_octets field_at fields_at address_from instance_from
     instances_octets sheet_octets instances_from in_order sheet_in decimal_in decimal procedure_name kind_text hex_of hex_text sub_text line_of
     header_line instance_line instance_lines listing listed_sheet refused_line printed_sheet wrote_sheet said_at mark_at marked closed
     marks_good waiting_good end_good served_good to_good parts_good sendable marks_sent sent sends learned took takes shown

@@ -135,7 +135,6 @@ shut_out_table_untouched x xs room k =
 made_up :
     (counter more : ℕ) (r : Result (Option Diversion) Refusal) → (onward_in (with_counter counter r)).counter ≡ more + 1 →
     counter ≡ more + 1
-unfolding no_onward
 made_up counter more (Err refusal) h = absurd (omega (arith, h))
 made_up counter more (Ok None) h = absurd (omega (arith, h))
 made_up counter more (Ok (Some d)) h = h

@@ -28,7 +28,6 @@ pub struct HandedOn {
 }
 
 // The call that C reads where none goes on.
-#[tactic(auto, unfolding(calls::specs::Divert::no_onward))]
 fn no_onward() -> Onward
     ensures { result ≡ no_onward }
 {

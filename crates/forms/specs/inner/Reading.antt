@@ -22,8 +22,8 @@ abbrev pub fields_below : ℕ → ℕ → List ℕ → ℕ → Got (List ℕ)
 fields_below below = fields_at (λ n. ltb n below)
 
 -- a thing that was found, as its reader keeps it
-abbrev pub kept : {A B : Type 0} → (A → B) → Got A → Got B
-kept f g = and_then g (λ a next. got (f a) next)
+abbrev pub got_as : {A B : Type 0} → (A → B) → Got A → Got B
+got_as f g = and_then g (λ a next. got (f a) next)
 
 -- fields in an array, each with `base` on top
 abbrev pub octets_on : ℕ → List ℕ → List ℕ

@@ -1,6 +1,6 @@
 use Rattle.octets.proofs.Founds.{found_got, found_wrong}
 use Rattle.forms.proofs.Fields.{below_small}
-use Rattle.forms.proofs.Parts.{kept_got, kept_wrong}
+use Rattle.forms.proofs.Parts.{got_as_got, got_as_wrong}
 use Rattle.forms.proofs.Readers.{address_no_number, address_no_count, address_no_octets, address_found}
 use Rattle.forms.specs.inner.Reading.{field_below, fields_below, number_from_fields, octets_on}
 use native.Mathlib.Omega.{arith}
@@ -30,7 +30,7 @@ returns-in_err-fields c =
     let a = c.args in
     let number = found_got (number_from_fields _ _) c.number_in.ensures c.in_ok-number.was in
     let count = found_got (field_below _ _ _) c.field_below.ensures c.in_ok-count.was in
-    let none = kept_wrong (octets_on 0) (fields_below _ _ _ _) c.fields_below.ensures c.in_err-fields.was in
+    let none = got_as_wrong (octets_on 0) (fields_below _ _ _ _) c.fields_below.ensures c.in_err-fields.was in
     rw (c.from_residual-in_err-fields.ensures, address_no_octets a.s.now a.at _ _ number _ _ count none)
 
 pub overflow_cast-result : goal.overflow_cast-result
@@ -44,5 +44,5 @@ returns c =
     let a = c.args in
     let number = found_got (number_from_fields _ _) c.number_in.ensures c.in_ok-number.was in
     let count = found_got (field_below _ _ _) c.field_below.ensures c.in_ok-count.was in
-    let fields = kept_got (octets_on 0) (fields_below _ _ _ _) c.fields_below.ensures c.in_ok-fields.was in
+    let fields = got_as_got (octets_on 0) (fields_below _ _ _ _) c.fields_below.ensures c.in_ok-fields.was in
     rw (address_found a.s.now a.at _ _ number _ _ count _ fields)

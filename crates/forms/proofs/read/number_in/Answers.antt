@@ -1,6 +1,6 @@
 use Rattle.octets.proofs.Founds.{found_got, found_wrong}
 use Rattle.forms.proofs.Fields.{below_small}
-use Rattle.forms.proofs.Parts.{kept_got, kept_wrong}
+use Rattle.forms.proofs.Parts.{got_as_got, got_as_wrong}
 use Rattle.forms.proofs.Readers.{number_no_form, number_no_kind, number_no_count, number_no_digits, number_refused, number_found}
 use Rattle.forms.specs.inner.Reading.{field_below, fields_below, octets_on}
 use native.Mathlib.Omega.{arith}
@@ -40,7 +40,7 @@ returns-in_err-fields c =
     let form = found_got (field_below _ _ _) c.field_below.ensures c.in_ok-form.was in
     let kind = found_got (field_below _ _ _) c.field_below-2.ensures c.in_ok-kind.was in
     let count = found_got (field_below _ _ _) c.field_below-3.ensures c.in_ok-count.was in
-    let none = kept_wrong (octets_on 48) (fields_below _ _ _ _) c.fields_below.ensures c.in_err-fields.was in
+    let none = got_as_wrong (octets_on 48) (fields_below _ _ _ _) c.fields_below.ensures c.in_err-fields.was in
     rw (c.from_residual-in_err-fields.ensures, number_no_digits a.s.now a.at _ _ form _ _ kind _ _ count none)
 
 pub overflow_cast-number : goal.overflow_cast-number
@@ -67,7 +67,7 @@ returns-then-not-number_good c =
     let form = found_got (field_below _ _ _) c.field_below.ensures c.in_ok-form.was in
     let kind = found_got (field_below _ _ _) c.field_below-2.ensures c.in_ok-kind.was in
     let count = found_got (field_below _ _ _) c.field_below-3.ensures c.in_ok-count.was in
-    let fields = kept_got (octets_on 48) (fields_below _ _ _ _) c.fields_below.ensures c.in_ok-fields.was in
+    let fields = got_as_got (octets_on 48) (fields_below _ _ _ _) c.fields_below.ensures c.in_ok-fields.was in
     rw (number_refused a.s.now a.at _ _ form _ _ kind _ _ count _ fields (sym c.number_good.ensures ∙ c.if-not-number_good.true))
 
 pub returns : goal.returns
@@ -76,5 +76,5 @@ returns c =
     let form = found_got (field_below _ _ _) c.field_below.ensures c.in_ok-form.was in
     let kind = found_got (field_below _ _ _) c.field_below-2.ensures c.in_ok-kind.was in
     let count = found_got (field_below _ _ _) c.field_below-3.ensures c.in_ok-count.was in
-    let fields = kept_got (octets_on 48) (fields_below _ _ _ _) c.fields_below.ensures c.in_ok-fields.was in
+    let fields = got_as_got (octets_on 48) (fields_below _ _ _ _) c.fields_below.ensures c.in_ok-fields.was in
     rw (number_found a.s.now a.at _ _ form _ _ kind _ _ count _ fields (sym c.number_good.ensures ∙ c.if-not-number_good.false))
