@@ -43,7 +43,7 @@ use Rattle.exchange.specs.Step.{last_after, result_of, handled, step}
 use Rattle.exchange.specs.Arrive.{done}
 use Rattle.calls.specs.Onward.{reason_of, options_of, option_after, preference_after, original_shown}
 use Rattle.calls.specs.Call.{call_from, names_good, values_good, original_good, call_good}
-use Rattle.calls.specs.Divert.{procedure_of, applying, served_of, noticed, onward, no_onward, comes}
+use Rattle.calls.specs.Divert.{procedure_of, applying, served_of, noticed, onward, comes}
 use Rattle.forms.specs.Instance.{all_groups, instance_octets, field_at, fields_at, address_from, instance_from}
 use Rattle.forms.specs.Sheet.{instances_octets, sheet_octets, instances_from, in_order, sheet_in}
 use Rattle.texts.specs.Word.{decimal_in, decimal, procedure_name, kind_text, hex_of, hex_text, sub_text}

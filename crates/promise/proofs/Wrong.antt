@@ -25,7 +25,6 @@ use Rattle.exchange.specs.Arrive.{arriving_count, Done, done, Arrives}
 use Rattle.exchange.specs.declared.table.Table.{Table}
 use Rattle.exchange.specs.declared.arrive.Arrived.{Arrived}
 use Rattle.exchange.proofs.Arrivals.{done_long, done_profile, done_table, done_answers}
-use Rattle.calls.specs.Divert.{no_onward}
 use Rattle.calls.specs.Coming.{onward_in}
 use Rattle.calls.specs.declared.diverting.Diversion.{Diversion}
 use Rattle.calls.specs.declared.diverting.Onward.{Onward}
