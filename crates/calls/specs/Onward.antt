@@ -22,6 +22,10 @@ abbrev pub event_in : ℕ → Event
 event_in octet =
     pick (eqb octet (event_no event.Offered)) event.Offered (pick (eqb octet (event_no event.Busy)) event.Busy event.NoReply)
 
+-- what the event of an octet promises
+abbrev pub EventIn : ℕ → Event → Type 0
+EventIn octet r = r ≡ event_in octet
+
 -- "reason cfu 1, cfb 2, cfnr 3"
 abbrev pub reason_no : Reason → ℕ
 reason_no reason.Cfu = 1

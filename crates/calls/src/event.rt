@@ -1,6 +1,6 @@
 // The event with which a call comes for a number (document 01, "Calls").
 ghost use Rattle.std.specs.Prelude.{◌≡◌};
-ghost use Rattle.calls.specs.Onward.{event_in};
+ghost use Rattle.calls.specs.Onward.{EventIn};
 ghost use Rattle.calls.specs.Divert.{procedure_of};
 ghost use Rattle.calls.specs.inner.Onward.{ReasonOf};
 
@@ -15,7 +15,7 @@ pub enum Event {
 
 // Of a record's octet: every one but the first two is no reply, and a record with one above it is refused.
 impl From<u8> for Event {
-    ghost from_gives = { λ octet event. event ≡ event_in octet };
+    ghost from_gives = { EventIn };
 
     fn from(octet: u8) -> Event {
         match octet {

@@ -34,6 +34,6 @@ abbrev pub refusal_in : {A : Type 0} → Told A → ℕ
 refusal_in (refuses number) = number
 refusal_in (tells a) = 0
 
--- what `refusal_no` promises
+-- what the number of a refusal promises
 abbrev pub RefusalNo : Refusal → ℕ → Type 0
 RefusalNo refusal r = r ≡ refusal_no refusal

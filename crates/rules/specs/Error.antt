@@ -1,5 +1,5 @@
 -- The numbers of the errors that a request may earn (document 01, "Replies, in the order checked").
-use Rattle.std.specs.Prelude.{ℕ}
+use Rattle.std.specs.Prelude.{ℕ, ◌≡◌}
 use Rattle.rules.specs.declared.error.RequestError.{RequestError}
 use Rattle.rules.specs.declared.error.RequestError.TheVariants.{NotSubscribed, NotAvailable, InvalidServedUserNr, BasicServiceNotProvided}
 use Rattle.rules.specs.declared.error.RequestError.TheVariants.{ResourceUnavailable, InvalidDivertedToNr, SpecialServiceNr}
@@ -18,3 +18,7 @@ error_no InvalidDivertedToNr = 12
 error_no SpecialServiceNr = 14
 error_no DiversionToServedUserNr = 15
 error_no NotActivated = 46
+
+-- what the number of an error promises
+abbrev pub ErrorNo : RequestError → ℕ → Type 0
+ErrorNo error r = r ≡ error_no error

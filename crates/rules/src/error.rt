@@ -1,6 +1,5 @@
 // The errors of registration (document 01, "Replies, in the order checked"), by the names that EN 300 207-1 gives them.
-ghost use Rattle.std.specs.Prelude.{◌≡◌};
-ghost use Rattle.rules.specs.Error.{error_no};
+ghost use Rattle.rules.specs.Error.{ErrorNo};
 
 // The error that a request earns.
 #[derive(Clone, Copy, PartialEq, Eq, Debug)]
@@ -18,7 +17,7 @@ pub enum RequestError {
 
 // Its value in a return error component.
 impl From<RequestError> for u8 {
-    ghost from_gives = { λ error number. number ≡ error_no error };
+    ghost from_gives = { ErrorNo };
 
     fn from(error: RequestError) -> u8 {
         match error {

@@ -13,6 +13,10 @@ use Rattle.sconcetoad.specs.declared.written.Octets.{Octets}
 abbrev pub octets_told : Result ℕ Refusal → Octets
 octets_told outcome = record { refusal = refusal_in (handling_told outcome); count = written_count outcome }
 
+-- what the telling of an outcome promises
+abbrev pub OctetsTold : Result ℕ Refusal → Octets → Type 0
+OctetsTold outcome r = r ≡ octets_told outcome
+
 -- the refusal, how many octets were written, and every octet of the output
 pub record MadeBy (m : Made) (xs : List ℕ) (r : Octets) (ys : List ℕ) : Type 0 where
   pub refusal : r.refusal ≡ refusal_in m.told

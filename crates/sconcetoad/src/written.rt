@@ -2,7 +2,7 @@
 ghost use Rattle.std.specs.Prelude.{◌≡◌};
 ghost use Rattle.refusals.specs.Refusal.{refusal_in};
 ghost use Rattle.refusals.specs.Handling.{handling_told, written_count};
-ghost use Rattle.sconcetoad.specs.Written.{octets_told, RequestWrittenBy, ListWrittenBy};
+ghost use Rattle.sconcetoad.specs.Written.{OctetsTold, RequestWrittenBy, ListWrittenBy};
 
 use components::{write_list, write_request};
 use lists::Entries;
@@ -33,7 +33,7 @@ pub(crate) fn count_in(outcome: Result<usize, Refusal>) -> usize
 }
 
 impl From<Result<usize, Refusal>> for Octets {
-    ghost from_gives = { λ outcome octets. octets ≡ octets_told outcome };
+    ghost from_gives = { OctetsTold };
 
     fn from(outcome: Result<usize, Refusal>) -> Octets {
         Octets {
