@@ -23,7 +23,7 @@ def read_promise(tree, function):
     if function.requires:
         faults.append("has a `requires`")
     if len(function.ensures) != 1:
-        faults.append(f"has {len(function.ensures)} `ensures`, and not one")
+        faults.append(f"has {len(function.ensures)} `{function.clause}`, and not one")
     if function.labelled:
         faults.append("has a label on its `ensures`")
     if not faults:
@@ -37,13 +37,16 @@ def read_ensures(function):
     try:
         parts = groups(clause)
     except Unreadable as odd:
-        return None, [f"its `ensures` has {odd.text}"]
+        return None, [f"its `{function.clause}` has {odd.text}"]
     joined = [part[0].text for part in parts if part[0].text in JOINS]
     if joined or not parts or not is_name(parts[0]):
-        return None, ["its `ensures` is not one named proposition" + "".join(f": it has `{word}`" for word in joined[:1])]
+        text = f"its `{function.clause}` is not one named proposition"
+        return None, [text + "".join(f": it has `{word}`" for word in joined[:1])]
     arguments = [spelled(part) for part in parts[1:]]
     place, faults = resolve(function, parts[0][0].text)
     taken, given = expected(function)
+    if function.source:  # the trait applies `from_gives` to what is converted and to the result
+        arguments += [form for form, _ in taken + given]
     faults += name_faults(function) + argument_faults(taken + given, arguments)
     if not given:
         faults.append("gives nothing that a promise could speak of")

@@ -28,6 +28,7 @@ class Function:
     labelled: bool = False
     odd: list = field(default_factory=list)  # what its signature has that is not read
     types: set = field(default_factory=set)  # the words of its types
+    source: str = ""  # of a conversion, the type that is converted
     # What the checks find out about it.
     crate: str = ""
     file: str = ""
@@ -37,7 +38,27 @@ class Function:
 
     @property
     def title(self):
-        return "::".join(part for part in (self.crate, self.owner, self.name) if part)
+        name = f"{self.name}({self.source})" if self.source else self.name
+        return "::".join(part for part in (self.crate, self.owner, name) if part)
+
+    @property
+    def short(self):
+        """What its theorem calls it."""
+        return f"{self.source}_as_{self.owner}".lower() if self.source else self.name
+
+    @property
+    def clause(self):
+        """Where its promise stands."""
+        return "from_gives" if self.source else "ensures"
+
+
+@dataclass
+class Impl:
+    """An `impl` block: its type, and of a conversion the type that is converted and each `from_gives`."""
+
+    owner: str
+    source: str = ""
+    gives: list = field(default_factory=list)
 
 
 class File:
@@ -47,7 +68,7 @@ class File:
         self.reader = Reader(source)
         self.uses, self.functions, self.holders, self.refused = [], [], [], []
         self.opened = []  # the line of an attribute, and a path that stands behind its `unfolding`
-        self.blocks = []  # for each open brace, the type of the `impl` that it opened, or nothing
+        self.blocks = []  # for each open brace, the `impl` that it opened, or nothing
         self.forget()
         while self.reader.text:
             self.step()
@@ -91,8 +112,10 @@ class File:
         reader.advance()
         if word == "ghost" and reader.text == "use":
             self.uses.append(antt.read_use(reader.antt(";")))
+        elif word == "ghost" and self.conversion():
+            self.read_member(self.conversion())
         elif word == "impl":
-            self.blocks.append(self.read_owner())
+            self.blocks.append(self.read_impl(line))
         elif word == "mod" and self.opens_block():
             self.refused.append((line, "a module within a file: the checks read one module to a file"))
         elif word in ("struct", "enum", "type"):
@@ -102,7 +125,7 @@ class File:
                 fault = f"a `{word}` that holds a reference and is not its crate's own: the checks cannot see what of it is lent"
                 self.refused += [(line, fault)] if public else []
         elif word == "{":
-            self.blocks.append("")
+            self.blocks.append(None)
         elif word == "}" and self.blocks:
             self.blocks.pop()
 
@@ -110,16 +133,40 @@ class File:
         self.reader.advance()
         return self.reader.text == "{"
 
-    def read_owner(self):
-        """The type whose methods an `impl` block holds; ends behind its brace."""
-        owner = ""
-        while self.reader.text not in ("{", ""):
-            if self.reader.text == "<":
-                self.reader.group()
+    def read_impl(self, line):
+        """The block that an `impl` opens; ends behind its brace."""
+        reader, trait, owner, listed = self.reader, "", "", []
+        while reader.text not in ("{", ""):
+            if reader.text in OPENERS:
+                listed = reader.group()[1:-1]
+            elif reader.text == "for":
+                trait, source, owner = owner, listed, ""
+                reader.advance()
             else:
-                owner = self.reader.take()
-        self.reader.advance()
-        return owner
+                owner = reader.take()
+        reader.advance()
+        if trait == "From" and owner and "".join(source[:1]).isidentifier() and source[1:2] in ([], ["<"]):
+            return Impl(owner, source[0])
+        if trait:
+            fault = f"an impl of `{trait}` for `{owner}`: of traits the checks read `From` alone, with types by their names"
+            self.refused.append((line, fault))
+        return Impl(owner)
+
+    def conversion(self):
+        """The block of the conversion whose members stand here, or nothing."""
+        block = self.blocks[-1] if self.blocks else None
+        return block if block and block.source else None
+
+    def read_member(self, block):
+        """A ghost member of a conversion."""
+        member, line = self.reader.take(), self.reader.token_line
+        if self.reader.take() != "=" or self.reader.text != "{":
+            raise Unreadable(line, f"`ghost {member}` without braces")
+        some = self.reader.antt("}")
+        if member == "from_gives":
+            block.gives.append(some)
+        else:
+            self.refused.append((line, f"the ghost member `{member}`, which the checks do not read"))
 
     def read_type_item(self):
         """The words of a type's declaration, to its `;` or its closing brace."""
@@ -133,9 +180,12 @@ class File:
         reader.advance()
         if reader.kind != "word":
             return
-        owner = next((block for block in reversed(self.blocks) if block), "")
+        owner = next((block.owner for block in reversed(self.blocks) if block), "")
         made = Function(reader.text, reader.token_line, owner, self.exported, types={owner})
-        kept = self.public or self.exported
+        conversion = self.conversion()
+        if conversion:
+            made.source, made.ensures = conversion.source, conversion.gives
+        kept = self.public or self.exported or conversion
         self.forget()
         reader.advance()
         if reader.text == "<":

@@ -11,13 +11,13 @@ EXCEPTIONS = "docs/EXCEPTIONS.md"
 
 def name_theorems(functions):
     """By a function's name alone, where only one has it; else with its crate; else with its type or module too."""
-    plain = Counter(function.name for function in functions)
-    in_crate = Counter((function.crate, function.name) for function in functions)
+    plain = Counter(function.short for function in functions)
+    in_crate = Counter((function.crate, function.short) for function in functions)
     for function in functions:
-        parts = [function.name]
-        if plain[function.name] > 1:
+        parts = [function.short]
+        if plain[function.short] > 1:
             parts.insert(0, function.crate)
-        if in_crate[function.crate, function.name] > 1:
+        if in_crate[function.crate, function.short] > 1:
             module = function.file.rsplit("/", 1)[1][: -len(".rt")]
             parts.insert(1, (function.owner or module).lower())
         function.theorem = "_".join(["only", *parts])

@@ -7,11 +7,25 @@ use Rattle.laws.proofs.Picks.{both}
 use Rattle.laws.proofs.Over.{only_puts}
 use Rattle.refusals.specs.declared.refusal.Refusal.{Refusal}
 use Rattle.exchange.specs.declared.table.Table.{Table}
+use Rattle.calls.specs.Onward.{EventIn, ReasonNo}
+use Rattle.calls.specs.Divert.{NoticeNo}
 use Rattle.calls.specs.Coming.{DivertsTo}
 use Rattle.calls.specs.Original.{PutsOriginal}
+use Rattle.calls.specs.declared.event.Event.{Event}
+use Rattle.calls.specs.declared.onward.Reason.{Reason}
+use Rattle.calls.specs.declared.diverting.Notice.{Notice}
 use Rattle.calls.specs.declared.diverting.Diversion.{Diversion}
 use Rattle.calls.specs.declared.originals.Handed.{Handed}
 use Rattle.calls.proofs.Courses.{diversion_same, handed_same}
+
+pub only_u8_as_event : (octet : ℕ) {a b : Event} → EventIn octet a → EventIn octet b → a ≡ b
+only_u8_as_event octet = both
+
+pub only_reason_as_u8 : (reason : Reason) {a b : ℕ} → ReasonNo reason a → ReasonNo reason b → a ≡ b
+only_reason_as_u8 reason = both
+
+pub only_notice_as_u8 : (notice : Notice) {a b : ℕ} → NoticeNo notice a → NoticeNo notice b → a ≡ b
+only_notice_as_u8 notice = both
 
 pub only_divert :
     (access : List ℕ) (t : Table) (s : List ℕ) {d e : Result (Option Diversion) Refusal} → DivertsTo access t s d →

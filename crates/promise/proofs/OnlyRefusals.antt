@@ -5,5 +5,5 @@ use Rattle.laws.proofs.Picks.{both}
 use Rattle.refusals.specs.Refusal.{RefusalNo}
 use Rattle.refusals.specs.declared.refusal.Refusal.{Refusal}
 
-pub only_refusal_no : (refusal : Refusal) {a b : ℕ} → RefusalNo refusal a → RefusalNo refusal b → a ≡ b
-only_refusal_no refusal = both
+pub only_refusal_as_u8 : (refusal : Refusal) {a b : ℕ} → RefusalNo refusal a → RefusalNo refusal b → a ≡ b
+only_refusal_as_u8 refusal = both

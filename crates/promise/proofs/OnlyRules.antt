@@ -9,12 +9,16 @@ use Rattle.requests.specs.declared.request.Request.{Request}
 use Rattle.instances.specs.declared.instance.Selection.{Selection}
 use Rattle.instances.specs.declared.run.Run.{Run}
 use Rattle.rules.specs.Selection.{SelectionOf}
+use Rattle.rules.specs.Error.{ErrorNo}
 use Rattle.rules.specs.Judge.{JudgeRequest, ApplyRequest, RenewRequest}
 use Rattle.rules.specs.declared.error.RequestError.{RequestError}
 use Rattle.rules.proofs.Judges.{verdict_same}
 
 pub only_selection_of : (p : Profile) (r : Request) {a b : Selection} → SelectionOf p r a → SelectionOf p r b → a ≡ b
 only_selection_of p r = both
+
+pub only_requesterror_as_u8 : (error : RequestError) {a b : ℕ} → ErrorNo error a → ErrorNo error b → a ≡ b
+only_requesterror_as_u8 error = both
 
 pub only_judge_request :
     (p : Profile) (operation : ℕ) (r : Request) (run : Run) {a b : Result Bool RequestError} → JudgeRequest p operation r run a →

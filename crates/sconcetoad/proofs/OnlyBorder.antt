@@ -3,14 +3,16 @@ use Prim.Native.Nat.{ℕ}
 use mathlib.Core.Path.{◌≡◌, ap, ◌∙◌}
 use mathlib.Core.List.{List}
 use lib.IntN.{ℤ}
+use Rattle.std.specs.Prelude.{Result}
 use Rattle.laws.proofs.Over.{only_puts}
 use Rattle.laws.proofs.Picks.{both}
 use Rattle.refusals.specs.Handling.{Made}
+use Rattle.refusals.specs.declared.refusal.Refusal.{Refusal}
 use Rattle.requests.specs.declared.request.Request.{Request}
 use Rattle.lists.specs.declared.entries.Entries.{Entries}
 use Rattle.sconcetoad.specs.Said.{SaidBy}
 use Rattle.sconcetoad.specs.Replied.{RepliedBy}
-use Rattle.sconcetoad.specs.Written.{MadeBy, RequestWrittenBy, ListWrittenBy}
+use Rattle.sconcetoad.specs.Written.{MadeBy, OctetsTold, RequestWrittenBy, ListWrittenBy}
 use Rattle.sconcetoad.specs.Arrival.{ArrivedBy}
 use Rattle.sconcetoad.specs.declared.said.Said.{Said}
 use Rattle.sconcetoad.specs.declared.reply.Replied.{Replied}
@@ -40,6 +42,10 @@ octets_of refusal count = record { refusal = refusal; count = count }
 -- what is told of octets that are written is its parts
 octets_same : (r q : Octets) → r.refusal ≡ q.refusal → r.count ≡ q.count → r ≡ q
 octets_same r q refusal count = ap (λ (n : ℕ). octets_of n r.count) refusal ∙ ap (octets_of q.refusal) count
+
+pub only_result_as_octets :
+    (outcome : Result ℕ Refusal) {a b : Octets} → OctetsTold outcome a → OctetsTold outcome b → a ≡ b
+only_result_as_octets outcome = both
 
 made_once :
     (m : Made) (xs : List ℕ) {r q : Octets} {ys zs : List ℕ} → MadeBy m xs r ys → MadeBy m xs q zs → (r ≡ q) × (ys ≡ zs)
