@@ -1,7 +1,8 @@
 -- Which instances a selection chooses, which one stands at a place, and codes among others. Assumes nothing.
-use Rattle.std.specs.List.{list_any, count_by}
+use Rattle.std.specs.List.{Contains, count_by}
 use Rattle.std.proofs.lemmas.List.Recursion.{is_count_by}
 use Prim.Native.Nat.{ℕ, zero, suc, ◌+◌, ◌<◌}
+use mathlib.Core.Logic.{◌↔◌}
 use mathlib.Core.Path.{◌≡◌, refl, sym, ap, ◌∙◌}
 use mathlib.Core.Bool.{Bool, true, false, not, cond, false≢true}
 use mathlib.Core.List.{List, [], ◌∷◌}
@@ -13,6 +14,7 @@ use borrow.Author.Tests.{eq-eqb, ne_eqb, eqb-true, eqb-false}
 use Rattle.laws.specs.Pick.{pick}
 use Rattle.laws.specs.Those.{those}
 use Rattle.laws.proofs.Thoses.{those_take, those_skip, those_none}
+use Rattle.laws.proofs.Filled.{get_any}
 use Rattle.laws.proofs.Picks.{pick_then, pick_last, by_bool, not_passed}
 use Rattle.codes.specs.Codes.{place_of}
 use Rattle.codes.proofs.Tables.{place_first, place_stands}
@@ -82,15 +84,6 @@ module _ (code : ℕ) (l : List ℕ) where
   unfolding among
   among_none e = rw e
 
--- a slice that contains it says the same
-pub among_any : (code : ℕ) (l : List ℕ) → list_any (λ x. eqb x code) l ≡ among code l
-unfolding among
-among_any code [] = refl
-among_any code (x ∷ l) =
-    by_bool (list_any (λ y. eqb y code) (x ∷ l) ≡ among code (x ∷ l)) (eqb x code)
-    (λ h. rw h)
-    (λ h. rw (h, pick_last (among code l)) (among_any code l))
-
 -- what stands at a place is among them
 stands_among : (code : ℕ) (codes : List ℕ) (k : ℕ) → k < length codes → get_or codes k 0 ≡ code → among code codes ≡ true
 stands_among code [] k h e = absurd (omega arith)
@@ -113,6 +106,20 @@ among_place code (x ∷ codes) h =
     (λ t.
     let later = among_place code codes (sym (among_on code (x ∷ codes) x codes refl (eqb-false x code t)) ∙ h) in
     omega (arith, later, place_first code (x ∷ codes) (suc (place_of code codes)) (omega arith) (place_stands code codes later)))
+
+-- what a slice contains is among its codes
+pub among_contains : (code : ℕ) (l : List ℕ) (b : Bool) → ((b ≡ true) ↔ Contains l code) → b ≡ among code l
+among_contains code l b h =
+    by_bool (b ≡ among code l) b
+    (λ t.
+    let at = h.0 t in
+    t ∙ sym (stands_among code l at.0 at.1 (get_any l at.0 0 code at.1 ∙ at.2)))
+    (λ f.
+    by_bool (b ≡ among code l) (among code l)
+    (λ t.
+    let less = among_place code l t in
+    absurd (false≢true (sym f ∙ h.1 (place_of code l, less, get_any l (place_of code l) code 0 less ∙ place_stands code l less))))
+    (λ t. f ∙ sym t))
 
 -- ---- how many pass a test, as an iterator counts them
 

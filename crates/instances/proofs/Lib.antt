@@ -9,7 +9,6 @@ pub mod Puts
 pub mod Renewals
 pub mod Fits
 pub mod Keys
-mod KeyOrders
 pub mod Goods
 pub mod Blocks
 pub mod Finds

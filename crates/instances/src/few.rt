@@ -4,9 +4,10 @@ ghost use Rattle.std.specs.Prelude.{◌≡◌, ◌<◌, ◌≤◌, [], ◌∷◌
 // The first `count` items of the array.
 #[derive(Drop)]
 pub(crate) struct Few<T, const N: usize> {
-    count: usize,
+    count: u8,
     items: [T; N],
     ghost fits: { count ≤ N },
+    ghost small: { N < 256 },
 }
 
 impl<T: Copy, const N: usize> Few<T, N> {
@@ -14,6 +15,7 @@ impl<T: Copy, const N: usize> Few<T, N> {
 
     // None yet: the array is filled with `blank`.
     pub(crate) fn none(blank: T) -> Few<T, N>
+        requires { N < 256 }
         ensures { items_in result ≡ [] }
     {
         Few {
@@ -26,19 +28,19 @@ impl<T: Copy, const N: usize> Few<T, N> {
         requires { length (items_in self.old) < N }
         ensures { items_in self.new ≡ items_in self.old ++ item ∷ [] }
     {
-        self.items[self.count] = item;
+        self.items[self.count as usize] = item;
         self.count += 1;
     }
 
     pub(crate) fn len(&self) -> usize
         ensures { result ≡ length (items_in self.now) }
     {
-        self.count
+        self.count as usize
     }
 
     pub(crate) fn as_slice(&self) -> &[T]
         ensures { result.now ≡ items_in self.now }
     {
-        &self.items[..self.count]
+        &self.items[..self.count as usize]
     }
 }

@@ -17,14 +17,20 @@ impl Run {
             return false;
         }
         let held = self.instances();
-        let services = &p.services[..stored(p.servicecount, SERVICES)];
+        // What the loop asks of the profile is read before it: a profile that it had to keep would be copied whole.
+        let subscribed = p.subscribed;
+        let numbers = p.numbercount;
+        let services = p.services;
+        let services = &services[..stored(p.servicecount, SERVICES)];
         // Where instances ascend those of a procedure stand together: they begin at `from`, and `beyond` is the next procedure.
         let mut beyond: usize = 0;
         let mut from: usize = 0;
         let mut below: usize = 0;
-        for (i, x) in held.iter().enumerate() {
-            let key = key_of(x.key());
-            if key <= below {
+        for i in 0..held.len() {
+            let x = &held[i];
+            let key = x.key();
+            let rank = key_of(key);
+            if rank <= below {
                 return false;
             }
             let procedure = x.procedure as usize;
@@ -32,7 +38,7 @@ impl Run {
                 if PROCEDURES <= procedure {
                     return false;
                 }
-                if p.subscribed[procedure] != 1 {
+                if subscribed[procedure] != 1 {
                     return false;
                 }
                 if from + INSTANCESMOST < i {
@@ -41,13 +47,13 @@ impl Run {
                 beyond = procedure + 1;
                 from = i;
             }
-            if !place_good(p.numbercount, services, *x) {
+            if !place_good(numbers, services, key) {
                 return false;
             }
             if !address_good(x.address) {
                 return false;
             }
-            below = key;
+            below = rank;
         }
         held.len() <= from + INSTANCESMOST
     }

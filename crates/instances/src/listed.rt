@@ -45,12 +45,13 @@ impl Run {
         ensures { PutListed out.old identifier p sel self result out.new }
     {
         let held = self.instances();
+        let numbers = p.numbers;
         let mut places: Few<u8, INSTANCESMOST> = Few::none(0);
         let mut size: usize = 0;
         for (i, x) in held.iter().enumerate() {
             if is_chosen(sel, *x) {
                 if places.len() < INSTANCESMOST {
-                    let served = served_number(&p.numbers, x.number);
+                    let served = served_number(&numbers, x.number);
                     size += listed_size(served, *x);
                     places.push(i as u8);
                 }
@@ -62,7 +63,7 @@ impl Run {
         }
         for place in places.as_slice() {
             let x = held[*place as usize];
-            let served = served_number(&p.numbers, x.number);
+            let served = served_number(&numbers, x.number);
             at = write_listed(out, at, served, x);
         }
         at

@@ -52,7 +52,8 @@ pub(crate) fn places_of(p: Profile, sel: Selection) -> Few<Place, ROOM>
     ensures { items_in result ≡ places_of p sel }
 {
     let numbers = stored(p.numbercount, NUMBERS);
-    let named = services_named(&p.services, p.servicecount, sel.service);
+    let services = p.services;
+    let named = services_named(&services, p.servicecount, sel.service);
     places_named(numbers, sel.number, named.as_slice())
 }
 
@@ -88,6 +89,7 @@ fn services_named(services: &[u8; SERVICES], count: u8, service: u8) -> Few<u8, 
 pub(crate) fn places_count(p: Profile, sel: Selection) -> usize
     ensures { (result ≡ length (places_of p sel)) × (result ≤ run_most) }
 {
-    let named = services_named(&p.services, p.servicecount, sel.service);
+    let services = p.services;
+    let named = services_named(&services, p.servicecount, sel.service);
     numbers_named(p.numbercount, sel.number) * named.len()
 }

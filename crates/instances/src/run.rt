@@ -206,14 +206,17 @@ impl Run {
         ensures { EntriesOf p sel self result }
     {
         let mut list = no_entries();
+        let numbers = p.numbers;
         let mut k: usize = 0;
         for x in self.instances() {
+            // A `break` would copy the list.
             if k == INSTANCESMOST {
-                break;
+                list.count = k as u8;
+                return list;
             }
             if is_chosen(sel, *x) {
                 list.entries[k] = Entry {
-                    served: served_number(&p.numbers, x.number),
+                    served: served_number(&numbers, x.number),
                     service: x.service,
                     procedure: x.procedure,
                     address: x.address,

@@ -18,7 +18,9 @@ use requests::Request;
 fn is_subscribed(p: Profile, procedure: u8) -> bool
     ensures { result ≡ is_subscribed p procedure }
 {
-    procedure < PROCEDURES && p.subscribed[procedure as usize] != 0
+    // These three flags are copied: an index into the profile would copy all of it.
+    let subscribed = p.subscribed;
+    procedure < PROCEDURES && subscribed[procedure as usize] != 0
 }
 
 // The tests of every request.

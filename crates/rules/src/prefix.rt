@@ -17,11 +17,15 @@ fn begins_with(f: &Prefix, n: &Number) -> bool
     digits.starts_with(prefix)
 }
 
-// Whether they begin with one of the profile's.
+// Whether they begin with one of the profile's. Most profiles have none, and then the array is not copied.
 pub(crate) fn begins_any(p: Profile, n: Number) -> bool
     ensures { result ≡ begins_any (barred p) (digits_of n) }
 {
-    for f in &p.prefixes[..stored(p.prefixcount, PREFIXES)] {
+    if p.prefixcount == 0 {
+        return false;
+    }
+    let prefixes = p.prefixes;
+    for f in &prefixes[..stored(p.prefixcount, PREFIXES)] {
         if begins_with(f, &n) {
             return true;
         }

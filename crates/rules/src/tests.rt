@@ -66,7 +66,8 @@ pub(crate) fn other_kind(n: Number) -> bool
 pub(crate) fn selected_same(p: Profile, asked: u8, to: Number) -> bool
     ensures { result ≡ selected_same p asked to 0 (served_numbers p) }
 {
-    let numbers = &p.numbers[..stored(p.numbercount, NUMBERS)];
+    let numbers = p.numbers;
+    let numbers = &numbers[..stored(p.numbercount, NUMBERS)];
     for (k, n) in numbers.iter().enumerate() {
         if is_named(EVERYNUMBER, asked, k as u8) && same(p, *n, to) {
             return true;

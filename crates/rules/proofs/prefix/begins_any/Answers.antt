@@ -9,6 +9,11 @@ use Rattle.instances.proofs.Runs.{next_of, none_of, stored_is}
 use Rattle.rules.proofs.Begins.{any_here, any_on, any_none}
 use Rattle.rules.proofs.prefix.begins_any.Goals as goal
 
+pub returns-then-p-eq0 : goal.returns-then-p-eq0
+returns-then-p-eq0 c =
+    let p = c.args.p in
+    sym (any_none (digits_of c.args.n) _ (rw c.if-p-eq0.true))
+
 pub returns-then-begins_with : goal.returns-then-begins_with
 returns-then-begins_with c =
     let l = c.loop-f in

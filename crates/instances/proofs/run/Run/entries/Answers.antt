@@ -5,7 +5,7 @@ use Rattle.laws.proofs.Filled.{filled_next, filled_done, filled_full}
 use Rattle.instances.proofs.Runs.{next_of, none_of, outside}
 use Rattle.instances.proofs.Listings.{entries_none, entries_take, entries_skip, entries_answer, entries_full}
 use Rattle.instances.proofs.run.Run.entries.Goals as goal
-use Rattle.instances.proofs.run.Run.entries.Goals.{then-is_chosen, else-is_chosen, else-loop-x-test, then-loop-x-test+then-k-eq-INSTANCESMOST}
+use Rattle.instances.proofs.run.Run.entries.Goals.{then-is_chosen, else-is_chosen}
 
 pub loop-x-preserved : goal.loop-x-preserved
 loop-x-preserved c =
@@ -20,14 +20,15 @@ loop-x-preserved c =
           rw (v.list-is, v.k-is) (omega arith, rw skips at l.invariant.1)
     ]
 
+pub returns-then-k-eq-INSTANCESMOST : goal.returns-then-k-eq-INSTANCESMOST
+returns-then-k-eq-INSTANCESMOST c =
+    let l = c.loop-x in
+    let end : l.k ≡ instances_most = c.if-k-eq-INSTANCESMOST.true in
+    rw (← c.instances-x-items.ensures.held) (entries_full _ _ _ (rw end (filled_full _ _ _ _ _ (rw end at l.invariant.1))))
+
 pub returns : goal.returns
 returns c =
     let l = c.loop-x in
     let a = c.args in
-    rw (← c.instances-x-items.ensures.held)
-    (elim c.loop-x-test.branch [
-      | else-loop-x-test v ↦ let none = entries_none a.p.numbers a.sel _ (none_of c.instances-x-items.result.now l.x-index (omega arith)) in
-          entries_answer _ _ _ (filled_done _ _ _ _ _ (rw none at l.invariant.1))
-      | then-loop-x-test+then-k-eq-INSTANCESMOST v ↦ let end : l.k ≡ instances_most = v.if-k-eq-INSTANCESMOST.true in
-          entries_full _ _ _ (rw end (filled_full _ _ _ _ _ (rw end at l.invariant.1)))
-    ])
+    let none = entries_none a.p.numbers a.sel _ (none_of c.instances-x-items.result.now l.x-index (omega arith)) in
+    rw (← c.instances-x-items.ensures.held) (entries_answer _ _ _ (filled_done _ _ _ _ _ (rw none at l.invariant.1)))

@@ -9,4 +9,4 @@ use Rattle.instances.proofs.run.Run.entries.Given as goal
 abbrev pub invariant-loop-x : goal.invariant-loop-x
 invariant-loop-x l =
     (l.k ≤ instances_most) ×
-    Filled instances_most no_entry (entries_for l.p.numbers l.sel l.x-items) (entries_for l.p.numbers l.sel (drop l.x-index l.x-items)) l.k l.list.entries
+    Filled instances_most no_entry (entries_for l.numbers l.sel l.x-items) (entries_for l.numbers l.sel (drop l.x-index l.x-items)) l.k l.list.entries

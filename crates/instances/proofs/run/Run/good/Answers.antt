@@ -14,7 +14,7 @@ use Rattle.instances.proofs.Orders.{sound_on, sound_low, sound_bad, sound_none, 
 use Rattle.instances.proofs.Fits.{fits_made, fits_place, not_fits}
 use Rattle.instances.proofs.Blocks.{blocks_first, blocks_over, blocks_last, blocks_same, blocks_on, blocks_next}
 use Rattle.instances.proofs.run.Run.good.Goals as goal
-use Rattle.instances.proofs.run.Run.good.Goals.{else-beyond-procedure, then-beyond-procedure+else-procedure-ge-PROCEDURES+else-p-procedure-ne1+else-from-i}
+use Rattle.instances.proofs.run.Run.good.Goals.{else-beyond-procedure, then-beyond-procedure+else-procedure-ge-PROCEDURES+else-subscribed-procedure-ne1+else-from-i}
 
 pub returns-then-self-gt-ROOM : goal.returns-then-self-gt-ROOM
 returns-then-self-gt-ROOM c = let a = c.args in sym (too_long a.p a.self instances_most (lt-leb _ _ c.if-self-gt-ROOM.true))
@@ -22,13 +22,13 @@ returns-then-self-gt-ROOM c = let a = c.args in sym (too_long a.p a.self instanc
 pub loop-i-init : goal.loop-i-init
 loop-i-init c = (omega arith, refl, blocks_first _ _)
 
-pub returns-then-key-below : goal.returns-then-key-below
-returns-then-key-below c =
+pub returns-then-rank-below : goal.returns-then-rank-below
+returns-then-rank-below c =
     let l = c.loop-i in
     let a = c.args in
     let held = c.instances-held.ensures.held in
     let on = next_of c.instances-held.result.now l.i outside (omega arith) in
-    let low = sound_low (instance_good a.p) _ _ _ on l.below (omega (arith, rw c.key.ensures at c.key_of-key.ensures, c.if-key-below.true)) in
+    let low = sound_low (instance_good a.p) _ _ _ on l.below (omega (arith, rw c.key-key.ensures at c.key_of-rank.ensures, c.if-rank-below.true)) in
     sym (not_good a.p a.self instances_most c.if-self-gt-ROOM.false (rw held at (l.invariant.1 ∙ low)))
 
 pub returns-then-procedure-ge-PROCEDURES : goal.returns-then-procedure-ge-PROCEDURES
@@ -40,13 +40,13 @@ returns-then-procedure-ge-PROCEDURES c =
     let bad = sound_bad (instance_good a.p) _ _ _ on l.below (not_fits _ _ _ _ (λ f. omega (arith, f.procedure, c.if-procedure-ge-PROCEDURES.true))) in
     sym (not_good a.p a.self instances_most c.if-self-gt-ROOM.false (rw held at (l.invariant.1 ∙ bad)))
 
-pub returns-then-p-procedure-ne1 : goal.returns-then-p-procedure-ne1
-returns-then-p-procedure-ne1 c =
+pub returns-then-subscribed-procedure-ne1 : goal.returns-then-subscribed-procedure-ne1
+returns-then-subscribed-procedure-ne1 c =
     let l = c.loop-i in
     let a = c.args in
     let held = c.instances-held.ensures.held in
     let on = next_of c.instances-held.result.now l.i outside (omega arith) in
-    let bad = sound_bad (instance_good a.p) _ _ _ on l.below (not_fits _ _ _ _ (λ f. c.if-p-procedure-ne1.true f.subscribes)) in
+    let bad = sound_bad (instance_good a.p) _ _ _ on l.below (not_fits _ _ _ _ (λ f. c.if-subscribed-procedure-ne1.true f.subscribes)) in
     sym (not_good a.p a.self instances_most c.if-self-gt-ROOM.false (rw held at (l.invariant.1 ∙ bad)))
 
 pub returns-then-from-i : goal.returns-then-from-i
@@ -63,7 +63,7 @@ returns-then-not-place_good c =
     let held = c.instances-held.ensures.held in
     let on = next_of c.instances-held.result.now l.i outside (omega arith) in
     let same = stored_is _ a.p.servicecount _ a.p.services c.stored.ensures (search (unmapped, rules)) in
-    let fails = sym c.if-not-place_good.true ∙ rw same at c.place_good.ensures in
+    let fails = sym c.if-not-place_good.true ∙ rw (same, c.key-key.ensures) at c.place_good.ensures in
     let bad = sound_bad (instance_good a.p) _ _ _ on l.below (not_fits _ _ _ _ (λ f. false≢true (fails ∙ fits_place _ _ _ _ f))) in
     sym (not_good a.p a.self instances_most c.if-self-gt-ROOM.false (rw held at (l.invariant.1 ∙ bad)))
 
@@ -83,19 +83,19 @@ loop-i-preserved c =
     let a = c.args in
     let held = c.instances-held.ensures.held in
     let on = next_of c.instances-held.result.now l.i outside (omega arith) in
-    let key = rw c.key.ensures at c.key_of-key.ensures in
+    let key = rw c.key-key.ensures at c.key_of-rank.ensures in
     let x = get_or c.instances-held.result.now l.i outside in
-    let above : l.below < key_of x = omega (arith, key, c.if-key-below.false) in
+    let above : l.below < key_of x = omega (arith, key, c.if-rank-below.false) in
     let same = stored_is _ a.p.servicecount _ a.p.services c.stored.ensures (search (unmapped, rules)) in
-    let place = sym (rw same at c.place_good.ensures) ∙ c.if-not-place_good.false in
+    let place = sym (rw (same, c.key-key.ensures) at c.place_good.ensures) ∙ c.if-not-place_good.false in
     let address = sym c.address_good.ensures ∙ c.if-not-address_good.false in
     let so = l.invariant.2 in
     elim c.if-beyond-procedure.branch [
-      | then-beyond-procedure+else-procedure-ge-PROCEDURES+else-p-procedure-ne1+else-from-i v ↦ let good : instance_good a.p x ≡ true = fits_made _ _ _ _ v.if-procedure-ge-PROCEDURES.false v.if-p-procedure-ne1.false place address in
+      | then-beyond-procedure+else-procedure-ge-PROCEDURES+else-subscribed-procedure-ne1+else-from-i v ↦ let good : instance_good a.p x ≡ true = fits_made _ _ _ _ v.if-procedure-ge-PROCEDURES.false v.if-subscribed-procedure-ne1.false place address in
           rw (v.beyond-is, v.from-is) (
             omega arith,
             l.invariant.1 ∙ rw (← key) at (sound_on (instance_good a.p) _ _ _ on l.below above good),
-            rw (← key) at (blocks_next _ _ _ _ _ _ _ so _ _ on above v.if-beyond-procedure.true v.if-procedure-ge-PROCEDURES.false v.if-p-procedure-ne1.false v.if-from-i.false),
+            rw (← key) at (blocks_next _ _ _ _ _ _ _ so _ _ on above v.if-beyond-procedure.true v.if-procedure-ge-PROCEDURES.false v.if-subscribed-procedure-ne1.false v.if-from-i.false),
           )
       | else-beyond-procedure v ↦ let same = blocks_same _ _ _ _ _ _ _ so _ _ on above (search rules, search rules) (λ k. omega (arith, k, v.if-beyond-procedure.false)) in
           let good : instance_good a.p x ≡ true = fits_made _ _ _ _ (omega (arith, same, so.three)) (so.subscribes _ same) place address in
