@@ -7,7 +7,7 @@ pub(crate) struct Few<T, const N: usize> {
     count: u8,
     items: [T; N],
     ghost fits: { count ≤ N },
-    ghost small: { N < 256 },
+    ghost small: { N ≤ 255 },
 }
 
 impl<T: Copy, const N: usize> Few<T, N> {
@@ -15,7 +15,7 @@ impl<T: Copy, const N: usize> Few<T, N> {
 
     // None yet: the array is filled with `blank`.
     pub(crate) fn none(blank: T) -> Few<T, N>
-        requires { N < 256 }
+        requires { N ≤ 255 }
         ensures { items_in result ≡ [] }
     {
         Few {
