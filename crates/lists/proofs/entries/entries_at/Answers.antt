@@ -1,4 +1,3 @@
-use mathlib.Core.Path.{sym, ◌∙◌}
 use Rattle.octets.proofs.Founds.{found_got, found_wrong}
 use Rattle.lists.proofs.Readers.{reached_first, reached_full, reached_wrong, reached_next, reached_answer}
 use Rattle.lists.specs.Entry.{entry_at}

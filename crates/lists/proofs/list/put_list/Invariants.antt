@@ -1,4 +1,4 @@
-use Prim.Native.Nat.{◌-◌, ◌≤◌, min}
+use Prim.Native.Nat.{◌≤◌, min}
 use mathlib.Core.Path.{◌≡◌}
 use lib.ListN.{length}
 use Rattle.lists.proofs.Measures.{Measured, Writing}
@@ -10,12 +10,7 @@ invariant-loop-i l =
     (l.i ≤ l.n) × (l.n ≡ min l.list.count instances_most) × (length l.list.entries ≡ instances_most) × (length l.sizes ≡ instances_most) ×
     Measured l.list.entries l.i l.sizes l.size
 
-abbrev pub decreases-loop-i : goal.decreases-loop-i
-decreases-loop-i l = l.n - l.i
-
 abbrev pub invariant-loop-j : goal.invariant-loop-j
 invariant-loop-j l =
     (length l.out ≡ length l.initial.out) × Writing l.list.entries l.n l.sizes l.size l.initial.out l.initial.at l.j l.at l.out
 
-abbrev pub decreases-loop-j : goal.decreases-loop-j
-decreases-loop-j l = l.n - l.j
