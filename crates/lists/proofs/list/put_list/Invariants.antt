@@ -13,4 +13,3 @@ invariant-loop-i l =
 abbrev pub invariant-loop-j : goal.invariant-loop-j
 invariant-loop-j l =
     (length l.out ≡ length l.initial.out) × Writing l.list.entries l.n l.sizes l.size l.initial.out l.initial.at l.j l.at l.out
-
