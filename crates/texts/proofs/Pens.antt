@@ -74,6 +74,13 @@ module _ (xs : List ℕ) (at : ℕ) (ws : List ℕ) (some : at < length xs) (n :
         holds = rw (e, here) (rw (drop-drop, ← append_assoc) (sym parts ∙ over_cut));
       }
 
+-- a text for which there is room was copied, all of it
+pub pen_whole :
+    (xs : List ℕ) (at : ℕ) (ws : List ℕ) → at < length xs → length ws ≤ length xs - at →
+    (ys : List ℕ) → ys ≡ ws → Penned xs at ws (at + length ws) (put_mid at (at + length ws - at) xs ys)
+pen_whole xs at ws some fits ys e =
+    pen_copied xs at ws some (length ws) (omega (arith, fits)) ys (e ∙ sym (take_all (length ws) ws (omega arith)))
+
 -- two writers, one after the other
 module _ {xs : List ℕ} {at : ℕ} {ws : List ℕ} {p : ℕ} {ys : List ℕ} (a : Penned xs at ws p ys) where
   rest_over : (vs : List ℕ) → over ys p vs ≡ over xs at (ws ++ vs)
