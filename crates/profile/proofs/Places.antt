@@ -2,15 +2,15 @@
 -- counted finds. Assumes nothing.
 use Prim.Native.Nat.{ℕ, zero, suc, min, ◌+◌, ◌≤◌, ◌<◌}
 use mathlib.Core.Path.{◌≡◌, refl, sym, ap, ◌∙◌}
-use mathlib.Core.Bool.{Bool, true, false, not}
+use mathlib.Core.Bool.{Bool, true, false, not, ◌||◌}
 use mathlib.Core.List.{List, [], ◌∷◌}
 use native.Mathlib.Omega.{arith}
-use lib.ListN.{length, take, get_or}
+use lib.ListN.{length, take, drop, get_or}
 use lib.Dec.{eqb, eqb-zero-suc, eqb-suc-suc}
-use Rattle.std.specs.List.{position, position_or_len, list_any}
+use Rattle.std.specs.List.{position, position_or_len, list_any, range_with_len}
 use Rattle.std.specs.Option.{unwrap_or}
 use Rattle.std.specs.Prelude.{Option}
-use Rattle.std.proofs.lemmas.List.{take_min, length-take, get_or-take}
+use Rattle.std.proofs.lemmas.List.{take_min, length-take, get_or-take, drop_more}
 use Rattle.std.proofs.lemmas.List.Recursion.{is_position_or_len}
 use Rattle.laws.proofs.Picks.{by_bool, pick_last}
 use Rattle.codes.specs.Codes.{place_of}
@@ -36,6 +36,20 @@ found_counted test count most l r long e =
     ap (unwrap_or r) (sym many)
     ∙ found_or_length test (take (min count most) l) r e
     ∙ ap (position_or_len test) (counted count most l long)
+
+-- a test of what stands at k places, from place a on, is a test of k elements from there on
+any_from :
+    {X : Type 0} (test : X → Bool) (l : List X) (d : X) (a k : ℕ) → a + k ≤ length l →
+    list_any (λ j. test (get_or l j d)) (range_with_len a k) ≡ list_any test (take k (drop a l))
+any_from test l d a zero h = refl
+any_from test l d a (suc k) h =
+    rw (drop_more l a d (omega arith)) (ap (λ b. test (get_or l a d) || b) (any_from test l d (a + 1) k (omega arith)))
+
+-- a test of what stands at the places before k is a test of the first k elements
+pub any_before :
+    {X : Type 0} (test : X → Bool) (l : List X) (d : X) {a n : ℕ} (k : ℕ) → a ≡ 0 → n ≡ k → k ≤ length l →
+    list_any (λ j. test (get_or l j d)) (range_with_len a n) ≡ list_any test (take k l)
+any_before test l d k start many h = rw (start, many) (any_from test l d 0 k (omega arith))
 
 -- the place of a service is the first place at which it stands
 pub slot_found :

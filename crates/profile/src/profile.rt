@@ -104,7 +104,7 @@ fn numbers_good(p: Profile) -> bool
     }
     let served = &numbers[..count];
     for (k, n) in served.iter().enumerate() {
-        if !number_good(*n) || served[..k].iter().any(|x| same(p, *x, *n)) {
+        if !number_good(*n) || (0..k).any(|j| same(p, served[j], *n)) {
             return false;
         }
     }
