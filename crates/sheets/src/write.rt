@@ -11,7 +11,7 @@ ghost use Rattle.sheets.specs.inner.Write.{Room, above, NoneBelow, Space, WroteI
 use exchange::Table;
 use forms::form_one;
 use groups::put_groups;
-use instances::{Instance, ROOM, Run};
+use instances::{Instance, ROOM, Run, stored};
 use numbers::Address;
 use profile::read_access;
 use refusals::Refusal;
@@ -67,7 +67,7 @@ fn write_run(out: &mut [u8], at: usize, run: &Run) -> usize
     ensures { WroteInstances out.old at (instances_of run.now) result out.new }
 {
     let mut p = at;
-    for x in &run.run[..run.count as usize] {
+    for x in &run.run[..stored(run.count, ROOM)] {
         p = write_instance(out, p, *x);
     }
     p
