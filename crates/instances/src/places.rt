@@ -90,6 +90,6 @@ pub(crate) fn places_count(p: Profile, sel: Selection) -> usize
     ensures { (result ≡ length (places_of p sel)) × (result ≤ run_most) }
 {
     let services = p.services;
-    let named = services_named(&services, p.servicecount, sel.service);
-    numbers_named(p.numbercount, sel.number) * named.len()
+    let many = services_named(&services, p.servicecount, sel.service).len();
+    numbers_named(p.numbercount, sel.number) * many
 }

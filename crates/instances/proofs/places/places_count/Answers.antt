@@ -13,6 +13,6 @@ pub returns : goal.returns
 returns c =
     let a = c.args in
     let numbers = c.numbers_named.ensures in
-    let few : c.len.result ≤ services_most = omega (arith, c.len.ensures, c.services_named-named.result.fits, length-take {A = ℕ}) in
+    let few : c.len-many.result ≤ services_most = omega (arith, c.len-many.ensures, c.services_named.result.fits, length-take {A = ℕ}) in
     let many : length a.p.numbers ≡ numbers_most = search (unmapped, rules) in
-    (rw (numbers.0, c.len.ensures, c.services_named-named.ensures) (rw many at (places_counted a.p a.sel)), mul-le-mul numbers.1 few)
+    (rw (numbers.0, c.len-many.ensures, c.services_named.ensures) (rw many at (places_counted a.p a.sel)), mul-le-mul numbers.1 few)
