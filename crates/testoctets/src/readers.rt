@@ -41,7 +41,9 @@ pub(crate) fn element(rt: &impl Print, s: &[u8]) -> io::Result<()> {
     let tell = |head: Head| {
         rt.write_all(b"tag ")?;
         say::octet(rt, head.tag)?;
-        print!(rt; " contents {} {} next {}", head.start, head.stop, head.next)
+        say::place(rt, b" contents ", head.start)?;
+        say::place(rt, b" ", head.stop)?;
+        say::place(rt, b" next ", head.next)
     };
     whole_and_cut(rt, s, head_of, tell, b"bad")
 }
@@ -51,7 +53,10 @@ fn head_of(s: &[u8]) -> Option<Head> {
 }
 
 pub(crate) fn enumerated(rt: &impl Print, s: &[u8]) -> io::Result<()> {
-    let tell = |found: Found<u8>| print!(rt; "is {} next {}", found.value, found.next);
+    let tell = |found: Found<u8>| {
+        say::place(rt, b"is ", usize::from(found.value))?;
+        say::place(rt, b" next ", found.next)
+    };
     whole_and_cut(rt, s, enumerated_of, tell, b"unreadable")
 }
 
@@ -63,7 +68,7 @@ pub(crate) fn identifier(rt: &impl Print, s: &[u8]) -> io::Result<()> {
     let tell = |found: Found<i16>| {
         rt.write_all(b"is ")?;
         say::signed(rt, found.value)?;
-        print!(rt; " next {}", found.next)
+        say::place(rt, b" next ", found.next)
     };
     whole_and_cut(rt, s, identifier_of, tell, b"unreadable")
 }
@@ -77,7 +82,7 @@ pub(crate) fn skipped(rt: &impl Print, s: &[u8]) -> io::Result<()> {
         rt,
         s,
         after_element,
-        |next| print!(rt; "to {next}"),
+        |next| say::place(rt, b"to ", next),
         b"wrong",
     )
 }
@@ -88,8 +93,11 @@ fn after_element(s: &[u8]) -> Option<usize> {
 
 pub(crate) fn groups(rt: &impl Print, s: &[u8]) -> io::Result<()> {
     let tell = |found: Found<Option<u32>>| match found.value {
-        Some(value) => print!(rt; "is {value} next {}", found.next),
-        None => print!(rt; "large next {}", found.next),
+        Some(value) => {
+            say::place(rt, b"is ", value as usize)?;
+            say::place(rt, b" next ", found.next)
+        }
+        None => say::place(rt, b"large next ", found.next),
     };
     whole_and_cut(rt, s, groups_of, tell, b"bad")
 }

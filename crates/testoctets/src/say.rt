@@ -26,6 +26,12 @@ pub(crate) fn signed(rt: &impl Print, v: i16) -> io::Result<()> {
     rt.print(without_sign(v))
 }
 
+// The word before a place, and the place: each is written by itself, so that what stands in an output that takes no more is known.
+pub(crate) fn place(rt: &impl Print, word: &[u8], at: usize) -> io::Result<()> {
+    rt.write_all(word)?;
+    rt.print(at)
+}
+
 // A mark: `.` for what is right, `!` for what is not.
 pub(crate) fn mark(rt: &impl Print, right: bool) -> io::Result<()> {
     rt.write_all(if right { b"." } else { b"!" })
