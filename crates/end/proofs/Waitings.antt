@@ -70,6 +70,14 @@ module _ (access : List ℕ) (operation : ℕ) (r : Request) (e : End) (size : �
       (λ _ h. absurd (refuses_not _ _ (sym h)))
       (λ _ _ _ _ _. refl)
 
+-- what was written is right of every access whose profile is read as that by which it was judged
+pub written_for :
+    (access other : List ℕ) (operation : ℕ) (r : Request) (e : End) (xs : List ℕ) (w : Result ℕ Refusal) (ys : List ℕ) →
+    access_read other ≡ access_read access →
+    WrittenBy (sends access operation r e (length xs)) xs w ys → WrittenBy (sends other operation r e (length xs)) xs w ys
+unfolding sends
+written_for access other operation r e xs w ys is by = rw is by
+
 module _ (access : List ℕ) (operation : ℕ) (r : Request) (e : End) (xs : List ℕ) (w : Result ℕ Refusal) (ys : List ℕ)
     (by : WrittenBy (sends access operation r e (length xs)) xs w ys) where
   -- where it was not refused there is an identifier for the end that waits

@@ -5,3 +5,4 @@ pub mod Diversions
 pub mod Rising
 pub mod Tidied
 pub mod Made
+pub mod Firsts

@@ -51,6 +51,25 @@ same_by_ends a b r ends =
     let turned = λ (e : reverse a ≡ reverse b). sym (reverse-reverse a) ∙ ap reverse e ∙ reverse-reverse b in
     same_from_decides r (same_digits a b) ends (λ e. ap reverse (d.0 e), λ e. d.1 (turned e))
 
+-- a test that stands behind another may come first
+swap : (b c d : Bool) → all (b ∷ pick c d false ∷ []) ≡ pick c (all (b ∷ d ∷ [])) false
+swap b true d = refl
+swap true false d = refl
+swap false false d = refl
+
+-- the last digits of both, and those before them
+pub same_last :
+    (a b : List ℕ) (n i : ℕ) → n ≡ suc i → n ≤ length a → n ≤ length b →
+    same_digits (take n a) (take n b)
+    ≡ pick (eqb (get_or a i 0) (get_or b i 0)) (same_digits (take i a) (take i b)) false
+unfolding same_digits
+same_last [] b n i e la lb = absurd (omega arith)
+same_last (x ∷ xs) [] n i e la lb = absurd (omega arith)
+same_last (x ∷ xs) (y ∷ ys) n zero e la lb = rw e
+same_last (x ∷ xs) (y ∷ ys) n (suc i) e la lb =
+    rw (e, same_last xs ys (suc i) i refl (omega arith) (omega arith))
+    (swap (eqb x y) (eqb (get_or xs i 0) (get_or ys i 0)) (same_digits (take i xs) (take i ys)))
+
 -- a number is the same as itself
 pub same_refl : (p : Profile) (a : Number) → same p a a ≡ true
 unfolding same same_number

@@ -111,6 +111,11 @@ pub hex_none : hex_text [] ≡ []
 unfolding hex_text
 hex_none = refl
 
+-- one octet
+pub hex_one : (o : ℕ) → hex_text (o ∷ []) ≡ pair_of o
+unfolding hex_text
+hex_one o = refl
+
 pub hex_more : (o : ℕ) (os : List ℕ) → hex_text (o ∷ os) ≡ pair_of o ++ hex_text os
 unfolding hex_text
 hex_more o os = refl
@@ -120,7 +125,7 @@ unfolding hex_text
 hex_length [] = refl
 hex_length (o ∷ os) = omega (arith, hex_length os)
 
-hex_both : (os us : List ℕ) → hex_text (os ++ us) ≡ hex_text os ++ hex_text us
+pub hex_both : (os us : List ℕ) → hex_text (os ++ us) ≡ hex_text os ++ hex_text us
 unfolding hex_text
 hex_both [] us = refl
 hex_both (o ∷ os) us = rw (hex_both os us)
