@@ -15,7 +15,7 @@ use Rattle.profile.specs.Access.{access_read}
 use Rattle.requests.specs.Sent.{sendable, request_octets}
 use Rattle.requests.specs.declared.request.Request.{Request}
 use Rattle.lists.specs.Entries.{instances_most}
-use Rattle.end.specs.End.{used_most}
+use Rattle.end.specs.End.{used_most, end_good}
 use Rattle.end.specs.Sending.{sent, Sends, sends, SendsBy}
 use Rattle.end.specs.inner.Sending.{WrittenBy, end_after, IdentifierLeft}
 use Rattle.end.specs.declared.end.End.{End}
@@ -70,13 +70,14 @@ module _ (access : List ℕ) (operation : ℕ) (r : Request) (e : End) (size : �
       (λ _ h. absurd (refuses_not _ _ (sym h)))
       (λ _ _ _ _ _. refl)
 
--- what was written is right of every access whose profile is read as that by which it was judged
+-- what was written is right of every access that is read as well, and by whose profile the end is judged alike
 pub written_for :
     (access other : List ℕ) (operation : ℕ) (r : Request) (e : End) (xs : List ℕ) (w : Result ℕ Refusal) (ys : List ℕ) →
-    access_read other ≡ access_read access →
+    (access_read other).ok ≡ (access_read access).ok →
+    end_good instances_most (access_read other).profile e ≡ end_good instances_most (access_read access).profile e →
     WrittenBy (sends access operation r e (length xs)) xs w ys → WrittenBy (sends other operation r e (length xs)) xs w ys
 unfolding sends
-written_for access other operation r e xs w ys is by = rw is by
+written_for access other operation r e xs w ys is judged by = rw (is, judged) by
 
 module _ (access : List ℕ) (operation : ℕ) (r : Request) (e : End) (xs : List ℕ) (w : Result ℕ Refusal) (ys : List ℕ)
     (by : WrittenBy (sends access operation r e (length xs)) xs w ys) where
