@@ -13,7 +13,7 @@ use texts::{write_decimal, write_kind, write_procedure, write_sub, write_text};
 fn write_number(out: &mut [u8], at: usize, n: u32) -> usize
     ensures { Penned out.old at (ended_by (decimal n) 32) result out.new }
 {
-    // Most numbers of a listing have one digit, and take no call of `write_decimal` then.
+    // Most numbers of a listing have one digit, and need no call of `write_decimal`.
     if n < 10 {
         let p = write_text(out, at, &[b'0' + n as u8]);
         return write_text(out, p, b" ");

@@ -15,8 +15,8 @@ pub(crate) fn pen(out: &mut [u8], at: usize, c: u8) -> usize
     at
 }
 
-// All of `src`. Where there is room for it it is copied with its own length, which a compiler knows of most texts: with the less of two
-// lengths a component of many small elements takes two fifths more time to explain.
+// All of `src`. A text that fits is copied with its own length, which the compiler knows of most texts. With the smaller of that and the room,
+// which it does not know, a component of many small elements takes two fifths more time to explain.
 pub fn write_text(out: &mut [u8], at: usize, src: &[u8]) -> usize
     ensures { WritesText out.old at src.now result out.new }
 {
